@@ -1,0 +1,4 @@
+pub mod Joins
+pub mod Totals
+pub mod SerialRun
+pub mod Orders

@@ -1,0 +1,19 @@
+-- What holds of the serial run of every valid plan.
+use Rattle.std.specs.Prelude.{◌≡◌, ℕ, ◌<◌, List, Some, IsTrue, slice_get, length}
+use Rattle.flow_types.specs.declared.plan.Plan.{Plan}
+use Rattle.flow_types.specs.declared.plan.Rule.{Rule}
+use Rattle.flow_types.specs.Plans.{IsValid, is_source, makes, contains_number}
+use Rattle.flow_types.specs.Serial.{Contents, Function, content_of, given_by, job_of, serial, serial_order}
+
+-- In the serial run of a valid plan a made file has what its rule's job over the run's own contents gives, and a source has its content.
+abbrev pub SerialIsFixed : Type 0
+SerialIsFixed = (P : Plan) (gives : Function) (sources : Contents) (r f : ℕ) (rule : Rule) → IsValid P → slice_get P.rules r ≡ Some rule
+    → IsTrue (contains_number f (makes P r))
+    → serial P gives sources f ≡ content_of f (makes P r) (given_by gives (job_of P rule (serial P gives sources)))
+
+abbrev pub SerialKeepsSources : Type 0
+SerialKeepsSources = (P : Plan) (gives : Function) (sources : Contents) (f : ℕ) → IsValid P → IsTrue (is_source P f) → serial P gives sources f ≡ sources f
+
+-- The serial run of a valid plan takes every rule.
+abbrev pub EveryRuleIsTaken : Type 0
+EveryRuleIsTaken = (P : Plan) (r : ℕ) → IsValid P → r < length P.rules → IsTrue (contains_number r (serial_order P))

@@ -1,0 +1,5 @@
+pub mod Names
+pub mod Plans
+pub mod Serial
+pub mod Laws
+pub mod Examples

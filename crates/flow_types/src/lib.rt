@@ -1,0 +1,26 @@
+//! The types and the definitions that every crate of the workflow engine cites.
+#![tactic(auto)]
+
+mod copies;
+mod examples;
+mod flow;
+mod job;
+mod laws;
+mod lists;
+mod name;
+mod numbers;
+mod plan;
+mod records;
+
+pub use examples::{example_plans_are_valid, later_rule_runs_first, serial_run_of_two_rules};
+pub use flow::{Pair, RawFile, RawFlow, RawRule, SizeBound};
+pub use job::{Failure, Given, Job, Outcome, Want};
+pub use laws::serial_run_is_fixed;
+pub use lists::{Bytes, Memory, Rows, Text};
+pub use name::{Name, NameFault};
+pub use numbers::{Amounts, AttemptNo, Content, Digest, FileNo, LinkNo, Needs, RuleNo};
+pub use plan::{FileRow, Plan, Port, Rule};
+pub use records::{EndKind, Record};
+
+#[cfg(test)]
+mod tests;
