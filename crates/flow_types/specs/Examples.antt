@@ -1,11 +1,10 @@
 -- Two small plans, and commands that join their inputs.
-use Rattle.std.specs.Prelude.{ℕ, Bool, true, false, List, [], ◌∷◌, codes, Option, Some, None, map, flat_map}
+use Rattle.std.specs.Prelude.{ℕ, Bool, true, false, List, [], ◌∷◌, codes, Some, None, map, flat_map}
 use Rattle.flow_types.specs.declared.plan.Plan.{Plan}
 use Rattle.flow_types.specs.declared.plan.Rule.{Rule}
 use Rattle.flow_types.specs.declared.plan.FileRow.{FileRow}
 use Rattle.flow_types.specs.declared.plan.Port.{Port}
 use Rattle.flow_types.specs.declared.numbers.Needs.TheVariants.{Whole}
-use Rattle.flow_types.specs.declared.numbers.RuleNo.{RuleNo}
 use Rattle.flow_types.specs.Serial.{Contents, Function}
 
 abbrev pub port : ℕ → List ℕ → Port

@@ -3,3 +3,4 @@ pub mod Plans
 pub mod Serial
 pub mod Laws
 pub mod Examples
+pub mod formers
