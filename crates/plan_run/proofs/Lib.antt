@@ -1,0 +1,7 @@
+pub mod Placing
+pub mod Inputs
+pub mod Outputs
+pub mod Turns
+pub mod Names
+pub mod Placed
+pub mod Courses

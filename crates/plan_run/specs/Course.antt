@@ -1,0 +1,61 @@
+-- How the run of a plan goes, and how it may end.
+use Rattle.std.specs.Prelude.{◌≡◌, ℕ, List, take, length, Some, Option, Result, Ok, Err, IsTrue, slice_get, is_some}
+use Rattle.flow_types.specs.declared.plan.Plan.{Plan}
+use Rattle.flow_types.specs.declared.plan.Rule.{Rule}
+use Rattle.flow_types.specs.declared.job.Job.{Job}
+use Rattle.flow_types.specs.declared.job.Failure.{Failure}
+use Rattle.flow_types.specs.Plans.{makes, contains_number, is_source}
+use Rattle.flow_types.specs.Serial.{Contents, Function, serial, serial_order, job_of}
+use Rattle.outside.specs.Files.{Files}
+use Rattle.outside.specs.Jobs.{NamesOutput}
+use Rattle.plan_run.specs.declared.halt.Halt.{Halt}
+use Rattle.plan_run.specs.declared.halt.Halt.TheVariants.{CommandFailed, InputMissing, Site, Runner, Memory}
+use Rattle.plan_run.specs.Placed.{file_name, contents_in}
+
+-- the contents of the serial run from what these files hold under the sources' names
+abbrev pub due_contents : Plan → Function → Files → Contents
+due_contents P gives files = serial P gives (contents_in P files)
+
+-- Each source is there.
+abbrev pub HasSources : Plan → Files → Type 0
+HasSources P files = (f : ℕ) → IsTrue (is_source P f) → IsTrue (is_some (files (file_name P f)))
+
+-- The runner tells of each rule's job over these contents.
+abbrev pub TellsJobs : Plan → Contents → (Job → Type 0) → Type 0
+TellsJobs P due tells = (r : ℕ) (rule : Rule) → slice_get P.rules r ≡ Some rule → tells (job_of P rule due)
+
+-- One of these rules makes a file of the name.
+pub record IsMadeName (P : Plan) (done : List ℕ) (name : List ℕ) : Type 0 where
+  pub rule : ℕ
+  pub file : ℕ
+  pub is_done : IsTrue (contains_number rule done)
+  pub is_output : IsTrue (contains_number file (makes P rule))
+  pub has_name : file_name P file ≡ name
+
+-- What a run leaves once these rules ran: each file that they make is there, with the due content where the runner tells
+-- of the due jobs, and every other file is as it was.
+pub record HasRun (P : Plan) (due : Contents) (told : Type 0) (done : List ℕ) (before after : Files) : Type 0 where
+  pub made : told → (r f : ℕ) → IsTrue (contains_number r done) → IsTrue (contains_number f (makes P r)) → after (file_name P f) ≡ due f
+  pub there : (r f : ℕ) → IsTrue (contains_number r done) → IsTrue (contains_number f (makes P r)) → IsTrue (is_some (after (file_name P f)))
+  pub others : (name : List ℕ) → (IsMadeName P done name → ⊥) → after name ≡ before name
+
+-- The rules before this one in the serial order ran, its command failed, and nothing was written after that.
+pub record IsStopped (P : Plan) (due : Contents) (may_fail : Job → Failure → Type 0) (told : Type 0) (r : ℕ) (why : Failure) (before after : Files) : Type 0 where
+  pub place : ℕ
+  pub rule : Rule
+  pub is_next : slice_get (serial_order P) place ≡ Some r
+  pub is_rule : slice_get P.rules r ≡ Some rule
+  pub ran : HasRun P due told (take place (serial_order P)) before after
+  pub names_output : NamesOutput why (length rule.outputs)
+  pub may_fail_so : told → may_fail (job_of P rule due) why
+
+-- How the run of a plan may end whose sources are all there.
+abbrev pub RunEnds : Plan → Function → (Job → Failure → Type 0) → (Job → Type 0) → Files → Files → Result (Unit {0}) Halt → Type 0
+RunEnds P gives may_fail tells before after (Ok done) =
+    HasRun P (due_contents P gives before) (TellsJobs P (due_contents P gives before) tells) (serial_order P) before after
+RunEnds P gives may_fail tells before after (Err (CommandFailed r why)) =
+    IsStopped P (due_contents P gives before) may_fail (TellsJobs P (due_contents P gives before) tells) r.0 why before after
+RunEnds P gives may_fail tells before after (Err (InputMissing file)) = ⊥
+RunEnds P gives may_fail tells before after (Err Site) = Unit {0}
+RunEnds P gives may_fail tells before after (Err Runner) = Unit {0}
+RunEnds P gives may_fail tells before after (Err Memory) = Unit {0}

@@ -1,0 +1,5 @@
+pub mod Placed
+pub mod Sources
+pub mod Jobs
+pub mod Course
+pub mod Steps

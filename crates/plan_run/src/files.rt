@@ -1,0 +1,45 @@
+//! Whole files.
+ghost use Rattle.std.specs.Prelude.{◌≡◌, ◌≢◌, ℕ, List, Some, length, IfOk, OnOk};
+ghost use Rattle.outside.specs.Causes.{HasCause};
+ghost use Rattle.plan_run.specs.Placed.{place};
+
+use flow_types::{Bytes, Memory, Name};
+use outside::{Fault, Site};
+use std::alloc::Global;
+
+// So many zero bytes.
+fn zeros(alloc: Global, size: u64) -> Result<Vec<u8>, Memory>
+    ensures { IfOk result (λ bytes. length bytes.items ≡ size) }
+{
+    match vec![in alloc; 0u8; size as usize] {
+        Ok(bytes) => Ok(bytes),
+        Err(_) => Err(Memory),
+    }
+}
+
+/// The content of a file, or None where there is no such file. Two calls of the site.
+pub fn read_file<S: Site>(alloc: Global, site: &mut S, name: &Name) -> Result<Option<Bytes>, Fault>
+    ensures content { IfOk result (λ content. S.tells → content ≡ S.files site.old name.now) }
+    ensures files { S.tells → S.files site.new ≡ S.files site.old }
+    ensures cause { HasCause (S.count site.old) (S.count site.new) result }
+{
+    let Some(size) = site.size(name)? else {
+        return Ok(None);
+    };
+    let Ok(mut bytes) = zeros(alloc, size) else {
+        return Err(Fault::Memory);
+    };
+    let count = site.read(name, 0, bytes.as_mut_slice())?;
+    bytes.truncate(count);
+    Ok(Some(Bytes::from_vec(bytes)))
+}
+
+/// Makes these bytes the file's content. Two calls of the site.
+pub fn write_file<S: Site>(site: &mut S, name: &Name, bytes: &[u8]) -> Result<(), Fault>
+    ensures written { OnOk result (S.tells → S.files site.new ≡ place name.now (Some bytes.now) (S.files site.old)) }
+    ensures others { S.tells → (m : List ℕ) → m ≢ name.now → S.files site.new m ≡ S.files site.old m }
+    ensures cause { HasCause (S.count site.old) (S.count site.new) result }
+{
+    site.write(name, 0, bytes)?;
+    site.cut(name, bytes.len() as u64)
+}

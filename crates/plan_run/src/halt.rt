@@ -1,0 +1,17 @@
+//! Why a run stops before its end.
+use flow_types::{Failure, FileNo, RuleNo};
+
+/// Why a run stopped.
+#[derive(Clone, Copy, Debug, PartialEq, Eq)]
+pub enum Halt {
+    /// The command of the rule failed.
+    CommandFailed { rule: RuleNo, why: Failure },
+    /// A file that the next rule takes in wasn't there.
+    InputMissing(FileNo),
+    /// The site's count of faults rose.
+    Site,
+    /// The runner's count of faults rose.
+    Runner,
+    /// Want of memory.
+    Memory,
+}
