@@ -1,0 +1,8 @@
+-- The printed numbers are computed.
+use Rattle.std.proofs.Common.{refl}
+use Rattle.std.specs.Fmt.{digits}
+use Rattle.report.proofs.examples.lines_of_refusals.Goals as goal
+
+pub returns-clause-unbuilt : goal.returns-clause-unbuilt
+unfolding digits
+returns-clause-unbuilt c = refl

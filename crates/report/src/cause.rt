@@ -1,0 +1,96 @@
+//! Why a call ended.
+ghost use Rattle.std.specs.Prelude.{◌≡◌};
+ghost use Rattle.report.specs.Causes.{kind_of, status_of, status_of_kind};
+
+use flow_types::{Failure, FileNo, Name, RuleNo};
+
+/// Why a call ended.
+#[derive(Drop)]
+pub enum Cause {
+    /// Every rule is complete.
+    Complete { rules: u32, collected: u32 },
+    /// A rule's command failed, and the run stopped there.
+    CommandFailed { rule: RuleNo, why: Failure },
+    /// The words are no command line.
+    Usage,
+    /// There is no flow file of this name.
+    FlowMissing { name: Name },
+    /// This line of the flow has a form that can't be run yet; 0 where it is the whole flow.
+    Unbuilt { line: u32 },
+    /// A file that no rule makes isn't there.
+    SourceMissing { file: FileNo },
+    /// The folder failed: its count of faults before the call and now.
+    SiteFault { before: u64, after: u64 },
+    /// What runs the commands failed: its count of faults before the call and now.
+    RunnerFault { before: u64, after: u64 },
+    /// What takes the printed lines failed: its count of faults before the call and now.
+    SinkFault { before: u64, after: u64 },
+    /// Want of memory.
+    Memory,
+}
+
+/// The few kinds of causes. All that goes by cases of a cause, but its text, goes by its kind.
+#[derive(Clone, Copy, Debug, PartialEq, Eq)]
+pub enum Kind {
+    /// Every rule is complete.
+    Completed,
+    /// A command failed.
+    RuleFailed,
+    /// Refused by the words alone.
+    WrongWords,
+    /// Refused before there is a plan.
+    NoPlan,
+    /// Refused by a source of the plan.
+    WrongSource,
+    /// The folder failed.
+    SiteBroke,
+    /// What runs the commands failed.
+    RunnerBroke,
+    /// What takes the printed lines failed.
+    SinkBroke,
+    /// Want of memory.
+    NoMemory,
+}
+
+impl Kind {
+    /// The exit status of every cause of this kind.
+    pub fn status(self) -> u8
+        ensures { result ≡ status_of_kind self }
+    {
+        match self {
+            Kind::Completed => 0,
+            Kind::RuleFailed => 1,
+            Kind::WrongWords => 2,
+            Kind::NoPlan => 3,
+            Kind::WrongSource => 4,
+            Kind::SiteBroke | Kind::RunnerBroke | Kind::SinkBroke => 5,
+            Kind::NoMemory => 8,
+        }
+    }
+}
+
+impl Cause {
+    /// What kind of cause this is.
+    pub fn kind(&self) -> Kind
+        ensures { result ≡ kind_of self.now }
+    {
+        match self {
+            Cause::Complete { .. } => Kind::Completed,
+            Cause::CommandFailed { .. } => Kind::RuleFailed,
+            Cause::Usage => Kind::WrongWords,
+            Cause::FlowMissing { .. } | Cause::Unbuilt { .. } => Kind::NoPlan,
+            Cause::SourceMissing { .. } => Kind::WrongSource,
+            Cause::SiteFault { .. } => Kind::SiteBroke,
+            Cause::RunnerFault { .. } => Kind::RunnerBroke,
+            Cause::SinkFault { .. } => Kind::SinkBroke,
+            Cause::Memory => Kind::NoMemory,
+        }
+    }
+
+    /// The exit status.
+    pub fn status(&self) -> u8
+        ensures { result ≡ status_of self.now }
+    {
+        self.kind().status()
+    }
+}

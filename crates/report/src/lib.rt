@@ -1,0 +1,8 @@
+//! Why a call of the workflow engine ended, its exit status and its printed line.
+#![tactic(auto)]
+
+mod cause;
+mod examples;
+
+pub use cause::{Cause, Kind};
+pub use examples::{lines_of_a_run, lines_of_faults, lines_of_refusals};
