@@ -27,13 +27,17 @@ abbrev pub failure_text : Plan → ℕ → Failure → List ℕ
 failure_text plan rule (Status status) = codes "status " ++ signed_decimal status
 failure_text plan rule (MissingOutput index) = codes "output " ++ output_name plan rule index ++ codes " missing"
 failure_text plan rule (TooLong index size) =
-    codes "output " ++ output_name plan rule index ++ codes " too long, " ++ decimal size ++ codes " bytes"
+    codes "output " ++ output_name plan rule index ++ (codes " too long, " ++ decimal size ++ codes " bytes")
 
--- what a line says of a cause
+-- what is said of a failed rule
+abbrev pub rule_text : Plan → ℕ → Failure → List ℕ
+rule_text plan rule why = codes "rule " ++ decimal rule ++ codes " failed: " ++ failure_text plan rule why
+
+-- what is said of a cause
 abbrev pub text_of : Plan → Cause → List ℕ
 text_of plan (Complete rules collected) =
-    codes "complete, " ++ decimal rules ++ codes " rules, " ++ decimal collected ++ codes " files collected"
-text_of plan (CommandFailed rule why) = codes "rule " ++ decimal rule.0 ++ codes " failed: " ++ failure_text plan rule.0 why
+    codes "complete, " ++ decimal rules ++ (codes " rules, " ++ decimal collected ++ codes " files collected")
+text_of plan (CommandFailed rule why) = rule_text plan rule.0 why
 text_of plan Usage = codes "usage: makeflow [options] FILE"
 text_of plan (FlowMissing name) = codes "no flow file " ++ name
 text_of plan (Unbuilt line) = codes "line " ++ decimal line ++ codes ": not built yet"

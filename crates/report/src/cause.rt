@@ -1,8 +1,11 @@
 //! Why a call ended.
-ghost use Rattle.std.specs.Prelude.{◌≡◌};
-ghost use Rattle.report.specs.Causes.{kind_of, status_of, status_of_kind};
+ghost use Rattle.std.specs.Prelude.{◌≡◌, IfOk};
+ghost use Rattle.report.specs.Causes.{is_printed, kind_of, status_of, status_of_kind};
+ghost use Rattle.report.specs.Lines.{line_of};
 
-use flow_types::{Failure, FileNo, Name, RuleNo};
+use crate::text::{around, text_of};
+use flow_types::{Bytes, Failure, FileNo, Memory, Name, Plan, RuleNo};
+use std::alloc::Global;
 
 /// Why a call ended.
 #[derive(Drop)]
@@ -67,6 +70,13 @@ impl Kind {
             Kind::NoMemory => 8,
         }
     }
+
+    /// Whether a line is printed. Of a fault of what takes the lines none is.
+    pub fn is_printed(self) -> bool
+        ensures { result ≡ is_printed self }
+    {
+        !matches!(self, Kind::SinkBroke)
+    }
 }
 
 impl Cause {
@@ -92,5 +102,22 @@ impl Cause {
         ensures { result ≡ status_of self.now }
     {
         self.kind().status()
+    }
+
+    /// The printed line, with its newline: no bytes at a fault of what takes the lines. Files have their names in the
+    /// plan; one that the plan doesn't have has no bytes.
+    pub fn line(&self, alloc: Global, plan: &Plan) -> Result<Bytes, Memory>
+        ensures { IfOk result (λ line. line ≡ line_of plan.now self.now) }
+    {
+        if !self.kind().is_printed() {
+            return Ok(Bytes::from_vec(Vec::new(alloc)));
+        }
+        let Ok(text) = text_of(alloc, plan, self) else {
+            return Err(Memory);
+        };
+        match around(alloc, b"makeflow: ", &text, b"\n") {
+            Ok(line) => Ok(Bytes::from_vec(line)),
+            Err(_) => Err(Memory),
+        }
     }
 }

@@ -3,6 +3,10 @@
 
 mod cause;
 mod examples;
+mod text;
 
 pub use cause::{Cause, Kind};
 pub use examples::{lines_of_a_run, lines_of_faults, lines_of_refusals};
+
+#[cfg(test)]
+mod tests;
