@@ -1,5 +1,6 @@
 //! Why a call ended.
-ghost use Rattle.std.specs.Prelude.{◌≡◌, IfOk};
+ghost use Rattle.std.specs.Prelude.{◌≡◌, IfOk, IsOk};
+ghost use Rattle.std.specs.Bool.{OnFalse};
 ghost use Rattle.report.specs.Causes.{is_printed, kind_of, status_of, status_of_kind};
 ghost use Rattle.report.specs.Lines.{line_of};
 
@@ -104,10 +105,11 @@ impl Cause {
         self.kind().status()
     }
 
-    /// The printed line, with its newline: no bytes at a fault of what takes the lines. Files have their names in the
-    /// plan; one that the plan doesn't have has no bytes.
+    /// The printed line, with its newline. At a fault of what takes the lines it has no bytes and takes no memory.
+    /// Files have their names in the plan, and no bytes where the plan doesn't have them.
     pub fn line(&self, alloc: Global, plan: &Plan) -> Result<Bytes, Memory>
-        ensures { IfOk result (λ line. line ≡ line_of plan.now self.now) }
+        ensures bytes { IfOk result (λ line. line ≡ line_of plan.now self.now) }
+        ensures silent { OnFalse (is_printed (kind_of self.now)) (IsOk result) }
     {
         if !self.kind().is_printed() {
             return Ok(Bytes::from_vec(Vec::new(alloc)));
