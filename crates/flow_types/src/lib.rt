@@ -15,7 +15,7 @@ mod records;
 pub use examples::{example_plans_are_valid, later_rule_runs_first, serial_run_of_two_rules};
 pub use flow::{Pair, RawFile, RawFlow, RawRule, SizeBound};
 pub use job::{Failure, Given, Job, Outcome, Want};
-pub use laws::serial_run_is_fixed;
+pub use laws::{names_are_fixed, serial_run_is_fixed};
 pub use lists::{Bytes, Memory, Rows, Text};
 pub use name::{Name, NameFault};
 pub use numbers::{Amounts, AttemptNo, Content, Digest, FileNo, LinkNo, Needs, RuleNo};
