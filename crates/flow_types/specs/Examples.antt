@@ -7,6 +7,7 @@ use Rattle.flow_types.specs.declared.plan.Port.{Port}
 use Rattle.flow_types.specs.declared.numbers.Needs.TheVariants.{Whole}
 use Rattle.flow_types.specs.Serial.{Contents, Function}
 
+-- file f under a name
 abbrev pub port : ℕ → List ℕ → Port
 port f name = record { file = record { 0 = f }; remote = name }
 
@@ -22,9 +23,11 @@ copy_rule command from from_name to to_name bound = record {
   bound = bound;
 }
 
+-- a source
 abbrev pub source_row : List ℕ → FileRow
 source_row name = record { name = name; maker = None; kept = false; bound = 67108864 }
 
+-- a file that rule r makes
 abbrev pub made_row : List ℕ → ℕ → Bool → ℕ → FileRow
 made_row name r kept bound = record { name = name; maker = Some (record { 0 = r }); kept = kept; bound = bound }
 

@@ -14,12 +14,13 @@ FormsAreNames = (text name : List ℕ) → name_of text ≡ Some name → IsTrue
 abbrev pub NamesGiveThemselves : Type 0
 NamesGiveThemselves = (name : List ℕ) → IsTrue (is_name name) → name_of name ≡ Some name
 
--- In the serial run of a valid plan a made file has what its rule's job over the run's own contents gives, and a source has its content.
+-- In the serial run of a valid plan a made file has what its rule's job over the run's own contents gives.
 abbrev pub SerialIsFixed : Type 0
 SerialIsFixed = (P : Plan) (gives : Function) (sources : Contents) (r f : ℕ) (rule : Rule) → IsValid P → slice_get P.rules r ≡ Some rule
     → IsTrue (contains_number f (makes P r))
     → serial P gives sources f ≡ content_of f (makes P r) (given_by gives (job_of P rule (serial P gives sources)))
 
+-- In the serial run of a valid plan a source has its own content.
 abbrev pub SerialKeepsSources : Type 0
 SerialKeepsSources = (P : Plan) (gives : Function) (sources : Contents) (f : ℕ) → IsValid P → IsTrue (is_source P f) → serial P gives sources f ≡ sources f
 

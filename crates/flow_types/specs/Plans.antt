@@ -15,34 +15,39 @@ use Rattle.flow_types.specs.declared.numbers.Needs.{Needs}
 use Rattle.flow_types.specs.declared.numbers.Needs.TheVariants.{Whole, Stated}
 use Rattle.flow_types.specs.Names.{is_name, are_nested}
 
--- limits
+-- the most rules of a plan
 abbrev pub most_rules : ℕ
 most_rules = 20000
 
+-- the most files of a plan
 abbrev pub most_files : ℕ
 most_files = 65536
 
+-- the most inputs of a rule
 abbrev pub most_inputs : ℕ
 most_inputs = 4096
 
+-- the most outputs of a rule
 abbrev pub most_outputs : ℕ
 most_outputs = 1024
 
--- bytes of a source, of a file without a stated bound, and of one rule's outputs together
+-- the most bytes of a file, and of one rule's outputs together
 abbrev pub most_bytes : ℕ
 most_bytes = 67108864
 
--- bytes of one rule's inputs together
+-- the most bytes of one rule's inputs together
 abbrev pub most_input_bytes : ℕ
 most_input_bytes = 134217728
 
--- bytes of a command, and of an environment
+-- the most bytes of a command, and of a rule's environment
 abbrev pub most_command_bytes : ℕ
 most_command_bytes = 1048576
 
+-- the most cores, megabytes of memory and megabytes of disk that a rule states
 abbrev pub most_amount : ℕ
 most_amount = 1000000000
 
+-- the list has no item
 abbrev pub is_empty : {A : Type 0} → List A → Bool
 is_empty [] = true
 is_empty (x ∷ xs) = false
@@ -51,32 +56,39 @@ is_empty (x ∷ xs) = false
 abbrev pub numbers : ℕ → List ℕ
 numbers n = range_with_len 0 n
 
+-- the number stands in the list
 abbrev pub contains_number : ℕ → List ℕ → Bool
 contains_number x xs = list_any (λ y. y == x) xs
 
+-- the numbers of all rules
 abbrev pub rule_numbers : Plan → List ℕ
 rule_numbers P = numbers (length P.rules)
 
+-- the numbers of all files
 abbrev pub file_numbers : Plan → List ℕ
 file_numbers P = numbers (length P.files)
 
--- the files of ports
+-- the numbers of the ports' files
 abbrev pub files_of : List Port → List ℕ
 files_of ports = map (λ port. port.file.0) ports
 
--- which files rule r takes in, and makes
+-- the files that rule r takes in
 abbrev pub takes : Plan → ℕ → List ℕ
 takes P r = option_map_or (λ rule. files_of rule.inputs) (slice_get P.rules r) []
 
+-- the files that rule r makes
 abbrev pub makes : Plan → ℕ → List ℕ
 makes P r = option_map_or (λ rule. files_of rule.outputs) (slice_get P.rules r) []
 
+-- the rule that makes a file, none of a source
 abbrev pub maker_of : Plan → ℕ → Option ℕ
 maker_of P f = option_map_or (λ row. option_map_or (λ r. Some r.0) row.maker None) (slice_get P.files f) None
 
+-- a file that no rule makes
 abbrev pub is_source : Plan → ℕ → Bool
 is_source P f = option_map_or (λ row. is_none row.maker) (slice_get P.files f) false
 
+-- a file that is kept to the end
 abbrev pub is_kept : Plan → ℕ → Bool
 is_kept P f = option_map_or (λ row. row.kept) (slice_get P.files f) false
 
@@ -96,14 +108,16 @@ takers_of P f = filter (λ r. contains_number f (takes P r)) (rule_numbers P)
 abbrev pub is_made_by : Plan → ℕ → ℕ → Bool
 is_made_by P r f = option_map_or (λ m. m == r) (maker_of P f) false
 
+-- the most bytes that a file may have
 abbrev pub bound_of : Plan → ℕ → ℕ
 bound_of P f = option_map_or (λ row. row.bound) (slice_get P.files f) 0
 
--- each pair of items, the first of which stands before the second, passes
+-- each item passes with each that stands behind it
 abbrev pub all_pairs : {A : Type 0} → (A → A → Bool) → List A → Bool
 all_pairs test [] = true
 all_pairs test (x ∷ xs) = list_all (test x) xs && all_pairs test xs
 
+-- the first of two is the lesser
 abbrev pub is_less : Ordering → Bool
 is_less Less = true
 is_less Equal = false
@@ -113,10 +127,12 @@ is_less Greater = false
 abbrev pub is_name_less : List ℕ → List ℕ → Bool
 is_name_less a b = is_less (slice_cmp nat_cmp a b)
 
+-- no stated amount passes its limit
 abbrev pub fits_amounts : Needs → Bool
 fits_amounts Whole = true
 fits_amounts (Stated a) = nat_le a.cores most_amount && nat_le a.memory most_amount && nat_le a.disk most_amount
 
+-- the bytes of the names and values, and 8 for each pair
 abbrev pub env_bytes : List Pair → ℕ
 env_bytes env = sum_by (λ pair. length pair.name + length pair.value + 8) env
 
@@ -134,7 +150,7 @@ is_within_limits rule =
 abbrev pub remotes_of : Rule → List (List ℕ)
 remotes_of rule = map (λ port. port.remote) (rule.inputs ++ rule.outputs)
 
--- each rule takes in only sources and files of rules that stand before it
+-- each rule of the list takes in only sources, files made so far and files of rules that stand before it
 abbrev pub is_made_before : Plan → List ℕ → List ℕ → Bool
 is_made_before P made [] = true
 is_made_before P made (r ∷ rs) =
@@ -144,27 +160,31 @@ is_made_before P made (r ∷ rs) =
 abbrev pub is_order : Plan → List ℕ → Bool
 is_order P order = list_all (λ r. contains_number r order) (rule_numbers P) && is_made_before P [] order
 
--- a plan that jobs can be made of
+-- A plan that a run can go by.
 pub record IsValid (P : Plan) : Type 0 where
   pub few_rules : IsTrue (nat_le (length P.rules) most_rules)
   pub few_files : IsTrue (nat_le (length P.files) most_files)
   pub within_limits : IsTrue (list_all is_within_limits P.rules)
-  -- strictly ascending by name, so each name once
+  -- The files are strictly ascending by name, so each name stands once.
   pub ascending : IsTrue (all_pairs (λ a b. is_name_less a.name b.name) P.files)
   pub names : IsTrue (list_all (λ row. is_name row.name) P.files)
   pub not_nested : IsTrue (all_pairs (λ a b. not (are_nested a.name b.name)) P.files)
-  -- each port names a file of the plan
+  -- Each port has a file of the plan.
   pub ports_inside : IsTrue (list_all (λ rule. list_all (λ port. nat_lt port.file.0 (length P.files)) (rule.inputs ++ rule.outputs)) P.rules)
-  -- No file stands in two output ports, and its maker is the rule of the one.
+  -- No rule makes a file by two ports.
   pub one_port : IsTrue (list_all (λ rule. all_pairs (λ f g. not (f == g)) (files_of rule.outputs)) P.rules)
+  -- The maker of what a rule makes is that rule, so no two rules make one file.
   pub made_by : IsTrue (list_all (λ r. list_all (λ f. is_made_by P r f) (makes P r)) (rule_numbers P))
+  -- The maker of a file makes it.
   pub makers : IsTrue (list_all (λ f. option_map_or (λ r. contains_number f (makes P r)) (maker_of P f) true) (file_numbers P))
-  -- the remote names of one rule are names, differ and aren't nested
+  -- The remote names of one rule are names, differ and aren't nested.
   pub remotes : IsTrue (list_all (λ rule. list_all is_name (remotes_of rule) && all_pairs (λ a b. not (bytes_eq a b) && not (are_nested a b)) (remotes_of rule)) P.rules)
-  -- A made file that no rule takes in is kept, and a source never.
+  -- A made file that no rule takes in is kept.
   pub kept : IsTrue (list_all (λ f. is_source P f || is_kept P f || not (is_empty (takers_of P f))) (file_numbers P))
+  -- A source is never kept.
   pub sources_not_kept : IsTrue (list_all (λ f. not (is_kept P f)) (sources_of P))
   pub file_bounds : IsTrue (list_all (λ row. nat_le row.bound most_bytes) P.files)
+  -- A rule's bound is the sum of its outputs' bounds, or the most bytes if that is less.
   pub rule_bounds : IsTrue (list_all (λ rule. rule.bound == min (sum_by (λ port. bound_of P port.file.0) rule.outputs) most_bytes) P.rules)
-  -- there is such a list
+  -- The rules can be listed so that each takes in only sources and files made earlier in the list.
   pub orders : (order : List ℕ) × IsTrue (is_order P order)
