@@ -13,7 +13,8 @@ mod plan;
 mod records;
 
 pub use examples::{
-    example_plans_are_valid, later_rule_runs_first, names_that_are_nested, serial_run_of_two_rules, texts_that_give_names, texts_that_give_no_name,
+    example_plans_are_valid, later_rule_runs_first, names_that_are_nested, serial_run_of_two_rules,
+    texts_that_give_names, texts_that_give_no_name,
 };
 pub use flow::{Pair, RawFile, RawFlow, RawRule, SizeBound};
 pub use job::{Failure, Given, Job, Outcome, Want};
