@@ -1,13 +1,13 @@
 -- A name in its one form is its own form.
-use Rattle.std.proofs.Common.{◌≡◌, ℕ, zero, suc, ◌+◌, ◌<◌, ◌≤◌, Bool, true, false, cond, not, ◌&&◌, ◌||◌, List, [], ◌∷◌, ◌++◌, length, get_or, take, drop, Option, Some, None, refl, ap, sym, ◌∙◌, subst, arith, append_assoc, length-append, lit<}
+use Rattle.std.proofs.Common.{◌≡◌, ℕ, zero, suc, ◌+◌, ◌<◌, Bool, true, false, cond, List, [], ◌∷◌, ◌++◌, length, get_or, Some, None, refl, ap, sym, ◌∙◌, subst, arith, length-append, lit<}
 use Rattle.std.specs.Prelude.{◌==◌, nat_eq, nat_lt, filter, codes, IsTrue}
-use Rattle.std.specs.List.{All, list_any, slice_split, onto_first, join_with_byte, starts_with}
-use Rattle.std.specs.Str.{IsUtf8, IsCharBoundary, IsAscii, bytes_eq, is_utf8}
+use Rattle.std.specs.List.{All, list_any, onto_first, join_with_byte, starts_with}
+use Rattle.std.specs.Str.{IsUtf8, IsCharBoundary, bytes_eq, is_utf8}
 use Rattle.std.proofs.Math.Seq.{take-append_seam, drop-append-add, get_or-append_seam}
 use Rattle.std.proofs.lemmas.Bool.{and_from, and_parts, and_left, or_parts, or_from, not-true, not-false, not_from_true, not_from_false, eqb-false, ne_eqb}
 use Rattle.std.proofs.lemmas.Slice.Eq.{bytes_eq-Decides}
 use Rattle.std.proofs.lemmas.List.Elements.{All-nil, All-cons, All-head, All-tail, All-filter, filter_passes}
-use Rattle.std.proofs.lemmas.List.Folds.{list_any-append, list_any_none}
+use Rattle.std.proofs.lemmas.List.Folds.{list_any-append}
 use Rattle.std.proofs.lemmas.List.Splits.{slice_split_none, slice_split_at, slice_split-cons_yes, slice_split-cons_no, join_with_byte-slice_split}
 use Rattle.std.proofs.lemmas.Str.{IsUtf8-append, IsUtf8-nil, IsUtf8-from_ascii, IsUtf8-take, IsUtf8-drop, IsCharBoundary-after_ascii, is_utf8-from_IsUtf8, IsUtf8-from_is_utf8}
 use Rattle.flow_types.specs.Names.{parts_of, form_of, is_bad, is_kept_part, name_of, is_name}
