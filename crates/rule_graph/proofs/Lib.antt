@@ -1,0 +1,9 @@
+pub mod Hashed
+pub mod Counts
+pub mod Spelled
+pub mod Wiring
+pub mod Marking
+pub mod Indexing
+pub mod Ranges
+pub mod Rounds
+pub mod OrderLaws

@@ -1,0 +1,14 @@
+//! The graph of a flow's rules: the order of a serial run, and the digest of a plan.
+#![tactic(auto)]
+
+mod digest;
+mod examples;
+mod faults;
+mod laws;
+mod order;
+
+pub use digest::plan_digest;
+pub use examples::{bytes_of_one_copy, faults_of_small_flows, plans_of_small_flows};
+pub use faults::GraphFault;
+pub use laws::{serial_order_is_an_order, spelling_tells_the_plan};
+pub use order::serial_order;
