@@ -1,0 +1,301 @@
+-- From how the stages went to how the call ends.
+use Rattle.std.proofs.Common.{arith, ◌≡◌, ℕ, ◌<◌, ◌≤◌, Bool, true, false, List, Option, Some, None, Result, Ok, Err, ok_or, option_map, refl, sym, ◌∙◌, ap, subst, length, if◌then◌else◌, IsTrue, IsFalse, IsOk, IsErrOf}
+use Rattle.flow_types.specs.declared.plan.Plan.{Plan}
+use Rattle.flow_types.specs.declared.numbers.FileNo.{FileNo}
+use Rattle.flow_types.specs.declared.job.Job.{Job}
+use Rattle.flow_types.specs.declared.job.Failure.{Failure}
+use Rattle.flow_types.specs.Serial.{Function, serial_order}
+use Rattle.outside.specs.Files.{Files}
+use Rattle.outside.specs.declared.fault.Fault.{Fault}
+use Rattle.outside.specs.declared.fault.Fault.TheVariants as faults
+use Rattle.plan_run.specs.declared.halt.Halt.{Halt}
+use Rattle.plan_run.specs.declared.halt.Halt.TheVariants as halts
+use Rattle.plan_run.specs.Course.{RunEnds, IsMadeName}
+use Rattle.plan_run.specs.Sources.{missing_source}
+use Rattle.report.specs.declared.cause.Cause.{Cause}
+use Rattle.report.specs.declared.cause.Cause.TheVariants.{Complete, CommandFailed, Usage, FlowMissing, Unbuilt, SourceMissing, SiteFault, RunnerFault, SinkFault, Memory}
+use Rattle.report.specs.declared.cause.Kind.{Kind}
+use Rattle.report.specs.declared.cause.Kind.TheVariants as kinds
+use Rattle.report.specs.Causes.{kind_of}
+use Rattle.master_run.specs.declared.asking.Refusal.{Refusal}
+use Rattle.master_run.specs.declared.asking.Refusal.TheVariants as refusals
+use Rattle.master_run.specs.declared.counts.Counts.{Counts}
+use Rattle.master_run.specs.Words.{flow_name_of}
+use Rattle.master_run.specs.PlainFlow.{pair_of}
+use Rattle.master_run.specs.PlainPlan.{plan_of_pair}
+use Rattle.master_run.specs.Asked.{and_then, named_flow, flow_text, flow_plan, planned, asked, sources_checked, with_sources}
+use Rattle.master_run.specs.Ends.{is_break, may_replace, RunIs, CallEnds, OthersStay, is_run_end, is_words_end, is_wrong_words, WordsEnd, Rose, FaultEnd, is_rule_failed, is_failure_end, FailureEnd, is_of_plan, is_completed, NoneRose, counts}
+use Rattle.master_run.specs.Stages.{Stage, WordsStage, is_refusal, SaysRefusal}
+use Rattle.master_run.specs.Runs.{MissingEnds, PerformEnds, halt_cause, run_cause, refusal_cause, printed_cause}
+
+true_is_false : {A : Type 0} → true ≡ false → A
+true_is_false wrong = absurd (cc)
+
+false_is_true : {A : Type 0} → false ≡ true → A
+false_is_true wrong = absurd (cc)
+
+-- what is asked once the plan stands
+asked_is : (words : List (List ℕ)) (files : Files) (P : Plan) → planned words files ≡ Ok P → asked words files ≡ sources_checked P (missing_source P files)
+asked_is words files P is = ap (λ r. and_then r (with_sources files)) is
+
+run_is : (P : Plan) (gives : Function) (may_fail : Job → Failure → Type 0) (tells : Job → Type 0) (files after : Files) (rules : ℕ) (before now : Counts) (done : Result (Unit {0}) Halt)
+    → rules ≡ length P.rules → RunEnds P gives may_fail tells files after done → RunIs P gives may_fail tells files after (run_cause rules before now done)
+run_is P gives may_fail tells files after rules before now (Ok done) count ends = (count, refl, ends)
+run_is P gives may_fail tells files after rules before now (Err (halts.CommandFailed r why)) count ends = ends
+run_is P gives may_fail tells files after rules before now (Err (halts.InputMissing file)) count ends = absurd ends
+run_is P gives may_fail tells files after rules before now (Err halts.Site) count ends = refl
+run_is P gives may_fail tells files after rules before now (Err halts.Runner) count ends = refl
+run_is P gives may_fail tells files after rules before now (Err halts.Memory) count ends = refl
+
+missing_is : (P : Plan) (gives : Function) (may_fail : Job → Failure → Type 0) (tells : Job → Type 0) (file : ℕ) (files after : Files) (rules : ℕ) (before now : Counts) (done : Result (Unit {0}) Halt)
+    → MissingEnds file files after done → CallEnds gives may_fail tells (sources_checked P (Some file)) files after (run_cause rules before now done)
+missing_is P gives may_fail tells file files after rules before now (Ok done) ends = absurd ends
+missing_is P gives may_fail tells file files after rules before now (Err (halts.InputMissing missing)) ends =
+    (λ _. ap (λ n. let number : FileNo = record { 0 = n } in SourceMissing number) ends.0, ends.1)
+missing_is P gives may_fail tells file files after rules before now (Err (halts.CommandFailed r why)) ends = absurd ends
+missing_is P gives may_fail tells file files after rules before now (Err halts.Site) ends = (λ replaced. true_is_false replaced, ends)
+missing_is P gives may_fail tells file files after rules before now (Err halts.Runner) ends = absurd ends
+missing_is P gives may_fail tells file files after rules before now (Err halts.Memory) ends = (λ replaced. true_is_false replaced, ends)
+
+by_missing : (P : Plan) (gives : Function) (may_fail : Job → Failure → Type 0) (tells : Job → Type 0) (files after : Files) (rules : ℕ) (before now : Counts) (done : Result (Unit {0}) Halt) (missing : Option ℕ)
+    → rules ≡ length P.rules → PerformEnds P gives may_fail tells missing files after done
+    → CallEnds gives may_fail tells (sources_checked P missing) files after (run_cause rules before now done)
+by_missing P gives may_fail tells files after rules before now done None count ends = run_is P gives may_fail tells files after rules before now done count ends
+by_missing P gives may_fail tells files after rules before now done (Some file) count ends = missing_is P gives may_fail tells file files after rules before now done ends
+
+-- how the call ends whose plan was made
+pub performed : (gives : Function) (may_fail : Job → Failure → Type 0) (tells : Job → Type 0) (words : List (List ℕ)) (P : Plan) (files after : Files) (rules : ℕ) (before now : Counts) (done : Result (Unit {0}) Halt)
+    → planned words files ≡ Ok P → rules ≡ length P.rules → PerformEnds P gives may_fail tells (missing_source P files) files after done
+    → CallEnds gives may_fail tells (asked words files) files after (run_cause rules before now done)
+performed gives may_fail tells words P files after rules before now done is count ends =
+    subst (λ (e : Result Plan Cause). CallEnds gives may_fail tells e files after (run_cause rules before now done)) (sym (asked_is words files P is))
+    (by_missing P gives may_fail tells files after rules before now done (missing_source P files) count ends)
+
+nothing_written : (file : ℕ) (files after : Files) (done : Result (Unit {0}) Halt) → MissingEnds file files after done → after ≡ files
+nothing_written file files after (Ok done) ends = absurd ends
+nothing_written file files after (Err (halts.InputMissing missing)) ends = ends.1
+nothing_written file files after (Err (halts.CommandFailed r why)) ends = absurd ends
+nothing_written file files after (Err halts.Site) ends = ends
+nothing_written file files after (Err halts.Runner) ends = absurd ends
+nothing_written file files after (Err halts.Memory) ends = ends
+
+others_by : (P : Plan) (gives : Function) (may_fail : Job → Failure → Type 0) (tells : Job → Type 0) (files after : Files) (done : Result (Unit {0}) Halt) (missing : Option ℕ)
+    → PerformEnds P gives may_fail tells missing files after done → ((name : List ℕ) → (IsMadeName P (serial_order P) name → ⊥) → after name ≡ files name)
+    → OthersStay (sources_checked P missing) files after
+others_by P gives may_fail tells files after done None ends others = others
+others_by P gives may_fail tells files after done (Some file) ends others = λ name. ap (λ (fs : Files). fs name) (nothing_written file files after done ends)
+
+pub others_stay : (gives : Function) (may_fail : Job → Failure → Type 0) (tells : Job → Type 0) (words : List (List ℕ)) (P : Plan) (files after : Files) (done : Result (Unit {0}) Halt)
+    → planned words files ≡ Ok P → PerformEnds P gives may_fail tells (missing_source P files) files after done
+    → ((name : List ℕ) → (IsMadeName P (serial_order P) name → ⊥) → after name ≡ files name) → OthersStay (asked words files) files after
+others_stay gives may_fail tells words P files after done is ends others =
+    subst (λ (e : Result Plan Cause). OthersStay e files after) (sym (asked_is words files P is)) (others_by P gives may_fail tells files after done (missing_source P files) ends others)
+
+pub all_stay : (e : Result Plan Cause) (files after : Files) → after ≡ files → OthersStay e files after
+all_stay (Ok P) files after same = λ name none. ap (λ (fs : Files). fs name) same
+all_stay (Err refusal) files after same = λ name. ap (λ (fs : Files). fs name) same
+
+site_ends : (gives : Function) (may_fail : Job → Failure → Type 0) (tells : Job → Type 0) (e : Result Plan Cause) (files after : Files) (b a : ℕ) → after ≡ files → CallEnds gives may_fail tells e files after (SiteFault b a)
+site_ends gives may_fail tells (Ok P) files after b a same = refl
+site_ends gives may_fail tells (Err refusal) files after b a same = (λ replaced. true_is_false replaced, same)
+
+memory_ends : (gives : Function) (may_fail : Job → Failure → Type 0) (tells : Job → Type 0) (e : Result Plan Cause) (files after : Files) → after ≡ files → CallEnds gives may_fail tells e files after Memory
+memory_ends gives may_fail tells (Ok P) files after same = refl
+memory_ends gives may_fail tells (Err refusal) files after same = (λ replaced. true_is_false replaced, same)
+
+-- how the call ends without a plan
+pub refused : (gives : Function) (may_fail : Job → Failure → Type 0) (tells : Job → Type 0) (words : List (List ℕ)) (files after : Files) (before now : Counts) (refusal : Refusal)
+    → Stage {T = Plan} (planned words files) (Err refusal) → after ≡ files → CallEnds gives may_fail tells (asked words files) files after (refusal_cause before now refusal)
+refused gives may_fail tells words files after before now (refusals.Said cause) stage same =
+    subst (λ (e : Result Plan Cause). CallEnds gives may_fail tells e files after cause) (sym (ap (λ r. and_then r (with_sources files)) stage)) (λ _. refl, same)
+refused gives may_fail tells words files after before now refusals.Site stage same = site_ends gives may_fail tells (asked words files) files after before.site now.site same
+refused gives may_fail tells words files after before now refusals.Memory stage same = memory_ends gives may_fail tells (asked words files) files after same
+
+-- the words, behind a plan
+pub words_after : (o : Option (List ℕ)) (rules : ℕ) (before now : Counts) (done : Result (Unit {0}) Halt) → (o ≡ None → ⊥) → WordsEnd o (run_cause rules before now done)
+words_after None rules before now done some = absurd (some refl)
+words_after (Some name) rules before now (Ok done) some = refl
+words_after (Some name) rules before now (Err (halts.CommandFailed r why)) some = refl
+words_after (Some name) rules before now (Err (halts.InputMissing file)) some = refl
+words_after (Some name) rules before now (Err halts.Site) some = refl
+words_after (Some name) rules before now (Err halts.Runner) some = refl
+words_after (Some name) rules before now (Err halts.Memory) some = refl
+
+memory_words : (o : Option (List ℕ)) → WordsEnd o Memory
+memory_words None = refl
+memory_words (Some name) = refl
+
+-- the words, where there is no plan
+pub words_refused : (o : Option (List ℕ)) (before now : Counts) (refusal : Refusal) → WordsStage {T = Plan} o (Err refusal) → WordsEnd o (refusal_cause before now refusal)
+words_refused o before now (refusals.Said cause) stage = stage
+words_refused None before now refusals.Site stage = absurd (stage refl)
+words_refused (Some name) before now refusals.Site stage = refl
+words_refused o before now refusals.Memory stage = memory_words o
+
+said_fault : (before now : Counts) (cause : Cause) → is_refusal (kind_of cause) ≡ true → FaultEnd before now cause
+said_fault before now (SiteFault b a) says = false_is_true says
+said_fault before now (RunnerFault b a) says = false_is_true says
+said_fault before now (SinkFault b a) says = false_is_true says
+said_fault before now _ says = tt
+
+-- a refusal tells a fault only where the site's count rose
+pub refused_fault : (before now : Counts) (refusal : Refusal) → SaysRefusal {T = Plan} (Err refusal) → (refusal ≡ refusals.Site → before.site < now.site) → FaultEnd before now (refusal_cause before now refusal)
+refused_fault before now (refusals.Said cause) says rose = said_fault before now cause says
+refused_fault before now refusals.Site says rose = (refl, refl, rose refl)
+refused_fault before now refusals.Memory says rose = tt
+
+refusal_kind : (kind : Kind) → is_refusal kind ≡ true → (is_of_plan kind ≡ false) × (is_rule_failed kind ≡ false) × (is_run_end kind ≡ false)
+refusal_kind kinds.Completed says = false_is_true says
+refusal_kind kinds.RuleFailed says = false_is_true says
+refusal_kind kinds.WrongWords says = (refl, refl, refl)
+refusal_kind kinds.NoPlan says = (refl, refl, refl)
+refusal_kind kinds.WrongSource says = false_is_true says
+refusal_kind kinds.SiteBroke says = false_is_true says
+refusal_kind kinds.RunnerBroke says = false_is_true says
+refusal_kind kinds.SinkBroke says = false_is_true says
+refusal_kind kinds.NoMemory says = false_is_true says
+
+-- a refusal's line names no file of the plan, and it is no failed command
+pub refused_kind : (before now : Counts) (refusal : Refusal) → SaysRefusal {T = Plan} (Err refusal)
+    → (is_of_plan (kind_of (refusal_cause before now refusal)) ≡ false) × (is_rule_failed (kind_of (refusal_cause before now refusal)) ≡ false)
+refused_kind before now (refusals.Said cause) says = let k = refusal_kind (kind_of cause) says in (k.0, k.1)
+refused_kind before now refusals.Site says = (refl, refl)
+refused_kind before now refusals.Memory says = (refl, refl)
+
+-- What is asked for is refused by no end of a run.
+abbrev RefusedEarly : {T : Type 0} → Result T Cause → Type 0
+RefusedEarly (Ok value) = Unit {0}
+RefusedEarly (Err cause) = is_run_end (kind_of cause) ≡ false
+
+early_ok_or : {T : Type 0} (o : Option T) (cause : Cause) → is_run_end (kind_of cause) ≡ false → RefusedEarly (ok_or o cause)
+early_ok_or None cause early = early
+early_ok_or (Some x) cause early = tt
+
+early_then : {T U : Type 0} (r : Result T Cause) (next : T → Result U Cause) → RefusedEarly r → ((x : T) → RefusedEarly (next x)) → RefusedEarly (and_then r next)
+early_then (Ok x) next first then_ = then_ x
+early_then (Err cause) next first then_ = first
+
+early_sources : (P : Plan) (missing : Option ℕ) → RefusedEarly (sources_checked P missing)
+early_sources P None = tt
+early_sources P (Some file) = refl
+
+asked_early : (words : List (List ℕ)) (files : Files) → RefusedEarly (asked words files)
+asked_early words files =
+    early_then (planned words files) (with_sources files)
+    (early_then (named_flow words) (λ name. and_then (flow_text files name) flow_plan) (early_ok_or (flow_name_of words) Usage refl)
+      (λ name. early_then (flow_text files name) flow_plan (early_ok_or (files name) (FlowMissing name) refl)
+        (λ text. early_ok_or (option_map plan_of_pair (pair_of text)) (Unbuilt 0) refl)))
+    (λ P. early_sources P (missing_source P files))
+
+run_end_stays : (kind : Kind) → is_run_end kind ≡ true → may_replace kind ≡ false
+run_end_stays kinds.Completed ends = refl
+run_end_stays kinds.RuleFailed ends = refl
+run_end_stays kinds.WrongWords ends = refl
+run_end_stays kinds.NoPlan ends = refl
+run_end_stays kinds.WrongSource ends = refl
+run_end_stays kinds.SiteBroke ends = false_is_true ends
+run_end_stays kinds.RunnerBroke ends = refl
+run_end_stays kinds.SinkBroke ends = refl
+run_end_stays kinds.NoMemory ends = false_is_true ends
+
+sink_ends : (gives : Function) (may_fail : Job → Failure → Type 0) (tells : Job → Type 0) (e : Result Plan Cause) (files after : Files) (cause : Cause) (b a : ℕ) (ends : Bool)
+    → is_run_end (kind_of cause) ≡ ends → RefusedEarly e → CallEnds gives may_fail tells e files after cause
+    → CallEnds gives may_fail tells e files after (if ends then SinkFault b a else cause)
+sink_ends gives may_fail tells e files after cause b a false is early call = call
+sink_ends gives may_fail tells (Ok P) files after cause b a true is early call = refl
+sink_ends gives may_fail tells (Err refusal) files after cause b a true is early call =
+    (λ _. true_is_false (sym is ∙ ap (λ c. is_run_end (kind_of c)) (call.0 (run_end_stays (kind_of cause) is)) ∙ early), call.1)
+
+memory_call : (gives : Function) (may_fail : Job → Failure → Type 0) (tells : Job → Type 0) (e : Result Plan Cause) (files after : Files) (cause : Cause)
+    → CallEnds gives may_fail tells e files after cause → CallEnds gives may_fail tells e files after Memory
+memory_call gives may_fail tells (Ok P) files after cause call = refl
+memory_call gives may_fail tells (Err refusal) files after cause call = (λ replaced. true_is_false replaced, call.1)
+
+-- printing leaves what is said of the end
+pub printed_ends : (gives : Function) (may_fail : Job → Failure → Type 0) (tells : Job → Type 0) (words : List (List ℕ)) (files after : Files) (b a : ℕ) (cause stands : Cause) (printed : Result (Unit {0}) Fault)
+    → stands ≡ printed_cause b a cause printed → CallEnds gives may_fail tells (asked words files) files after cause
+    → CallEnds gives may_fail tells (asked words files) files after stands
+printed_ends gives may_fail tells words files after b a cause stands printed is call =
+    subst (λ (c : Cause). CallEnds gives may_fail tells (asked words files) files after c) (sym is) (by_answer printed)
+  where
+    by_answer : (p : Result (Unit {0}) Fault) → CallEnds gives may_fail tells (asked words files) files after (printed_cause b a cause p)
+    by_answer (Ok done) = call
+    by_answer (Err faults.Failed) = sink_ends gives may_fail tells (asked words files) files after cause b a (is_run_end (kind_of cause)) refl (asked_early words files) call
+    by_answer (Err faults.Memory) = memory_call gives may_fail tells (asked words files) files after cause call
+
+words_end_kind : (kind : Kind) → is_words_end kind ≡ true → is_run_end kind ≡ true → ⊥
+words_end_kind kinds.Completed words ends = false_is_true words
+words_end_kind kinds.RuleFailed words ends = false_is_true words
+words_end_kind kinds.WrongWords words ends = false_is_true ends
+words_end_kind kinds.NoPlan words ends = false_is_true words
+words_end_kind kinds.WrongSource words ends = false_is_true words
+words_end_kind kinds.SiteBroke words ends = false_is_true words
+words_end_kind kinds.RunnerBroke words ends = false_is_true words
+words_end_kind kinds.SinkBroke words ends = false_is_true words
+words_end_kind kinds.NoMemory words ends = false_is_true ends
+
+sink_words : (o : Option (List ℕ)) (cause : Cause) (b a : ℕ) (ends : Bool) → is_run_end (kind_of cause) ≡ ends → WordsEnd o cause → WordsEnd o (if ends then SinkFault b a else cause)
+sink_words o cause b a false is words = words
+sink_words None cause b a true is words = absurd (words_end_kind (kind_of cause) words is)
+sink_words (Some name) cause b a true is words = refl
+
+-- and of the words
+pub printed_words : (o : Option (List ℕ)) (b a : ℕ) (cause stands : Cause) (printed : Result (Unit {0}) Fault) → stands ≡ printed_cause b a cause printed → WordsEnd o cause → WordsEnd o stands
+printed_words o b a cause stands printed is words = subst (λ (c : Cause). WordsEnd o c) (sym is) (by_answer printed)
+  where
+    by_answer : (p : Result (Unit {0}) Fault) → WordsEnd o (printed_cause b a cause p)
+    by_answer (Ok done) = words
+    by_answer (Err faults.Failed) = sink_words o cause b a (is_run_end (kind_of cause)) refl words
+    by_answer (Err faults.Memory) = memory_words o
+
+sink_failed : (cause : Cause) (b a : ℕ) (ends : Bool) → is_rule_failed (kind_of cause) ≡ false → is_rule_failed (kind_of (if ends then SinkFault b a else cause)) ≡ false
+sink_failed cause b a true other = refl
+sink_failed cause b a false other = other
+
+-- what is no failed command is none once it was printed
+pub printed_failed : (b a : ℕ) (cause stands : Cause) (printed : Result (Unit {0}) Fault) → stands ≡ printed_cause b a cause printed → is_rule_failed (kind_of cause) ≡ false → is_rule_failed (kind_of stands) ≡ false
+printed_failed b a cause stands printed is other = ap (λ c. is_rule_failed (kind_of c)) is ∙ by_answer printed
+  where
+    by_answer : (p : Result (Unit {0}) Fault) → is_rule_failed (kind_of (printed_cause b a cause p)) ≡ false
+    by_answer (Ok done) = other
+    by_answer (Err faults.Failed) = sink_failed cause b a (is_run_end (kind_of cause)) other
+    by_answer (Err faults.Memory) = refl
+
+-- a run in which nothing failed is complete, or wants memory
+run_completes : (P : Plan) (gives : Function) (may_fail : Job → Failure → Type 0) (tells : Job → Type 0) (files after : Files) (before now : Counts) (cause : Cause)
+    → RunIs P gives may_fail tells files after cause → FaultEnd before now cause → NoneRose before now → is_rule_failed (kind_of cause) ≡ false → is_completed (kind_of cause) ≡ true
+run_completes P gives may_fail tells files after before now (Complete rules collected) run fault none failed = refl
+run_completes P gives may_fail tells files after before now (CommandFailed r why) run fault none failed = true_is_false failed
+run_completes P gives may_fail tells files after before now Usage run fault none failed = false_is_true run
+run_completes P gives may_fail tells files after before now (FlowMissing name) run fault none failed = false_is_true run
+run_completes P gives may_fail tells files after before now (Unbuilt line) run fault none failed = false_is_true run
+run_completes P gives may_fail tells files after before now (SourceMissing file) run fault none failed = false_is_true run
+run_completes P gives may_fail tells files after before now (SiteFault b a) run fault none failed = absurd (let wrong : ⊥ = omega (arith, fault.2, none.site) in wrong)
+run_completes P gives may_fail tells files after before now (RunnerFault b a) run fault none failed = absurd (let wrong : ⊥ = omega (arith, fault.2, none.runner) in wrong)
+run_completes P gives may_fail tells files after before now (SinkFault b a) run fault none failed = absurd (let wrong : ⊥ = omega (arith, fault.2, none.sink) in wrong)
+run_completes P gives may_fail tells files after before now Memory run fault none failed = refl
+
+pub completes : (e : Result Plan Cause) (gives : Function) (may_fail : Job → Failure → Type 0) (tells : Job → Type 0) (files after : Files) (before now : Counts) (cause : Cause)
+    → IsOk e → CallEnds gives may_fail tells e files after cause → FaultEnd before now cause → NoneRose before now → is_rule_failed (kind_of cause) ≡ false → is_completed (kind_of cause) ≡ true
+completes (Ok P) gives may_fail tells files after before now cause ok call fault none failed = run_completes P gives may_fail tells files after before now cause call fault none failed
+completes (Err refusal) gives may_fail tells files after before now cause ok call fault none failed = false_is_true ok
+
+wider_fault : (sb rb b sa ra a : ℕ) (cause : Cause) → FaultEnd (counts sb rb 0) (counts sa ra 0) cause → FaultEnd (counts sb rb b) (counts sa ra a) cause
+wider_fault sb rb b sa ra a (SiteFault old new) fault = fault
+wider_fault sb rb b sa ra a (RunnerFault old new) fault = fault
+wider_fault sb rb b sa ra a (SinkFault old new) fault = absurd (let wrong : ⊥ = omega (arith, fault.2) in wrong)
+wider_fault sb rb b sa ra a _ fault = tt
+
+sink_fault : (sb rb b sa ra a : ℕ) (cause : Cause) (ends : Bool) → b < a → FaultEnd (counts sb rb 0) (counts sa ra 0) cause → FaultEnd (counts sb rb b) (counts sa ra a) (if ends then SinkFault b a else cause)
+sink_fault sb rb b sa ra a cause true rose fault = (refl, refl, rose)
+sink_fault sb rb b sa ra a cause false rose fault = wider_fault sb rb b sa ra a cause fault
+
+-- and of faults: the sink's is told only where its count rose
+pub printed_fault : (sb rb b sa ra a : ℕ) (cause stands : Cause) (printed : Result (Unit {0}) Fault) → stands ≡ printed_cause b a cause printed → (IsErrOf printed faults.Failed → b < a)
+    → FaultEnd (counts sb rb 0) (counts sa ra 0) cause → FaultEnd (counts sb rb b) (counts sa ra a) stands
+printed_fault sb rb b sa ra a cause stands printed is rose fault = subst (λ (c : Cause). FaultEnd (counts sb rb b) (counts sa ra a) c) (sym is) (by_answer printed rose)
+  where
+    by_answer : (p : Result (Unit {0}) Fault) → (IsErrOf p faults.Failed → b < a) → FaultEnd (counts sb rb b) (counts sa ra a) (printed_cause b a cause p)
+    by_answer (Ok done) rose = wider_fault sb rb b sa ra a cause fault
+    by_answer (Err faults.Failed) rose = sink_fault sb rb b sa ra a cause (is_run_end (kind_of cause)) (rose refl) fault
+    by_answer (Err faults.Memory) rose = tt

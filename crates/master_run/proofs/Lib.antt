@@ -1,0 +1,5 @@
+pub mod Commands
+pub mod PlainNames
+pub mod PairPlans
+pub mod StageSteps
+pub mod Endings

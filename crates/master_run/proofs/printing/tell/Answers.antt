@@ -1,0 +1,18 @@
+use Rattle.std.proofs.Common.{◌≡◌, true, false, Result, Err, refl}
+use Rattle.outside.specs.declared.fault.Fault.TheVariants as faults
+use Rattle.report.specs.declared.cause.Cause.TheVariants.{Memory}
+use Rattle.master_run.proofs.printing.tell.Goals as goal
+
+true_is_false : {A : Type 0} → true ≡ false → A
+true_is_false wrong = absurd (cc)
+
+pub returns-in-Err-clause-told : goal.returns-in-Err-clause-told
+returns-in-Err-clause-told g c = λ tells. record {
+  told = Memory;
+  is_own = λ own. true_is_false (let wrong : false ≡ true = own in cc);
+  whole = λ same some. true_is_false some;
+  part = (c.write.ensures.bytes tells).some
+}
+
+pub returns-in-Err-clause-stands : goal.returns-in-Err-clause-stands
+returns-in-Err-clause-stands g c = record { printed = Err faults.Memory; is_cause = refl; rose = λ wrong. absurd (cc) }

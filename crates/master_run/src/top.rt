@@ -1,0 +1,127 @@
+//! The top call.
+ghost use Rattle.std.specs.Prelude.{◌≡◌, ◌≤◌, [], Some, Ok, Result, IsTrue, IsOk, map, string_bytes, length};
+ghost use Rattle.flow_types.specs.declared.plan.Plan.{Plan as PlanValue};
+ghost use Rattle.report.specs.Causes.{kind_of, status_of};
+ghost use Rattle.master_run.specs.Asked.{asked, planned};
+ghost use Rattle.master_run.specs.Ends.{CallEnds, OthersStay, WordsEnd, FaultEnd, FailureEnd, Prints, NoneRose, is_of_plan, is_completed, is_rule_failed, counts};
+ghost use Rattle.master_run.specs.Words.{flow_name_of};
+ghost use Rattle.std.specs.Prelude.{IsFalse};
+
+use crate::asking::read_plan;
+use crate::counts::Counts;
+use crate::printing::tell;
+use crate::running::{perform, refusal_cause, run_cause};
+use flow_types::{Plan, Record, Rows};
+use outside::{Commands, Runner, Sink, Site};
+use report::Cause;
+use std::alloc::Global;
+
+/// How a call ended.
+#[derive(Drop)]
+pub struct Ended<S: Site> {
+    /// The exit status.
+    pub status: u8,
+    /// Why it ended.
+    pub cause: Cause,
+    /// The files, as the call left them.
+    pub site: S,
+    /// What was logged.
+    pub records: Rows<Record>,
+}
+
+// How a call went, before its line is printed.
+#[derive(Drop)]
+struct Course {
+    cause: Cause,
+    plan: Plan,
+}
+
+fn counts_of<F: Commands, S: Site, R: Runner<F>>(site: &S, runner: &R) -> Counts
+    ensures { result ≡ counts (S.count site.now) (R.count runner.now) 0 }
+{
+    Counts {
+        site: site.faults(),
+        runner: runner.faults(),
+        sink: 0,
+    }
+}
+
+fn no_plan(alloc: Global) -> Plan {
+    Plan {
+        rules: Rows::new(alloc),
+        files: Rows::new(alloc),
+    }
+}
+
+fn follow<F: Commands, S: Site, R: Runner<F>>(alloc: Global, words: &[String], site: &mut S, runner: &mut R) -> Course
+    ensures ends { S.tells → CallEnds F.gives F.may_fail (R.tells runner.old) (asked (map string_bytes words.now) (S.files site.old)) (S.files site.old) (S.files site.new) result.cause }
+    ensures others { S.tells → OthersStay (asked (map string_bytes words.now) (S.files site.old)) (S.files site.old) (S.files site.new) }
+    ensures plan { S.tells → IsTrue (is_of_plan (kind_of result.cause)) → planned (map string_bytes words.now) (S.files site.old) ≡ Ok result.plan }
+    ensures words { WordsEnd (flow_name_of (map string_bytes words.now)) result.cause }
+    ensures faults { FaultEnd (counts (S.count site.old) (R.count runner.old) 0) (counts (S.count site.new) (R.count runner.new) 0) result.cause }
+    ensures failures { FailureEnd (R.failures runner.old) (R.failures runner.new) result.cause }
+    ensures sure { R.sure runner.old → IsFalse (is_rule_failed (kind_of result.cause)) }
+    ensures site_later { S.count site.old ≤ S.count site.new }
+    ensures runner_later { R.count runner.old ≤ R.count runner.new }
+{
+    let before = counts_of::<F, _, _>(site, runner);
+    match read_plan(alloc, words, site) {
+        Ok(plan) => {
+            let done = perform(alloc, &plan, site, runner);
+            let after = counts_of::<F, _, _>(site, runner);
+            let cause = run_cause(plan.rules.len() as u32, before, after, done);
+            Course { cause, plan }
+        }
+        Err(refusal) => {
+            let after = counts_of::<F, _, _>(site, runner);
+            Course {
+                cause: refusal_cause(refusal, before, after),
+                plan: no_plan(alloc),
+            }
+        }
+    }
+}
+
+/// Reads the flow that the words name, runs its rules one after the other and prints one line about how that ended.
+pub fn makeflow_top<F: Commands, S: Site, R: Runner<F>, O: Sink>(alloc: Global, words: &[String], site: S, runner: &mut R, out: &mut O) -> Ended<S>
+    ensures status { result.status ≡ status_of result.cause }
+    ensures records { result.records ≡ [] }
+
+    // Where the site tells its files: the refusals that are asked for, in their order; else the end of the plan's run, with
+    // the serial run's contents.
+    ensures ends { S.tells → CallEnds F.gives F.may_fail (R.tells runner.old) (asked (map string_bytes words.now) (S.files site))
+        (S.files site) (S.files result.site) result.cause }
+
+    // However it ends, only files that the plan's rules make were written.
+    ensures others { S.tells → OthersStay (asked (map string_bytes words.now) (S.files site)) (S.files site) (S.files result.site) }
+
+    // Over every site: Usage exactly where the words are wrong.
+    ensures words { WordsEnd (flow_name_of (map string_bytes words.now)) result.cause }
+
+    // Each fault only where that object's count rose in this call.
+    ensures faults { FaultEnd (counts (S.count site) (R.count runner.old) (O.count out.old))
+        (counts (S.count result.site) (R.count runner.new) (O.count out.new)) result.cause }
+
+    // CommandFailed exactly where the runner answered that a command failed.
+    ensures failures { FailureEnd (R.failures runner.old) (R.failures runner.new) result.cause }
+
+    // Where the sink tells its bytes, they grew by the cause's line.
+    ensures text { O.tells → Prints (λ plan. S.tells → planned (map string_bytes words.now) (S.files site) ≡ Ok plan)
+        (O.count out.old) (O.count out.new) (O.bytes out.old) (O.bytes out.new) result.cause }
+
+    // What can be run is run: over a sure runner and with no count rising it ends Complete or wants memory.
+    ensures completes { S.tells → R.sure runner.old → IsOk (asked (map string_bytes words.now) (S.files site))
+        → NoneRose (counts (S.count site) (R.count runner.old) (O.count out.old)) (counts (S.count result.site) (R.count runner.new) (O.count out.new))
+        → IsTrue (is_completed (kind_of result.cause)) }
+{
+    let mut site = site;
+    let course = follow(alloc, words, &mut site, runner);
+    let Course { cause, plan } = course;
+    let cause = tell(alloc, &plan, cause, out);
+    Ended {
+        status: cause.status(),
+        cause,
+        site,
+        records: Rows::new(alloc),
+    }
+}
