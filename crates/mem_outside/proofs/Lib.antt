@@ -1,0 +1,3 @@
+pub mod FilesByName
+pub mod EmptyContents
+pub mod Stops

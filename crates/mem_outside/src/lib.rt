@@ -1,0 +1,18 @@
+//! The outside in memory, for tests: files, commands and a place to print to, with faults where a test wants them.
+#![tactic(auto)]
+
+mod blank;
+mod calls;
+mod entries;
+mod fitting;
+mod mem_sink;
+mod mem_site;
+mod table_runner;
+
+pub use blank::{Blank, BlankRunner};
+pub use mem_sink::MemSink;
+pub use mem_site::MemSite;
+pub use table_runner::TableRunner;
+
+#[cfg(test)]
+mod tests;
