@@ -183,8 +183,8 @@ asked_early : (words : List (List ℕ)) (files : Files) → RefusedEarly (asked 
 asked_early words files =
     early_then (planned words files) (with_sources files)
     (early_then (named_flow words) (λ name. and_then (flow_text files name) flow_plan) (early_ok_or (flow_name_of words) Usage refl)
-      (λ name. early_then (flow_text files name) flow_plan (early_ok_or (files name) (FlowMissing name) refl)
-        (λ text. early_ok_or (option_map plan_of_pair (pair_of text)) (Unbuilt 0) refl)))
+    (λ name. early_then (flow_text files name) flow_plan (early_ok_or (files name) (FlowMissing name) refl)
+    (λ text. early_ok_or (option_map plan_of_pair (pair_of text)) (Unbuilt 0) refl)))
     (λ P. early_sources P (missing_source P files))
 
 run_end_stays : (kind : Kind) → is_run_end kind ≡ true → may_replace kind ≡ false

@@ -37,7 +37,7 @@ valid_alone made command name short = record {
   sources_not_kept = refl;
   file_bounds = refl;
   rule_bounds = refl;
-  orders = (0 ∷ [], refl)
+  orders = (0 ∷ [], refl);
 }
 
 both : (x y : Bool) → x ≡ true → y ≡ true → (x && (y && true)) ≡ true
@@ -65,12 +65,12 @@ valid_after made taken command m t other less short = record {
   made_by = refl;
   makers = refl;
   remotes = remote_names (is_name taken) (is_name made) (not (bytes_eq taken made) && not (are_nested taken made)) t.named m.named
-    (apart (bytes_eq taken made) (are_nested taken made) other (not_nested taken made t m));
+      (apart (bytes_eq taken made) (are_nested taken made) other (not_nested taken made t m));
   kept = refl;
   sources_not_kept = refl;
   file_bounds = refl;
   rule_bounds = refl;
-  orders = (0 ∷ [], refl)
+  orders = (0 ∷ [], refl);
 }
 
 -- the made file stands first
@@ -88,12 +88,12 @@ valid_before made taken command m t other less short = record {
   made_by = refl;
   makers = refl;
   remotes = remote_names (is_name taken) (is_name made) (not (bytes_eq taken made) && not (are_nested taken made)) t.named m.named
-    (apart (bytes_eq taken made) (are_nested taken made) other (not_nested taken made t m));
+      (apart (bytes_eq taken made) (are_nested taken made) other (not_nested taken made t m));
   kept = refl;
   sources_not_kept = refl;
   file_bounds = refl;
   rule_bounds = refl;
-  orders = (0 ∷ [], refl)
+  orders = (0 ∷ [], refl);
 }
 
 valid_with : (made taken command : List ℕ) → IsPlainName made → IsPlainName taken → bytes_eq taken made ≡ false → nat_le (length command) 1048576 ≡ true
@@ -185,12 +185,12 @@ lines_plain head line pair short is =
     (λ made named rest. after_some (taken_of parts.1) (λ taken. option_and_then (λ command. pair_with made taken command) (command_of line)) pair rest
     (λ taken behind rest. after_some (command_of line) (λ command. pair_with made taken command) pair rest
     (λ command commanded rest.
-      let known = pair_is made command taken pair rest in
-      subst IsPlainPair known.1 (record {
-        made = plain_is parts.0 made named;
-        taken = λ name some. (taken_plain parts.1 taken name behind some, not_same made taken name known.0 some);
-        short = le-leb (length command) 1048576 (omega (arith, short, command_length line command commanded))
-      })))))
+    let known = pair_is made command taken pair rest in
+    subst IsPlainPair known.1 (record {
+      made = plain_is parts.0 made named;
+      taken = λ name some. (taken_plain parts.1 taken name behind some, not_same made taken name known.0 some);
+      short = le-leb (length command) 1048576 (omega (arith, short, command_length line command commanded));
+    })))))
 
 -- the pair of lines of a text is plain
 pair_plain : (text : List ℕ) (pair : PlainPair) → length text ≤ 65536 → pair_of_lines text ≡ Some pair → IsPlainPair pair
@@ -198,9 +198,9 @@ pair_plain text pair short is =
     after_some (cut_at 10 text) (λ first. option_and_then (λ second. if bytes_eq second.1 [] then pair_from first.0 second.0 else None) (cut_at 10 first.1)) pair is
     (λ first cut rest. after_some (cut_at 10 first.1) (λ second. if bytes_eq second.1 [] then pair_from first.0 second.0 else None) pair rest
     (λ second again rest.
-      let one = cut_length 10 text first cut in
-      let two = cut_length 10 first.1 second again in
-      by_end first.0 second.0 pair (bytes_eq second.1 []) (omega (arith, one.1, two.0, short)) rest))
+    let one = cut_length 10 text first cut in
+    let two = cut_length 10 first.1 second again in
+    by_end first.0 second.0 pair (bytes_eq second.1 []) (omega (arith, one.1, two.0, short)) rest))
   where
     by_end : (head line : List ℕ) (pair : PlainPair) (b : Bool) → length line ≤ 65536 → (if b then pair_from head line else None) ≡ Some pair → IsPlainPair pair
     by_end head line pair true short is = lines_plain head line pair short is

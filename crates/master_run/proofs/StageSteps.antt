@@ -38,7 +38,7 @@ pub planned_stage : (words : List (List ℕ)) (files : Files) (name text : List 
     → Stage (flow_plan text) result → Stage (planned words files) result
 planned_stage words files name text result one two stage =
     let same : planned words files ≡ flow_plan text =
-      ap (λ r. and_then r (λ n. and_then (flow_text files n) flow_plan)) one ∙ ap (λ r. and_then r flow_plan) two in
+    ap (λ r. and_then r (λ n. and_then (flow_text files n) flow_plan)) one ∙ ap (λ r. and_then r flow_plan) two in
     let P : Result Plan Cause → Type 0 = λ e. Stage e result in subst P (sym same) stage
 
 some_is_none : (x : ℕ) → (let none : Option ℕ = None in Some x ≡ none) → ⊥

@@ -54,7 +54,7 @@ pair_with made taken command = if is_other made taken then Some (record { made =
 abbrev pub pair_from : List ℕ → List ℕ → Option PlainPair
 pair_from head line =
     option_and_then (λ parts. option_and_then (λ made. option_and_then (λ taken. option_and_then (λ command. pair_with made taken command)
-        (command_of line)) (taken_of parts.1)) (plain_name parts.0)) (cut_at 58 head)
+    (command_of line)) (taken_of parts.1)) (plain_name parts.0)) (cut_at 58 head)
 
 -- two lines, each ended by a newline, and nothing behind them
 abbrev pub pair_of_lines : List ℕ → Option PlainPair

@@ -184,7 +184,11 @@ fn read_pair(alloc: Global, head: &[u8], line: &[u8]) -> Result<PlainPair, NoNam
         return Err(NoName::Wrong);
     }
     match Text::of(alloc, command) {
-        Ok(command) => Ok(PlainPair { made, taken, command }),
+        Ok(command) => Ok(PlainPair {
+            made,
+            taken,
+            command,
+        }),
         Err(_) => Err(NoName::Memory),
     }
 }

@@ -72,7 +72,13 @@ fn is_name_less(a: &[u8], b: &[u8]) -> bool
     }
 }
 
-fn one_rule(alloc: Global, inputs: Rows<Port>, output: Port, command: Text, files: Rows<FileRow>) -> Result<Plan, Memory>
+fn one_rule(
+    alloc: Global,
+    inputs: Rows<Port>,
+    output: Port,
+    command: Text,
+    files: Rows<FileRow>,
+) -> Result<Plan, Memory>
     ensures { IfOk result (λ plan. plan ≡ one_rule inputs output command files) }
 {
     let outputs = one(alloc, output)?;
@@ -111,7 +117,11 @@ fn plan_with_source(alloc: Global, made: &Name, taken: &Name, command: Text) -> 
 pub fn plan_of_pair(alloc: Global, pair: PlainPair) -> Result<Plan, Memory>
     ensures { IfOk result (λ plan. plan ≡ plan_of_pair pair) }
 {
-    let PlainPair { made, taken, command } = pair;
+    let PlainPair {
+        made,
+        taken,
+        command,
+    } = pair;
     match taken {
         Some(taken) => plan_with_source(alloc, &made, &taken, command),
         None => {

@@ -17,7 +17,12 @@ use rule_graph::serial_order;
 use std::alloc::Global;
 
 /// Runs a plan whose sources are all there.
-pub fn perform<F: Commands, S: Site, R: Runner<F>>(alloc: Global, plan: &Plan, site: &mut S, runner: &mut R) -> Result<(), Halt>
+pub fn perform<F: Commands, S: Site, R: Runner<F>>(
+    alloc: Global,
+    plan: &Plan,
+    site: &mut S,
+    runner: &mut R,
+) -> Result<(), Halt>
     requires { IsValid plan.now }
     ensures told { S.tells → PerformEnds plan.now F.gives F.may_fail (R.tells runner.old) (missing_source plan.now (S.files site.old))
         (S.files site.old) (S.files site.new) result }

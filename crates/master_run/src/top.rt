@@ -53,7 +53,12 @@ fn no_plan(alloc: Global) -> Plan {
     }
 }
 
-fn follow<F: Commands, S: Site, R: Runner<F>>(alloc: Global, words: &[String], site: &mut S, runner: &mut R) -> Course
+fn follow<F: Commands, S: Site, R: Runner<F>>(
+    alloc: Global,
+    words: &[String],
+    site: &mut S,
+    runner: &mut R,
+) -> Course
     ensures ends { S.tells → CallEnds F.gives F.may_fail (R.tells runner.old) (asked (map string_bytes words.now) (S.files site.old)) (S.files site.old) (S.files site.new) result.cause }
     ensures others { S.tells → OthersStay (asked (map string_bytes words.now) (S.files site.old)) (S.files site.old) (S.files site.new) }
     ensures plan { S.tells → IsTrue (is_of_plan (kind_of result.cause)) → planned (map string_bytes words.now) (S.files site.old) ≡ Ok result.plan }
@@ -83,7 +88,13 @@ fn follow<F: Commands, S: Site, R: Runner<F>>(alloc: Global, words: &[String], s
 }
 
 /// Reads the flow that the words name, runs its rules one after the other and prints one line about how that ended.
-pub fn makeflow_top<F: Commands, S: Site, R: Runner<F>, O: Sink>(alloc: Global, words: &[String], site: S, runner: &mut R, out: &mut O) -> Ended<S>
+pub fn makeflow_top<F: Commands, S: Site, R: Runner<F>, O: Sink>(
+    alloc: Global,
+    words: &[String],
+    site: S,
+    runner: &mut R,
+    out: &mut O,
+) -> Ended<S>
     ensures status { result.status ≡ status_of result.cause }
     ensures records { result.records ≡ [] }
 

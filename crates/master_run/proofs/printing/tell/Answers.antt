@@ -11,7 +11,7 @@ returns-in-Err-clause-told g c = λ tells. record {
   told = Memory;
   is_own = λ own. true_is_false (let wrong : false ≡ true = own in cc);
   whole = λ same some. true_is_false some;
-  part = (c.write.ensures.bytes tells).some
+  part = (c.write.ensures.bytes tells).some;
 }
 
 pub returns-in-Err-clause-stands : goal.returns-in-Err-clause-stands

@@ -11,9 +11,9 @@ returns-in-Ok-None-clause-told g c = λ tells.
     let P = c.args.plan.now in
     let files = g.S.Site.files c.args.site.now in
     let none : missing_source P files ≡ None =
-      ap (missing_from files 0) (sym c.as_slice.ensures) ∙ sym (rw c.in-Ok-None.field-0-is at (c.in-Ok-None.ensures.told tells)) in
+    ap (missing_from files 0) (sym c.as_slice.ensures) ∙ sym (rw c.in-Ok-None.field-0-is at (c.in-Ok-None.ensures.told tells)) in
     let same : g.S.Site.files c.missing_source.new.site ≡ files = c.in-Ok-None.ensures.files tells in
     let ended : RunEnds P g.F.Commands.gives g.F.Commands.may_fail (g.R.Runner.tells c.args.runner.now) (g.S.Site.files c.missing_source.new.site) (g.S.Site.files c.run_rules.new.site) c.run_rules.result =
-      c.run_rules.ensures.told tells (subst (HasSources P) (sym same) (has_sources P files none)) in
+    c.run_rules.ensures.told tells (subst (HasSources P) (sym same) (has_sources P files none)) in
     subst (λ (missing : Option ℕ). PerformEnds P g.F.Commands.gives g.F.Commands.may_fail (g.R.Runner.tells c.args.runner.now) missing files (g.S.Site.files c.run_rules.new.site) c.run_rules.result) (sym none)
     (subst (λ (before : Files). RunEnds P g.F.Commands.gives g.F.Commands.may_fail (g.R.Runner.tells c.args.runner.now) before (g.S.Site.files c.run_rules.new.site) c.run_rules.result) same ended)

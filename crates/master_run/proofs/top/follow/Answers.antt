@@ -20,10 +20,10 @@ returns-in-Ok-clause-ends g c = λ tells.
     let after = g.S.Site.files c.perform-done.new.site in
     let same : g.S.Site.files c.read_plan.new.site ≡ files = c.in-Ok.ensures.files tells in
     let run : PerformEnds c.in-Ok.plan g.F.Commands.gives g.F.Commands.may_fail (g.R.Runner.tells c.args.runner.now) (missing_source c.in-Ok.plan files) files after c.perform-done.result =
-      subst (λ (before : Files). PerformEnds c.in-Ok.plan g.F.Commands.gives g.F.Commands.may_fail (g.R.Runner.tells c.args.runner.now) (missing_source c.in-Ok.plan before) before after c.perform-done.result) same (c.perform-done.ensures.told tells) in
+    subst (λ (before : Files). PerformEnds c.in-Ok.plan g.F.Commands.gives g.F.Commands.may_fail (g.R.Runner.tells c.args.runner.now) (missing_source c.in-Ok.plan before) before after c.perform-done.result) same (c.perform-done.ensures.told tells) in
     subst (λ (cause : Cause). CallEnds g.F.Commands.gives g.F.Commands.may_fail (g.R.Runner.tells c.args.runner.now) (asked words files) files after cause) (sym c.run_cause-cause.ensures)
     (performed g.F.Commands.gives g.F.Commands.may_fail (g.R.Runner.tells c.args.runner.now) words c.in-Ok.plan files after _ c.counts_of-before.result c.counts_of-after.result c.perform-done.result
-      (c.in-Ok.ensures.stage tells) c.len.ensures run)
+    (c.in-Ok.ensures.stage tells) c.len.ensures run)
 
 pub returns-in-Ok-clause-others : goal.returns-in-Ok-clause-others
 returns-in-Ok-clause-others g c = λ tells.
@@ -32,7 +32,7 @@ returns-in-Ok-clause-others g c = λ tells.
     let after = g.S.Site.files c.perform-done.new.site in
     let same : g.S.Site.files c.read_plan.new.site ≡ files = c.in-Ok.ensures.files tells in
     let run : PerformEnds c.in-Ok.plan g.F.Commands.gives g.F.Commands.may_fail (g.R.Runner.tells c.args.runner.now) (missing_source c.in-Ok.plan files) files after c.perform-done.result =
-      subst (λ (before : Files). PerformEnds c.in-Ok.plan g.F.Commands.gives g.F.Commands.may_fail (g.R.Runner.tells c.args.runner.now) (missing_source c.in-Ok.plan before) before after c.perform-done.result) same (c.perform-done.ensures.told tells) in
+    subst (λ (before : Files). PerformEnds c.in-Ok.plan g.F.Commands.gives g.F.Commands.may_fail (g.R.Runner.tells c.args.runner.now) (missing_source c.in-Ok.plan before) before after c.perform-done.result) same (c.perform-done.ensures.told tells) in
     others_stay g.F.Commands.gives g.F.Commands.may_fail (g.R.Runner.tells c.args.runner.now) words c.in-Ok.plan files after c.perform-done.result (c.in-Ok.ensures.stage tells) run
     (λ name none. c.perform-done.ensures.others tells name none ∙ ap (λ (fs : Files). fs name) same)
 
@@ -48,7 +48,7 @@ returns-in-Err-clause-ends g c = λ tells.
     let files = g.S.Site.files c.args.site.now in
     subst (λ (cause : Cause). CallEnds g.F.Commands.gives g.F.Commands.may_fail (g.R.Runner.tells c.args.runner.now) (asked words files) files (g.S.Site.files c.read_plan.new.site) cause) (sym c.refusal_cause.ensures)
     (refused g.F.Commands.gives g.F.Commands.may_fail (g.R.Runner.tells c.args.runner.now) words files (g.S.Site.files c.read_plan.new.site) c.counts_of-before.result c.counts_of-after-in-Err.result c.in-Err.refusal
-      (c.in-Err.ensures.stage tells) (c.in-Err.ensures.files tells))
+    (c.in-Err.ensures.stage tells) (c.in-Err.ensures.files tells))
 
 pub returns-in-Err-clause-others : goal.returns-in-Err-clause-others
 returns-in-Err-clause-others g c = λ tells.
@@ -70,8 +70,8 @@ returns-in-Err-clause-faults g c =
     let before = c.counts_of-before.result in
     let now = c.counts_of-after-in-Err.result in
     let told : FaultEnd before now (refusal_cause before now c.in-Err.refusal) =
-      refused_fault before now c.in-Err.refusal c.in-Err.ensures.kind
-      (λ is. omega (arith, ap (λ (k : Counts). k.site) c.counts_of-before.ensures, ap (λ (k : Counts). k.site) c.counts_of-after-in-Err.ensures, c.in-Err.ensures.trace.rose (ap (λ (r : Refusal). let answer : Result Plan Refusal = Err r in answer) is))) in
+    refused_fault before now c.in-Err.refusal c.in-Err.ensures.kind
+    (λ is. omega (arith, ap (λ (k : Counts). k.site) c.counts_of-before.ensures, ap (λ (k : Counts). k.site) c.counts_of-after-in-Err.ensures, c.in-Err.ensures.trace.rose (ap (λ (r : Refusal). let answer : Result Plan Refusal = Err r in answer) is))) in
     subst (λ (k : Counts). FaultEnd k (counts (g.S.Site.count c.read_plan.new.site) (g.R.Runner.count c.args.runner.now) 0) c.refusal_cause.result) c.counts_of-before.ensures
     (subst (λ (k : Counts). FaultEnd before k c.refusal_cause.result) c.counts_of-after-in-Err.ensures
     (subst (λ (cause : Cause). FaultEnd before now cause) (sym c.refusal_cause.ensures) told))
@@ -81,7 +81,7 @@ returns-in-Err-clause-failures g c =
     let kind = refused_kind c.counts_of-before.result c.counts_of-after-in-Err.result c.in-Err.refusal c.in-Err.ensures.kind in
     record {
       only = λ failed. absurd (let wrong : true ≡ false = sym (rw c.refusal_cause.ensures at failed) ∙ kind.1 in cc);
-      always = λ lt. absurd (let wrong : ⊥ = omega (arith, lt) in wrong)
+      always = λ lt. absurd (let wrong : ⊥ = omega (arith, lt) in wrong);
     }
 
 pub returns-in-Err-clause-sure : goal.returns-in-Err-clause-sure

@@ -1,0 +1,24 @@
+# make test: all checks. make demo: the example flow. make programs: the programs into bin/.
+# make install PREFIX=FOLDER: the programs into FOLDER/bin.
+
+PREFIX ?= /usr/local
+PROGRAMS := $(patsubst crates/%/src/main.rt,%,$(wildcard crates/*/src/main.rt))
+BUILT := $(addprefix bin/,$(PROGRAMS))
+SOURCES := crates.txt $(shell find crates -name out -prune -o -type f -print)
+
+.PHONY: test demo programs install
+
+test:
+	@.ci/run
+
+programs: $(BUILT)
+
+bin/%: $(SOURCES)
+	@.ci/build $*
+
+demo: bin/makeflow
+	@examples/run first
+
+install: $(BUILT)
+	@mkdir -p "$(DESTDIR)$(PREFIX)/bin"
+	@install -m 755 $(BUILT) "$(DESTDIR)$(PREFIX)/bin"

@@ -1,0 +1,44 @@
+//! `makeflow FILE`: runs the rules of a flow file in the current folder.
+#![tactic(auto)]
+
+mod real;
+
+use crate::real::{FolderSite, ShellRunner, StdoutSink, System};
+use master_run::makeflow_top;
+use std::alloc::AllocError;
+use std::io::ErrorKind;
+use std::process::ExitCode;
+use std::rt::Env;
+use std::{env, process};
+
+// The status of want of memory, here before there is a run that could say so.
+const OUT_OF_MEMORY: u8 = 8;
+
+// The command line. One that isn't text has no words, and so is none that the program takes.
+fn words_of<R: Env + AllocGlobal>(rt: &R) -> Result<Vec<String>, AllocError> {
+    match env::args(rt) {
+        Ok(words) => words.collect(rt.alloc()),
+        Err(e) if e.kind() == ErrorKind::OutOfMemory => Err(AllocError),
+        Err(_) => Ok(Vec::new(rt.alloc())),
+    }
+}
+
+fn main(rt: HostRuntime) -> ExitCode {
+    let Ok(words) = words_of(&rt) else {
+        return ExitCode::from(OUT_OF_MEMORY);
+    };
+    let site = FolderSite::new(&rt);
+    let mut runner = ShellRunner::new(&rt, process::id(rt.process()));
+    let mut out = StdoutSink::new(&rt);
+    let ended = makeflow_top::<System, _, _, _>(
+        rt.alloc(),
+        words.as_slice(),
+        site,
+        &mut runner,
+        &mut out,
+    );
+    ExitCode::from(ended.status)
+}
+
+#[cfg(test)]
+mod tests;

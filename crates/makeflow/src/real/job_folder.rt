@@ -1,0 +1,90 @@
+//! The folder in which one job runs.
+use super::files::{is_absent, make_folders_of};
+use super::folder_site::path_of;
+use super::programs::program;
+use flow_types::{Given, Job, Name};
+use std::alloc::Global;
+use std::fs::{DirBuilder, Permissions};
+use std::io::ErrorKind;
+use std::os::unix::fs::{DirBuilderExt, PermissionsExt};
+use std::process::Processes;
+use std::rt::{Env, Files};
+use std::{env, fs, io};
+
+const OWNER_ALONE: u32 = 0o700;
+
+const RUNNABLE: u32 = 0o755;
+
+const MOST_TRIES: u32 = 1_000_000;
+
+/// Makes a new folder under the system's temporary folder, for its owner alone. One that is there already is never
+/// taken, so no two jobs share a folder.
+pub fn new_folder<R: Files + AllocGlobal + Env>(rt: &R, process: u32) -> io::Result<String> {
+    let base = env::temp_dir(rt)?;
+    let base = base.as_path().as_str();
+    let base = if base.is_empty() { "/tmp" } else { base };
+    let mut private = DirBuilder::new();
+    private.mode(OWNER_ALONE);
+    for number in 0..MOST_TRIES {
+        let path = format!(in rt.alloc(); "{base}/makeflow-{process}-{number}")?;
+        match private.create(rt, path.as_str()) {
+            Ok(()) => return Ok(path),
+            Err(e) if e.kind() == ErrorKind::AlreadyExists => {}
+            Err(e) => return Err(e),
+        }
+    }
+    Err(io::Error::from(ErrorKind::AlreadyExists))
+}
+
+/// Where a remote name stands in the folder.
+pub fn place_of(alloc: Global, folder: &str, remote: &Name) -> io::Result<String> {
+    let name = path_of(remote)?;
+    let path = format!(in alloc; "{folder}/{name}")?;
+    Ok(path)
+}
+
+/// Puts the inputs there, and makes the folders that the outputs need.
+pub fn fill_folder<R: Files>(rt: &R, alloc: Global, folder: &str, job: &Job) -> io::Result<()> {
+    for given in job.inputs.as_slice() {
+        put_input(rt, alloc, folder, given)?;
+    }
+    for want in job.outputs.as_slice() {
+        let path = place_of(alloc, folder, &want.remote)?;
+        make_folders_of(rt, path.as_str())?;
+    }
+    Ok(())
+}
+
+// Each input may be run, since commands say `./program`.
+fn put_input<R: Files>(rt: &R, alloc: Global, folder: &str, given: &Given) -> io::Result<()> {
+    let path = place_of(alloc, folder, &given.remote)?;
+    make_folders_of(rt, path.as_str())?;
+    fs::write(rt, path.as_str(), given.content.as_slice())?;
+    fs::set_permissions(rt, path.as_str(), Permissions::from_mode(RUNNABLE))
+}
+
+/// Removes the folder with all that the command left there.
+pub fn remove_folder<R: Files + AllocGlobal + Processes>(rt: &R, folder: &str) -> io::Result<()> {
+    if remove_all(rt, folder).is_ok() {
+        return Ok(());
+    }
+    // A folder that the command closed to its owner can't be emptied.
+    open_to_owner(rt, folder)?;
+    remove_all(rt, folder)
+}
+
+fn remove_all<R: Files + AllocGlobal>(rt: &R, folder: &str) -> io::Result<()> {
+    match fs::remove_dir_all(rt, folder) {
+        Err(e) if !is_absent(e.kind()) => Err(e),
+        _ => Ok(()),
+    }
+}
+
+fn open_to_owner<R: AllocGlobal + Processes>(rt: &R, folder: &str) -> io::Result<()> {
+    let mut chmod = program(rt.alloc(), "chmod")?;
+    chmod.arg("-R")?;
+    chmod.arg("u+rwx")?;
+    chmod.arg(folder)?;
+    chmod.status(rt)?;
+    Ok(())
+}
