@@ -26,15 +26,14 @@ fn site_of(alloc: Global, files: &[(&str, &[u8])]) -> Result<MemSite, Fail> {
     Ok(site)
 }
 
-fn content(alloc: Global, content: &[u8]) -> Result<Outcome, Fail> {
-    let outs = vec![in alloc; Bytes::of(alloc, content)?]?;
-    Ok(Outcome::Success(Rows::of(outs)))
+fn one_output(alloc: Global, content: &[u8]) -> Result<Rows<Bytes>, Fail> {
+    Ok(Rows::of(vec![in alloc; Bytes::of(alloc, content)?]?))
 }
 
 // A runner that knows three commands.
 fn runner_of(alloc: Global) -> Result<TableRunner<Blank>, Fail> {
     let mut runner = TableRunner::new(alloc);
-    runner.put("cat in > out", content(alloc, b"abc")?)?;
+    runner.put("cat in > out", Outcome::Success(one_output(alloc, b"abc")?))?;
     runner.put("exit 3", Outcome::Failed(Failure::Status(3)))?;
     runner.put("true", Outcome::Failed(Failure::MissingOutput(0)))?;
     Ok(runner)

@@ -1,0 +1,5 @@
+pub mod Joining
+pub mod ScopeLemmas
+pub mod Cutting
+pub mod Writing
+pub mod CuttingOnce

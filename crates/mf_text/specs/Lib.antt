@@ -1,0 +1,7 @@
+pub mod Answers
+pub mod Lines
+pub mod Names
+pub mod Expansion
+pub mod Parts
+pub mod Output
+pub mod Cuts
