@@ -1,5 +1,5 @@
 -- How a job may end.
-use Rattle.std.specs.Prelude.{◌≡◌, ◌<◌, ◌≤◌, ℕ, Bool, true, false, List, [], ◌∷◌, length, sum_by, Result, Ok, Err}
+use Rattle.std.specs.Prelude.{◌≡◌, ◌+◌, ◌<◌, ◌≤◌, ℕ, Bool, true, false, List, [], ◌∷◌, length, sum_by, Result, Ok, Err}
 use Rattle.flow_types.specs.declared.job.Want.{Want}
 use Rattle.flow_types.specs.declared.job.Job.{Job}
 use Rattle.flow_types.specs.declared.job.Failure.{Failure}
@@ -46,7 +46,7 @@ is_failure (Ok (Failed why)) = true
 is_failure (Ok NotRun) = false
 is_failure (Err fault) = false
 
--- The count of failed commands rose exactly where the answer is that the command failed.
+-- The count of failed commands rises by one where the answer is that the command failed, and else stands.
 pub record CountsFailure (before now : ℕ) (result : Result Outcome Fault) : Type 0 where
-  pub rose : is_failure result ≡ true → before < now
+  pub rose : is_failure result ≡ true → now ≡ before + 1
   pub stood : is_failure result ≡ false → now ≡ before

@@ -22,7 +22,7 @@ use Rattle.outside.specs.Jobs.{NamesOutput}
 use Rattle.plan_run.specs.declared.halt.Halt.{Halt}
 use Rattle.plan_run.specs.declared.halt.Halt.TheVariants.{CommandFailed, InputMissing, Site, Runner, Memory}
 use Rattle.plan_run.specs.Placed.{file_name, contents_in, place_outputs}
-use Rattle.plan_run.specs.Course.{due_contents, HasSources, TellsJobs, IsMadeName, HasRun, IsStopped, RunEnds}
+use Rattle.plan_run.specs.Course.{due_contents, HasSources, TellsJobs, IsMadeName, HasRun, IsStopped, IsCutShort, RunEnds}
 use Rattle.plan_run.specs.Steps.{job_now, RuleRan, RuleFailed, TurnEnds}
 use Rattle.plan_run.proofs.Names.{HasRow, all_at, same_file, made_row, source_row, source_not_made}
 use Rattle.plan_run.proofs.Placed.{HaveRows, untouched, placed_at, content_there}
@@ -300,13 +300,54 @@ one_more P gives tells now k r rule before mid after valid sources still ran is 
     ∙ ap (λ fs. content_of f fs (given_by gives (job_of P rule due))) (sym (makes_is P r rule at_rule))
     ∙ sym (serial-is_fixed P gives (contents_in P before) r f rule valid at_rule made)))
 
+only_rule : (r q : ℕ) → contains_number q (r ∷ []) ≡ true → r ≡ q
+only_rule r q listed = by_test (r == q) refl listed
+  where
+    by_test : (b : Bool) → (r == q) ≡ b → (b || false) ≡ true → r ≡ q
+    by_test true same some = eqb-true r q same
+    by_test false same some = absurd (true_is_false (sym some))
+
+-- no rule stands in the order before itself
+not_before : (P : Plan) (k r : ℕ) → slice_get (serial_order P) k ≡ Some r → contains_number r (take k (serial_order P)) ≡ true → ⊥
+not_before P k r is listed =
+    let run = order-run P (length P.rules) [] in
+    let Claim : List ℕ → Type 0 = λ order. slice_get order k ≡ Some r → can_take P (take k order) r ≡ true in
+    let can : can_take P (take k (serial_order P)) r ≡ true = subst Claim (sym run.1) (λ here. run_at P [] run.0 k r run.2 here) is in
+    true_is_false (sym (and_parts _ _ can).0 ∙ not_from_true (contains_number r (take k (serial_order P))) listed)
+
+-- the files of rules before this one aren't its outputs
+not_its : (P : Plan) (k r t f : ℕ) → IsValid P → slice_get (serial_order P) k ≡ Some r → contains_number t (take k (serial_order P)) ≡ true → contains_number f (makes P t) ≡ true
+    → IsMadeName P (r ∷ []) (file_name P f) → ⊥
+not_its P k r t f valid is before_it made its =
+    let maker : maker_of P its.file ≡ Some its.rule = has-makers P valid its.rule its.file its.is_output in
+    let own : maker_of P f ≡ Some t = has-makers P valid t f made in
+    let one : its.file ≡ f = same_file P its.file f valid (made_row P its.file its.rule maker) (made_row P f t own) its.has_name in
+    let twice : ◌≡◌ {A = Option ℕ} (Some its.rule) (Some t) = sym maker ∙ ap (maker_of P) one ∙ own in
+    let same : its.rule ≡ t = cc in
+    let first : r ≡ t = only_rule r its.rule its.is_done ∙ same in
+    not_before P k r is (ap (λ q. contains_number q (take k (serial_order P))) first ∙ before_it)
+
+cut_short : (P : Plan) (due : Contents) (told : Type 0) (k r : ℕ) (before mid after : Files) → IsValid P → HasRun P due told (take k (serial_order P)) before mid
+    → slice_get (serial_order P) k ≡ Some r → ((name : List ℕ) → (IsMadeName P (r ∷ []) name → ⊥) → after name ≡ mid name) → IsCutShort P due told before after
+cut_short P due told k r before mid after valid ran is others = record {
+  place = k;
+  made = λ tell t f listed made. others (file_name P f) (not_its P k r t f valid is listed made) ∙ ran.made tell t f listed made;
+  others = λ name none.
+    others name (λ its. none (record { rule = its.rule; file = its.file; is_done = ap (contains_number its.rule) (take_more (serial_order P) k r is) ∙ last_is its.rule (only_rule r its.rule its.is_done); is_output = its.is_output; has_name = its.has_name }))
+    ∙ ran.others name (λ made. none (record { rule = made.rule; file = made.file; is_done = ap (contains_number made.rule) (take_more (serial_order P) k r is) ∙ listed_earlier made.rule r (take k (serial_order P)) made.is_done; is_output = made.is_output; has_name = made.has_name }))
+}
+  where
+    last_is : (q : ℕ) → r ≡ q → contains_number q (take k (serial_order P) ++ r ∷ []) ≡ true
+    last_is q same = ap (λ p. contains_number p (take k (serial_order P) ++ r ∷ [])) (sym same) ∙ listed_last r (take k (serial_order P))
+
 -- a rule whose turn doesn't come to its end stops the run
 pub stopped : (P : Plan) (gives : Function) (may_fail : Job → Failure → Type 0) (tells now : Job → Type 0) (k r : ℕ) (rule : Rule) (before mid after : Files) (halt : Halt) → IsValid P → HasSources P before
     → ((job : Job) → tells job → now job)
     → HasRun P (due_contents P gives before) (TellsJobs P (due_contents P gives before) tells) (take k (serial_order P)) before mid
-    → slice_get (serial_order P) k ≡ Some r → slice_get P.rules r ≡ Some rule → TurnEnds P r rule gives may_fail now mid after (Err halt)
+    → slice_get (serial_order P) k ≡ Some r → slice_get P.rules r ≡ Some rule → ((name : List ℕ) → (IsMadeName P (r ∷ []) name → ⊥) → after name ≡ mid name)
+    → TurnEnds P r rule gives may_fail now mid after (Err halt)
     → RunEnds P gives may_fail tells before after (Err halt)
-stopped P gives may_fail tells now k r rule before mid after (CommandFailed failed why) valid sources still ran is at_rule turn =
+stopped P gives may_fail tells now k r rule before mid after (CommandFailed failed why) valid sources still ran is at_rule others turn =
     let due : Contents = due_contents P gives before in
     let told : Type 0 = TellsJobs P due tells in
     record {
@@ -320,11 +361,12 @@ stopped P gives may_fail tells now k r rule before mid after (CommandFailed fail
           let job : job_now P rule mid ≡ job_of P rule due = job_due P gives told k r rule before mid valid sources ran is at_rule tell in
           subst (λ j. may_fail j why) job (turn.1.told (subst now (sym job) (still (job_of P rule due) (tell r rule at_rule))));
     }
-stopped P gives may_fail tells now k r rule before mid after (InputMissing file) valid sources still ran is at_rule turn =
+stopped P gives may_fail tells now k r rule before mid after (InputMissing file) valid sources still ran is at_rule others turn =
     let told : Type 0 = TellsJobs P (due_contents P gives before) tells in
     let there : is_some (mid (file_name P file.0)) ≡ true =
     (input_due P gives told k r file.0 before mid valid sources ran is (ap (contains_number file.0) (takes_is P r rule at_rule) ∙ turn.1)).there in
     true_is_false (sym there ∙ ap is_some turn.0)
-stopped P gives may_fail tells now k r rule before mid after Site valid sources still ran is at_rule turn = tt
-stopped P gives may_fail tells now k r rule before mid after Runner valid sources still ran is at_rule turn = tt
-stopped P gives may_fail tells now k r rule before mid after Memory valid sources still ran is at_rule turn = tt
+stopped P gives may_fail tells now k r rule before mid after Site valid sources still ran is at_rule others turn = cut_short P (due_contents P gives before) (TellsJobs P (due_contents P gives before) tells) k r before mid after valid ran is others
+stopped P gives may_fail tells now k r rule before mid after Runner valid sources still ran is at_rule others turn =
+    (k, subst (λ files. HasRun P (due_contents P gives before) (TellsJobs P (due_contents P gives before) tells) (take k (serial_order P)) before files) (sym turn) ran)
+stopped P gives may_fail tells now k r rule before mid after Memory valid sources still ran is at_rule others turn = cut_short P (due_contents P gives before) (TellsJobs P (due_contents P gives before) tells) k r before mid after valid ran is others

@@ -1,5 +1,5 @@
 -- How the run of a plan goes, and how it may end.
-use Rattle.std.specs.Prelude.{◌≡◌, ℕ, List, take, length, Some, Option, Result, Ok, Err, IsTrue, slice_get, is_some}
+use Rattle.std.specs.Prelude.{◌≡◌, ℕ, ◌+◌, List, take, length, Some, Option, Result, Ok, Err, IsTrue, slice_get, is_some}
 use Rattle.flow_types.specs.declared.plan.Plan.{Plan}
 use Rattle.flow_types.specs.declared.plan.Rule.{Rule}
 use Rattle.flow_types.specs.declared.job.Job.{Job}
@@ -49,6 +49,17 @@ pub record IsStopped (P : Plan) (due : Contents) (may_fail : Job → Failure →
   pub names_output : NamesOutput why (length rule.outputs)
   pub may_fail_so : told → may_fail (job_of P rule due) why
 
+-- The run was cut short within the turn of one rule: the rules before it ran, and of the other files only its outputs may
+-- have changed.
+pub record IsCutShort (P : Plan) (due : Contents) (told : Type 0) (before after : Files) : Type 0 where
+  pub place : ℕ
+  pub made : told → (r f : ℕ) → IsTrue (contains_number r (take place (serial_order P))) → IsTrue (contains_number f (makes P r)) → after (file_name P f) ≡ due f
+  pub others : (name : List ℕ) → (IsMadeName P (take (place + 1) (serial_order P)) name → ⊥) → after name ≡ before name
+
+-- The rules before some place of the serial order ran, and nothing else was written.
+abbrev pub RanBefore : Plan → Contents → Type 0 → Files → Files → Type 0
+RanBefore P due told before after = (place : ℕ) × HasRun P due told (take place (serial_order P)) before after
+
 -- How the run of a plan may end whose sources are all there.
 abbrev pub RunEnds : Plan → Function → (Job → Failure → Type 0) → (Job → Type 0) → Files → Files → Result (Unit {0}) Halt → Type 0
 RunEnds P gives may_fail tells before after (Ok done) =
@@ -56,6 +67,6 @@ RunEnds P gives may_fail tells before after (Ok done) =
 RunEnds P gives may_fail tells before after (Err (CommandFailed r why)) =
     IsStopped P (due_contents P gives before) may_fail (TellsJobs P (due_contents P gives before) tells) r.0 why before after
 RunEnds P gives may_fail tells before after (Err (InputMissing file)) = ⊥
-RunEnds P gives may_fail tells before after (Err Site) = Unit {0}
-RunEnds P gives may_fail tells before after (Err Runner) = Unit {0}
-RunEnds P gives may_fail tells before after (Err Memory) = Unit {0}
+RunEnds P gives may_fail tells before after (Err Runner) = RanBefore P (due_contents P gives before) (TellsJobs P (due_contents P gives before) tells) before after
+RunEnds P gives may_fail tells before after (Err Site) = IsCutShort P (due_contents P gives before) (TellsJobs P (due_contents P gives before) tells) before after
+RunEnds P gives may_fail tells before after (Err Memory) = IsCutShort P (due_contents P gives before) (TellsJobs P (due_contents P gives before) tells) before after

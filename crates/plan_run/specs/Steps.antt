@@ -1,5 +1,5 @@
 -- What one rule's turn does, and why a run stops.
-use Rattle.std.specs.Prelude.{◌≡◌, ◌≢◌, ℕ, ◌≤◌, ◌<◌, Bool, true, false, List, length, None, Option, Some, Result, Ok, Err, IsErrOf, IsTrue, is_some, slice_get}
+use Rattle.std.specs.Prelude.{◌≡◌, ℕ, ◌+◌, ◌≤◌, ◌<◌, Bool, true, false, List, length, None, Option, Some, Result, Ok, Err, IsErrOf, IsTrue, is_some, slice_get}
 use Rattle.std.specs.List.{list_all}
 use Rattle.flow_types.specs.declared.plan.Plan.{Plan}
 use Rattle.flow_types.specs.declared.plan.Rule.{Rule}
@@ -38,7 +38,7 @@ TurnEnds P r rule gives may_fail tells before after (Ok done) = RuleRan P rule g
 TurnEnds P r rule gives may_fail tells before after (Err (CommandFailed failed why)) = (failed.0 ≡ r) × RuleFailed P rule may_fail tells why before after
 TurnEnds P r rule gives may_fail tells before after (Err (InputMissing file)) = (before (file_name P file.0) ≡ None) × IsTrue (contains_number file.0 (files_of rule.inputs))
 TurnEnds P r rule gives may_fail tells before after (Err Site) = Unit {0}
-TurnEnds P r rule gives may_fail tells before after (Err Runner) = Unit {0}
+TurnEnds P r rule gives may_fail tells before after (Err Runner) = after ≡ before
 TurnEnds P r rule gives may_fail tells before after (Err Memory) = Unit {0}
 
 -- The counts don't fall, and a run stops by an object only where that object's count rose.
@@ -57,9 +57,9 @@ is_failure (Err Site) = false
 is_failure (Err Runner) = false
 is_failure (Err Memory) = false
 
--- The count of failed commands rose exactly where the run stops by one.
+-- One command failed where the run stops by one, and none where it doesn't.
 pub record CountsFailures (before now : ℕ) (result : Result (Unit {0}) Halt) : Type 0 where
-  pub rose : is_failure result ≡ true → before < now
+  pub rose : is_failure result ≡ true → now ≡ before + 1
   pub stood : is_failure result ≡ false → now ≡ before
 
 -- the run stops by its runner

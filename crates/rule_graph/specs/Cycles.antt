@@ -1,5 +1,5 @@
 -- The loop that is named where a serial run leaves rules over.
-use Rattle.std.specs.Prelude.{ℕ, ◌+◌, min, Bool, false, not, ◌&&◌, zero, suc, List, [], ◌∷◌, ◌++◌, length, ◌==◌, Option, Some, None, if◌then◌else◌, filter, find, fold, map, take_while, drop}
+use Rattle.std.specs.Prelude.{ℕ, ◌+◌, Bool, false, not, ◌&&◌, zero, suc, List, [], ◌∷◌, ◌++◌, length, ◌==◌, Option, Some, None, if◌then◌else◌, filter, find, map, take_while, drop, unwrap_or}
 use Rattle.std.specs.List.{prefix_len}
 use Rattle.std.specs.Option.{option_map_or, option_and_then}
 use Rattle.flow_types.specs.declared.plan.Plan.{Plan}
@@ -26,16 +26,21 @@ from_first x xs = drop (prefix_len (λ y. not (y == x)) xs) xs
 abbrev pub begun_at : ℕ → List ℕ → List ℕ
 begun_at x xs = from_first x xs ++ take_while (λ y. not (y == x)) xs
 
--- the rules walked over until one repeats: the loop from that one on
+-- the rules walked over until one repeats: the loop from that one on. Among rules left over each has such a maker, and there
+-- are steps enough, so that the path alone is never the answer.
 abbrev pub walked : Plan → List ℕ → ℕ → List ℕ → ℕ → List ℕ
 walked P left zero path r = path
 walked P left (suc steps) path r =
     if contains_number r path then from_first r path
     else option_map_or (walked P left steps (path ++ (r ∷ []))) (maker_before P left r) path
 
+-- the least rule of a loop; a loop has one
+abbrev pub least_rule : Plan → List ℕ → ℕ
+least_rule P loop = unwrap_or (find (λ r. contains_number r loop) (rule_numbers P)) 0
+
 -- the loop found from the first of the rules left over, begun at its least rule
 abbrev pub loop_among : Plan → List ℕ → Option (List ℕ)
 loop_among P [] = None
 loop_among P (r ∷ rs) =
     let loop : List ℕ = walked P (r ∷ rs) (length (r ∷ rs) + 1) [] r in
-    Some (begun_at (fold min r loop) loop)
+    Some (begun_at (least_rule P loop) loop)

@@ -23,6 +23,7 @@ pub fn plans_of_small_flows()
 pub fn faults_of_small_flows()
     ensures two_makers { plan_of (flow_of (raw_rule (raw "x" ∷ []) (raw "a" ∷ []) "" ∷ raw_rule (raw "x" ∷ []) (raw "b" ∷ []) "" ∷ [])) ≡ Err (faults.TwoMakers (codes "x") (rule_no 0) (rule_no 1)) }
     ensures cycle { plan_of (flow_of (raw_rule (raw "a" ∷ []) (raw "b" ∷ []) "" ∷ raw_rule (raw "b" ∷ []) (raw "a" ∷ []) "" ∷ [])) ≡ Err (faults.Cycle (rule_no 0 ∷ rule_no 1 ∷ [])) }
+    ensures least_first { plan_of (flow_of (raw_rule (raw "p" ∷ []) (raw "x" ∷ []) "" ∷ raw_rule (raw "y" ∷ []) (raw "x" ∷ []) "" ∷ raw_rule (raw "x" ∷ []) (raw "y" ∷ []) "" ∷ [])) ≡ Err (faults.Cycle (rule_no 1 ∷ rule_no 2 ∷ [])) }
     ensures own_input { plan_of (flow_of (raw_rule (renamed "a" "x" ∷ []) (raw "a" ∷ []) "" ∷ [])) ≡ Err (faults.Cycle (rule_no 0 ∷ [])) }
     ensures same_name { plan_of (flow_of (raw_rule (raw "a" ∷ []) (raw "a" ∷ []) "" ∷ [])) ≡ Err (faults.SameName (rule_no 0) (codes "a")) }
     ensures bad_name { plan_of (flow_of (raw_rule (raw "a" ∷ []) (raw "/etc/passwd" ∷ []) "" ∷ [])) ≡ Err (faults.BadName (rule_no 0) (codes "/etc/passwd")) }

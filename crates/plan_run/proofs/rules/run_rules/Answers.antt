@@ -28,7 +28,7 @@ returns-in-Err-clause-told g c = λ tells sources.
     let rule = rule_there P.rules number.0 (ordered_rule P i number.0 at_i) in
     stopped P g.F.Commands.gives g.F.Commands.may_fail (g.R.Runner.tells c.args.runner.now) (g.R.Runner.tells c.loop-number.runner) i number.0 rule.0
     (g.S.Site.files c.args.site.now) (g.S.Site.files c.loop-number.site) (g.S.Site.files c.run_rule.new.site) c.in-Err.halt c.requires.valid sources
-    c.loop-number.invariant.still_tells (c.loop-number.invariant.so_far tells sources) at_i rule.1 (c.in-Err.ensures.told tells rule.0 rule.1)
+    c.loop-number.invariant.still_tells (c.loop-number.invariant.so_far tells sources) at_i rule.1 (c.in-Err.ensures.others tells) (c.in-Err.ensures.told tells rule.0 rule.1)
 
 pub returns-in-Err-clause-others : goal.returns-in-Err-clause-others
 returns-in-Err-clause-others g c = λ tells name none.

@@ -26,3 +26,7 @@ returns-clause-bad_name c = refl
 pub returns-clause-nested : goal.returns-clause-nested
 unfolding is_utf8 chars encode
 returns-clause-nested c = refl
+
+pub returns-clause-least_first : goal.returns-clause-least_first
+unfolding is_utf8 chars encode
+returns-clause-least_first c = refl
