@@ -10,7 +10,8 @@ use Rattle.outside.specs.declared.fault.Fault.{Fault}
 use Rattle.outside.specs.declared.fault.Fault.TheVariants as faults
 use Rattle.plan_run.specs.declared.halt.Halt.{Halt}
 use Rattle.plan_run.specs.declared.halt.Halt.TheVariants as halts
-use Rattle.plan_run.specs.Course.{RunEnds, IsMadeName}
+use Rattle.plan_run.specs.Course.{due_contents, TellsJobs, IsCutShort, RunEnds, IsMadeName}
+use Rattle.master_run.proofs.Cuts.{unchanged_cut, whole_cut, before_cut}
 use Rattle.plan_run.specs.Sources.{missing_source}
 use Rattle.report.specs.declared.cause.Cause.{Cause}
 use Rattle.report.specs.declared.cause.Cause.TheVariants.{Complete, CommandFailed, Usage, FlowMissing, Unbuilt, SourceMissing, SiteFault, RunnerFault, SinkFault, Memory}
@@ -24,7 +25,7 @@ use Rattle.master_run.specs.Words.{flow_name_of}
 use Rattle.master_run.specs.PlainFlow.{pair_of}
 use Rattle.master_run.specs.PlainPlan.{plan_of_pair}
 use Rattle.master_run.specs.Asked.{and_then, named_flow, flow_text, flow_plan, planned, asked, sources_checked, with_sources}
-use Rattle.master_run.specs.Ends.{is_break, may_replace, RunIs, CallEnds, OthersStay, is_run_end, is_words_end, is_wrong_words, WordsEnd, Rose, FaultEnd, is_rule_failed, is_failure_end, FailureEnd, is_of_plan, is_completed, NoneRose, counts}
+use Rattle.master_run.specs.Ends.{may_replace, is_ended, CameToEnd, RunIs, CallEnds, OthersStay, is_run_end, is_words_end, is_wrong_words, WordsEnd, Rose, FaultEnd, is_rule_failed, is_failure_end, FailureEnd, is_of_plan, is_completed_or_no_memory, NoneRose, counts}
 use Rattle.master_run.specs.Stages.{Stage, WordsStage, is_refusal, SaysRefusal}
 use Rattle.master_run.specs.Runs.{MissingEnds, PerformEnds, halt_cause, run_cause, refusal_cause, printed_cause}
 
@@ -43,9 +44,9 @@ run_is : (P : Plan) (gives : Function) (may_fail : Job → Failure → Type 0) (
 run_is P gives may_fail tells files after rules before now (Ok done) count ends = (count, refl, ends)
 run_is P gives may_fail tells files after rules before now (Err (halts.CommandFailed r why)) count ends = ends
 run_is P gives may_fail tells files after rules before now (Err (halts.InputMissing file)) count ends = absurd ends
-run_is P gives may_fail tells files after rules before now (Err halts.Site) count ends = refl
-run_is P gives may_fail tells files after rules before now (Err halts.Runner) count ends = refl
-run_is P gives may_fail tells files after rules before now (Err halts.Memory) count ends = refl
+run_is P gives may_fail tells files after rules before now (Err halts.Site) count ends = ends
+run_is P gives may_fail tells files after rules before now (Err halts.Runner) count ends = ends
+run_is P gives may_fail tells files after rules before now (Err halts.Memory) count ends = ends
 
 missing_is : (P : Plan) (gives : Function) (may_fail : Job → Failure → Type 0) (tells : Job → Type 0) (file : ℕ) (files after : Files) (rules : ℕ) (before now : Counts) (done : Result (Unit {0}) Halt)
     → MissingEnds file files after done → CallEnds gives may_fail tells (sources_checked P (Some file)) files after (run_cause rules before now done)
@@ -96,11 +97,11 @@ all_stay (Ok P) files after same = λ name none. ap (λ (fs : Files). fs name) s
 all_stay (Err refusal) files after same = λ name. ap (λ (fs : Files). fs name) same
 
 site_ends : (gives : Function) (may_fail : Job → Failure → Type 0) (tells : Job → Type 0) (e : Result Plan Cause) (files after : Files) (b a : ℕ) → after ≡ files → CallEnds gives may_fail tells e files after (SiteFault b a)
-site_ends gives may_fail tells (Ok P) files after b a same = refl
+site_ends gives may_fail tells (Ok P) files after b a same = unchanged_cut P (due_contents P gives files) (TellsJobs P (due_contents P gives files) tells) files after same
 site_ends gives may_fail tells (Err refusal) files after b a same = (λ replaced. true_is_false replaced, same)
 
 memory_ends : (gives : Function) (may_fail : Job → Failure → Type 0) (tells : Job → Type 0) (e : Result Plan Cause) (files after : Files) → after ≡ files → CallEnds gives may_fail tells e files after Memory
-memory_ends gives may_fail tells (Ok P) files after same = refl
+memory_ends gives may_fail tells (Ok P) files after same = unchanged_cut P (due_contents P gives files) (TellsJobs P (due_contents P gives files) tells) files after same
 memory_ends gives may_fail tells (Err refusal) files after same = (λ replaced. true_is_false replaced, same)
 
 -- how the call ends without a plan
@@ -198,17 +199,55 @@ run_end_stays kinds.RunnerBroke ends = refl
 run_end_stays kinds.SinkBroke ends = refl
 run_end_stays kinds.NoMemory ends = false_is_true ends
 
+-- where the sink took no line, the run came to its end
+sink_run : (P : Plan) (gives : Function) (may_fail : Job → Failure → Type 0) (tells : Job → Type 0) (files after : Files) (cause : Cause)
+    → RunIs P gives may_fail tells files after cause → is_run_end (kind_of cause) ≡ true → CameToEnd P gives may_fail tells files after
+sink_run P gives may_fail tells files after (Complete rules collected) run ends = record { result = Ok tt; is_end = refl; ends = run.2 }
+sink_run P gives may_fail tells files after (CommandFailed r why) run ends = record { result = Err (halts.CommandFailed r why); is_end = refl; ends = run }
+sink_run P gives may_fail tells files after Usage run ends = absurd run
+sink_run P gives may_fail tells files after (FlowMissing name) run ends = absurd run
+sink_run P gives may_fail tells files after (Unbuilt line) run ends = absurd run
+sink_run P gives may_fail tells files after (SourceMissing file) run ends = absurd run
+sink_run P gives may_fail tells files after (SiteFault b a) run ends = false_is_true ends
+sink_run P gives may_fail tells files after (RunnerFault b a) run ends = false_is_true ends
+sink_run P gives may_fail tells files after (SinkFault b a) run ends = false_is_true ends
+sink_run P gives may_fail tells files after Memory run ends = false_is_true ends
+
+cut_end : (P : Plan) (gives : Function) (may_fail : Job → Failure → Type 0) (tells : Job → Type 0) (files after : Files) (result : Result (Unit {0}) Halt)
+    → RunEnds P gives may_fail tells files after result → IsCutShort P (due_contents P gives files) (TellsJobs P (due_contents P gives files) tells) files after
+cut_end P gives may_fail tells files after (Ok done) ends = whole_cut P (due_contents P gives files) (TellsJobs P (due_contents P gives files) tells) files after ends
+cut_end P gives may_fail tells files after (Err (halts.CommandFailed r why)) ends =
+    before_cut P (due_contents P gives files) (TellsJobs P (due_contents P gives files) tells) ends.place files after ends.ran
+cut_end P gives may_fail tells files after (Err (halts.InputMissing file)) ends = absurd ends
+cut_end P gives may_fail tells files after (Err halts.Site) ends = ends
+cut_end P gives may_fail tells files after (Err halts.Runner) ends = before_cut P (due_contents P gives files) (TellsJobs P (due_contents P gives files) tells) ends.0 files after ends.1
+cut_end P gives may_fail tells files after (Err halts.Memory) ends = ends
+
+-- however a run ended, what came before some place of the order stands
+cut_run : (P : Plan) (gives : Function) (may_fail : Job → Failure → Type 0) (tells : Job → Type 0) (files after : Files) (cause : Cause)
+    → RunIs P gives may_fail tells files after cause → IsCutShort P (due_contents P gives files) (TellsJobs P (due_contents P gives files) tells) files after
+cut_run P gives may_fail tells files after (Complete rules collected) run = cut_end P gives may_fail tells files after (Ok tt) run.2
+cut_run P gives may_fail tells files after (CommandFailed r why) run = cut_end P gives may_fail tells files after (Err (halts.CommandFailed r why)) run
+cut_run P gives may_fail tells files after Usage run = absurd run
+cut_run P gives may_fail tells files after (FlowMissing name) run = absurd run
+cut_run P gives may_fail tells files after (Unbuilt line) run = absurd run
+cut_run P gives may_fail tells files after (SourceMissing file) run = absurd run
+cut_run P gives may_fail tells files after (SiteFault b a) run = run
+cut_run P gives may_fail tells files after (RunnerFault b a) run = cut_end P gives may_fail tells files after (Err halts.Runner) run
+cut_run P gives may_fail tells files after (SinkFault b a) run = cut_end P gives may_fail tells files after run.result run.ends
+cut_run P gives may_fail tells files after Memory run = run
+
 sink_ends : (gives : Function) (may_fail : Job → Failure → Type 0) (tells : Job → Type 0) (e : Result Plan Cause) (files after : Files) (cause : Cause) (b a : ℕ) (ends : Bool)
     → is_run_end (kind_of cause) ≡ ends → RefusedEarly e → CallEnds gives may_fail tells e files after cause
     → CallEnds gives may_fail tells e files after (if ends then SinkFault b a else cause)
 sink_ends gives may_fail tells e files after cause b a false is early call = call
-sink_ends gives may_fail tells (Ok P) files after cause b a true is early call = refl
+sink_ends gives may_fail tells (Ok P) files after cause b a true is early call = sink_run P gives may_fail tells files after cause call is
 sink_ends gives may_fail tells (Err refusal) files after cause b a true is early call =
     (λ _. true_is_false (sym is ∙ ap (λ c. is_run_end (kind_of c)) (call.0 (run_end_stays (kind_of cause) is)) ∙ early), call.1)
 
 memory_call : (gives : Function) (may_fail : Job → Failure → Type 0) (tells : Job → Type 0) (e : Result Plan Cause) (files after : Files) (cause : Cause)
     → CallEnds gives may_fail tells e files after cause → CallEnds gives may_fail tells e files after Memory
-memory_call gives may_fail tells (Ok P) files after cause call = refl
+memory_call gives may_fail tells (Ok P) files after cause call = cut_run P gives may_fail tells files after cause call
 memory_call gives may_fail tells (Err refusal) files after cause call = (λ replaced. true_is_false replaced, call.1)
 
 -- printing leaves what is said of the end
@@ -263,20 +302,20 @@ printed_failed b a cause stands printed is other = ap (λ c. is_rule_failed (kin
 
 -- a run in which nothing failed is complete, or wants memory
 run_completes : (P : Plan) (gives : Function) (may_fail : Job → Failure → Type 0) (tells : Job → Type 0) (files after : Files) (before now : Counts) (cause : Cause)
-    → RunIs P gives may_fail tells files after cause → FaultEnd before now cause → NoneRose before now → is_rule_failed (kind_of cause) ≡ false → is_completed (kind_of cause) ≡ true
+    → RunIs P gives may_fail tells files after cause → FaultEnd before now cause → NoneRose before now → is_rule_failed (kind_of cause) ≡ false → is_completed_or_no_memory (kind_of cause) ≡ true
 run_completes P gives may_fail tells files after before now (Complete rules collected) run fault none failed = refl
 run_completes P gives may_fail tells files after before now (CommandFailed r why) run fault none failed = true_is_false failed
-run_completes P gives may_fail tells files after before now Usage run fault none failed = false_is_true run
-run_completes P gives may_fail tells files after before now (FlowMissing name) run fault none failed = false_is_true run
-run_completes P gives may_fail tells files after before now (Unbuilt line) run fault none failed = false_is_true run
-run_completes P gives may_fail tells files after before now (SourceMissing file) run fault none failed = false_is_true run
+run_completes P gives may_fail tells files after before now Usage run fault none failed = absurd run
+run_completes P gives may_fail tells files after before now (FlowMissing name) run fault none failed = absurd run
+run_completes P gives may_fail tells files after before now (Unbuilt line) run fault none failed = absurd run
+run_completes P gives may_fail tells files after before now (SourceMissing file) run fault none failed = absurd run
 run_completes P gives may_fail tells files after before now (SiteFault b a) run fault none failed = absurd (let wrong : ⊥ = omega (arith, fault.2, none.site) in wrong)
 run_completes P gives may_fail tells files after before now (RunnerFault b a) run fault none failed = absurd (let wrong : ⊥ = omega (arith, fault.2, none.runner) in wrong)
 run_completes P gives may_fail tells files after before now (SinkFault b a) run fault none failed = absurd (let wrong : ⊥ = omega (arith, fault.2, none.sink) in wrong)
 run_completes P gives may_fail tells files after before now Memory run fault none failed = refl
 
 pub completes : (e : Result Plan Cause) (gives : Function) (may_fail : Job → Failure → Type 0) (tells : Job → Type 0) (files after : Files) (before now : Counts) (cause : Cause)
-    → IsOk e → CallEnds gives may_fail tells e files after cause → FaultEnd before now cause → NoneRose before now → is_rule_failed (kind_of cause) ≡ false → is_completed (kind_of cause) ≡ true
+    → IsOk e → CallEnds gives may_fail tells e files after cause → FaultEnd before now cause → NoneRose before now → is_rule_failed (kind_of cause) ≡ false → is_completed_or_no_memory (kind_of cause) ≡ true
 completes (Ok P) gives may_fail tells files after before now cause ok call fault none failed = run_completes P gives may_fail tells files after before now cause call fault none failed
 completes (Err refusal) gives may_fail tells files after before now cause ok call fault none failed = false_is_true ok
 

@@ -1,27 +1,20 @@
 -- What the end of a call means.
-use Rattle.std.specs.Prelude.{◌≡◌, ℕ, ◌<◌, Bool, true, false, List, ◌++◌, length, take, Option, Some, None, Result, Ok, Err, IsTrue, IsFalse}
+use Rattle.std.specs.Prelude.{◌≡◌, ℕ, ◌+◌, ◌<◌, ◌≤◌, Bool, true, false, List, ◌++◌, length, take, Option, Some, None, Result, Ok, Err, IsTrue, IsFalse}
 use Rattle.flow_types.specs.declared.plan.Plan.{Plan}
 use Rattle.flow_types.specs.declared.job.Job.{Job}
 use Rattle.flow_types.specs.declared.job.Failure.{Failure}
 use Rattle.flow_types.specs.Serial.{Function, serial_order}
 use Rattle.outside.specs.Files.{Files}
+use Rattle.plan_run.specs.declared.halt.Halt.{Halt}
 use Rattle.plan_run.specs.declared.halt.Halt.TheVariants as halts
 use Rattle.plan_run.specs.Course.{RunEnds, IsMadeName}
 use Rattle.report.specs.declared.cause.Cause.{Cause}
-use Rattle.report.specs.declared.cause.Cause.TheVariants.{Complete, CommandFailed, FlowMissing, SiteFault, RunnerFault, SinkFault}
+use Rattle.report.specs.declared.cause.Cause.TheVariants.{Complete, CommandFailed, FlowMissing, SiteFault, RunnerFault, SinkFault, Memory}
 use Rattle.report.specs.declared.cause.Kind.{Kind}
 use Rattle.report.specs.declared.cause.Kind.TheVariants.{Completed, RuleFailed, WrongWords, WrongSource, SiteBroke, RunnerBroke, SinkBroke, NoMemory}
 use Rattle.report.specs.Causes.{kind_of}
 use Rattle.report.specs.Lines.{line_of}
 use Rattle.master_run.specs.declared.counts.Counts.{Counts}
-
--- a fault of an object, or want of memory
-abbrev pub is_break : Kind → Bool
-is_break SiteBroke = true
-is_break RunnerBroke = true
-is_break SinkBroke = true
-is_break NoMemory = true
-is_break _ = false
 
 -- what may come in the place of a refusal
 abbrev pub may_replace : Kind → Bool
@@ -29,12 +22,28 @@ may_replace SiteBroke = true
 may_replace NoMemory = true
 may_replace _ = false
 
--- How the call ends whose plan was run.
+-- a run that came to its end: all rules ran, or a command failed
+abbrev pub is_ended : Result (Unit {0}) Halt → Bool
+is_ended (Ok done) = true
+is_ended (Err (halts.CommandFailed r why)) = true
+is_ended (Err _) = false
+
+-- The run came to its end, in one of these two ways.
+pub record CameToEnd (P : Plan) (gives : Function) (may_fail : Job → Failure → Type 0) (tells : Job → Type 0) (before after : Files) : Type 0 where
+  pub result : Result (Unit {0}) Halt
+  pub is_end : IsTrue (is_ended result)
+  pub ends : RunEnds P gives may_fail tells before after result
+
+-- How the call ends whose plan was run. Where the sink didn't take the line, the run came to its end before.
 abbrev pub RunIs : Plan → Function → (Job → Failure → Type 0) → (Job → Type 0) → Files → Files → Cause → Type 0
 RunIs P gives may_fail tells before after (Complete rules collected) =
     (rules ≡ length P.rules) × (collected ≡ 0) × RunEnds P gives may_fail tells before after (Ok tt)
 RunIs P gives may_fail tells before after (CommandFailed r why) = RunEnds P gives may_fail tells before after (Err (halts.CommandFailed r why))
-RunIs P gives may_fail tells before after cause = IsTrue (is_break (kind_of cause))
+RunIs P gives may_fail tells before after (SiteFault old new) = RunEnds P gives may_fail tells before after (Err halts.Site)
+RunIs P gives may_fail tells before after (RunnerFault old new) = RunEnds P gives may_fail tells before after (Err halts.Runner)
+RunIs P gives may_fail tells before after (SinkFault old new) = CameToEnd P gives may_fail tells before after
+RunIs P gives may_fail tells before after Memory = RunEnds P gives may_fail tells before after (Err halts.Memory)
+RunIs P gives may_fail tells before after _ = ⊥
 
 -- How a call ends of which this was asked: by the refusal, with all files as before, where one is owed; else as the plan's
 -- run may end.
@@ -91,10 +100,11 @@ is_failure_end SinkBroke = true
 is_failure_end NoMemory = true
 is_failure_end _ = false
 
--- A failed command ends the call so, and nothing else does.
+-- A failed command ends the call so, nothing else does, and no second command fails.
 pub record FailureEnd (before after : ℕ) (cause : Cause) : Type 0 where
-  pub only : IsTrue (is_rule_failed (kind_of cause)) → before < after
+  pub only : IsTrue (is_rule_failed (kind_of cause)) → after ≡ before + 1
   pub always : before < after → IsTrue (is_failure_end (kind_of cause))
+  pub once : after ≤ before + 1
 
 -- a cause whose line names files of the plan
 abbrev pub is_of_plan : Kind → Bool
@@ -107,25 +117,28 @@ is_no_memory NoMemory = true
 is_no_memory _ = false
 
 -- What was printed over this plan: the line of the cause or that of want of memory, whole unless the sink's count rose or memory
--- was wanting, and then that of the cause that stands.
+-- was wanting, and then that of the cause that stands. The end of a run stands only where its line was printed whole.
 pub record Told (P : Plan) (count_before count_after : ℕ) (old new : List ℕ) (cause stands : Cause) : Type 0 where
   pub told : Cause
   pub is_own : IsTrue (is_of_plan (kind_of told)) → told ≡ cause
   pub whole : count_after ≡ count_before → IsFalse (is_no_memory (kind_of stands)) → (told ≡ stands) × (new ≡ old ++ line_of P told)
+  pub of_end : IsTrue (is_run_end (kind_of stands)) → (told ≡ stands) × (new ≡ old ++ line_of P told)
   pub part : (n : ℕ) × (new ≡ old ++ take n (line_of P told))
 
--- What was printed: the line of a cause, whole unless the sink's count rose or memory was wanting, and then the call's own.
+-- What was printed: the line of a cause, whole unless the sink's count rose or memory was wanting, and then the call's own. The
+-- end of a run is answered only where its line was printed whole.
 pub record Prints (is_planned : Plan → Type 0) (count_before count_after : ℕ) (old new : List ℕ) (cause : Cause) : Type 0 where
   pub plan : Plan
   pub told : Cause
   pub is_read : IsTrue (is_of_plan (kind_of told)) → is_planned plan
   pub whole : count_after ≡ count_before → IsFalse (is_no_memory (kind_of cause)) → (told ≡ cause) × (new ≡ old ++ line_of plan told)
+  pub of_end : IsTrue (is_run_end (kind_of cause)) → (told ≡ cause) × (new ≡ old ++ line_of plan told)
   pub part : (n : ℕ) × (new ≡ old ++ take n (line_of plan told))
 
-abbrev pub is_completed : Kind → Bool
-is_completed Completed = true
-is_completed NoMemory = true
-is_completed _ = false
+abbrev pub is_completed_or_no_memory : Kind → Bool
+is_completed_or_no_memory Completed = true
+is_completed_or_no_memory NoMemory = true
+is_completed_or_no_memory _ = false
 
 abbrev pub counts : ℕ → ℕ → ℕ → Counts
 counts site runner sink = record { site = site; runner = runner; sink = sink }

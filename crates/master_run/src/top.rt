@@ -3,7 +3,7 @@ ghost use Rattle.std.specs.Prelude.{◌≡◌, ◌≤◌, [], Some, Ok, Result, 
 ghost use Rattle.flow_types.specs.declared.plan.Plan.{Plan as PlanValue};
 ghost use Rattle.report.specs.Causes.{kind_of, status_of};
 ghost use Rattle.master_run.specs.Asked.{asked, planned};
-ghost use Rattle.master_run.specs.Ends.{CallEnds, OthersStay, WordsEnd, FaultEnd, FailureEnd, Prints, NoneRose, is_of_plan, is_completed, is_rule_failed, counts};
+ghost use Rattle.master_run.specs.Ends.{CallEnds, OthersStay, WordsEnd, FaultEnd, FailureEnd, Prints, NoneRose, is_of_plan, is_completed_or_no_memory, is_rule_failed, counts};
 ghost use Rattle.master_run.specs.Words.{flow_name_of};
 ghost use Rattle.std.specs.Prelude.{IsFalse};
 
@@ -87,7 +87,7 @@ fn follow<F: Commands, S: Site, R: Runner<F>>(
     }
 }
 
-/// Reads the flow that the words name, runs its rules one after the other and prints one line about how that ended.
+/// Reads the flow that the words name, runs its rules in the order of the serial run and prints one line about how that ended.
 pub fn makeflow_top<F: Commands, S: Site, R: Runner<F>, O: Sink>(
     alloc: Global,
     words: &[String],
@@ -113,17 +113,18 @@ pub fn makeflow_top<F: Commands, S: Site, R: Runner<F>, O: Sink>(
     ensures faults { FaultEnd (counts (S.count site) (R.count runner.old) (O.count out.old))
         (counts (S.count result.site) (R.count runner.new) (O.count out.new)) result.cause }
 
-    // CommandFailed exactly where the runner answered that a command failed.
+    // CommandFailed exactly where the runner answered that a command failed, which it does once at most.
     ensures failures { FailureEnd (R.failures runner.old) (R.failures runner.new) result.cause }
 
-    // Where the sink tells its bytes, they grew by the cause's line.
+    // Where the sink tells its bytes, they grew by the cause's line, whole unless the sink's count rose or memory was wanting, and
+    // then by a first part of a line. Complete and CommandFailed are answered only where their line was printed whole.
     ensures text { O.tells → Prints (λ plan. S.tells → planned (map string_bytes words.now) (S.files site) ≡ Ok plan)
         (O.count out.old) (O.count out.new) (O.bytes out.old) (O.bytes out.new) result.cause }
 
     // What can be run is run: over a sure runner and with no count rising it ends Complete or wants memory.
     ensures completes { S.tells → R.sure runner.old → IsOk (asked (map string_bytes words.now) (S.files site))
         → NoneRose (counts (S.count site) (R.count runner.old) (O.count out.old)) (counts (S.count result.site) (R.count runner.new) (O.count out.new))
-        → IsTrue (is_completed (kind_of result.cause)) }
+        → IsTrue (is_completed_or_no_memory (kind_of result.cause)) }
 {
     let mut site = site;
     let course = follow(alloc, words, &mut site, runner);

@@ -11,6 +11,7 @@ returns-in-Err-clause-told g c = λ tells. record {
   told = Memory;
   is_own = λ own. true_is_false (let wrong : false ≡ true = own in cc);
   whole = λ same some. true_is_false some;
+  of_end = λ ends. true_is_false (let wrong : false ≡ true = ends in cc);
   part = (c.write.ensures.bytes tells).some;
 }
 

@@ -3,6 +3,7 @@ use Rattle.outside.specs.Files.{Files}
 use Rattle.plan_run.specs.Course.{HasSources, RunEnds}
 use Rattle.plan_run.specs.Sources.{missing_source, missing_from}
 use Rattle.master_run.specs.Runs.{PerformEnds}
+use Rattle.master_run.proofs.Cuts.{site_perform, memory_perform}
 use Rattle.master_run.proofs.StageSteps.{has_sources}
 use Rattle.master_run.proofs.running.perform.Goals as goal
 
@@ -17,3 +18,13 @@ returns-in-Ok-None-clause-told g c = λ tells.
     c.run_rules.ensures.told tells (subst (HasSources P) (sym same) (has_sources P files none)) in
     subst (λ (missing : Option ℕ). PerformEnds P g.F.Commands.gives g.F.Commands.may_fail (g.R.Runner.tells c.args.runner.now) missing files (g.S.Site.files c.run_rules.new.site) c.run_rules.result) (sym none)
     (subst (λ (before : Files). RunEnds P g.F.Commands.gives g.F.Commands.may_fail (g.R.Runner.tells c.args.runner.now) before (g.S.Site.files c.run_rules.new.site) c.run_rules.result) same ended)
+
+pub returns-in-Err-Failed-clause-told : goal.returns-in-Err-Failed-clause-told
+returns-in-Err-Failed-clause-told g c = λ tells.
+    site_perform c.args.plan.now g.F.Commands.gives g.F.Commands.may_fail (g.R.Runner.tells c.args.runner.now) (missing_source c.args.plan.now (g.S.Site.files c.args.site.now)) (g.S.Site.files c.args.site.now) (g.S.Site.files c.missing_source.new.site)
+      (c.missing_source.ensures.files tells)
+
+pub returns-clause-told : goal.returns-clause-told
+returns-clause-told g c = λ tells.
+    memory_perform c.args.plan.now g.F.Commands.gives g.F.Commands.may_fail (g.R.Runner.tells c.args.runner.now) (missing_source c.args.plan.now (g.S.Site.files c.args.site.now)) (g.S.Site.files c.args.site.now) (g.S.Site.files c.missing_source.new.site)
+      (c.missing_source.ensures.files tells)
