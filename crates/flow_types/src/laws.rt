@@ -7,7 +7,7 @@ pub fn names_are_fixed()
     ensures again { NamesGiveThemselves }
 {}
 
-/// The serial run of a valid plan is the one solution of its rules: it takes every rule, a made file has what its rule's
+/// The serial run of a valid plan is a solution of its rules: it takes every rule, a made file has what its rule's
 /// job gives over the run's own contents, and a source keeps its content.
 pub fn serial_run_is_fixed()
     ensures made { SerialIsFixed }

@@ -22,7 +22,7 @@ pub unchanged_cut : (P : Plan) (due : Contents) (told : Type 0) (files after : F
 unchanged_cut P due told files after same = record {
   place = 0;
   made = λ tell r f listed made. none_listed listed;
-  others = λ name none. ap (λ (fs : Files). fs name) same
+  others = λ name none. ap (λ (fs : Files). fs name) same;
 }
 
 -- all rules ran
@@ -31,9 +31,12 @@ whole_cut P due told files after ran = record {
   place = length (serial_order P);
   made = λ tell r f listed made. ran.made tell r f (ap (contains_number r) (sym (take_all (length (serial_order P)) (serial_order P) (omega arith))) ∙ listed) made;
   others = λ name none. ran.others name (λ its. none (record {
-    rule = its.rule; file = its.file;
+    rule = its.rule;
+    file = its.file;
     is_done = ap (contains_number its.rule) (take_all (length (serial_order P) + 1) (serial_order P) (omega arith)) ∙ its.is_done;
-    is_output = its.is_output; has_name = its.has_name }))
+    is_output = its.is_output;
+    has_name = its.has_name;
+  }));
 }
 
 listed_next : (x k : ℕ) (xs : List ℕ) → contains_number x (take k xs) ≡ true → contains_number x (take (suc k) xs) ≡ true
@@ -52,9 +55,12 @@ before_cut P due told place files after ran = record {
   place = place;
   made = ran.made;
   others = λ name none. ran.others name (λ its. none (record {
-    rule = its.rule; file = its.file;
+    rule = its.rule;
+    file = its.file;
     is_done = ap (λ n. contains_number its.rule (take n (serial_order P))) (add-one place) ∙ listed_next its.rule place (serial_order P) its.is_done;
-    is_output = its.is_output; has_name = its.has_name }))
+    is_output = its.is_output;
+    has_name = its.has_name;
+  }));
 }
 
 -- nothing was written where the site failed before the run, or memory was wanting

@@ -32,10 +32,10 @@ pub trait Runner<F: Commands>: Send + Drop {
     /// Each answer is Success or want of memory.
     ghost sure: { Self → Type 0 };
 
-    /// How often a call has failed.
+    /// A count that rises at each failure.
     ghost count: { Self → ℕ };
 
-    /// How often a command has failed.
+    /// A count that rises by one at each failed command.
     ghost failures: { Self → ℕ };
 
     /// Runs the job. `NotRun` is never answered. Each content of a success is within its output's bound, and together
@@ -50,7 +50,7 @@ pub trait Runner<F: Commands>: Send + Drop {
         ensures failures { CountsFailure (failures self.old) (failures self.new) result }
         ensures cause { HasCause (count self.old) (count self.new) result };
 
-    /// How often a call has failed.
+    /// The count of failures.
     fn faults(&self) -> u64
         ensures { result ≡ count self.now };
 }

@@ -13,7 +13,7 @@ pub trait Sink: Send + Drop {
     /// The bytes that it has taken.
     ghost bytes: { Self → List ℕ };
 
-    /// How often a call has failed.
+    /// A count that rises at each failure.
     ghost count: { Self → ℕ };
 
     /// Takes all bytes at Ok, some first of them at Failed, and none at Memory.
@@ -21,7 +21,7 @@ pub trait Sink: Send + Drop {
         ensures bytes { tells → Sends result text.now (bytes self.old) (bytes self.new) }
         ensures cause { HasCause (count self.old) (count self.new) result };
 
-    /// How often a call has failed.
+    /// The count of failures.
     fn faults(&self) -> u64
         ensures { result ≡ count self.now };
 }

@@ -14,7 +14,7 @@ pub trait Site: Send + Drop {
     /// What a read gives under each name.
     ghost files: { Self → Files };
 
-    /// How often a call has failed.
+    /// A count that rises at each failure.
     ghost count: { Self → ℕ };
 
     /// The length of the file in bytes, None where there is none.
@@ -54,7 +54,7 @@ pub trait Site: Send + Drop {
         ensures files { tells → Sets result name.now None (files self.old) (files self.new) }
         ensures cause { HasCause (count self.old) (count self.new) result };
 
-    /// How often a call has failed.
+    /// The count of failures.
     fn faults(&self) -> u64
         ensures { result ≡ count self.now };
 }

@@ -333,8 +333,8 @@ cut_short P due told k r before mid after valid ran is others = record {
   place = k;
   made = λ tell t f listed made. others (file_name P f) (not_its P k r t f valid is listed made) ∙ ran.made tell t f listed made;
   others = λ name none.
-    others name (λ its. none (record { rule = its.rule; file = its.file; is_done = ap (contains_number its.rule) (take_more (serial_order P) k r is) ∙ last_is its.rule (only_rule r its.rule its.is_done); is_output = its.is_output; has_name = its.has_name }))
-    ∙ ran.others name (λ made. none (record { rule = made.rule; file = made.file; is_done = ap (contains_number made.rule) (take_more (serial_order P) k r is) ∙ listed_earlier made.rule r (take k (serial_order P)) made.is_done; is_output = made.is_output; has_name = made.has_name }))
+      others name (λ its. none (record { rule = its.rule; file = its.file; is_done = ap (contains_number its.rule) (take_more (serial_order P) k r is) ∙ last_is its.rule (only_rule r its.rule its.is_done); is_output = its.is_output; has_name = its.has_name }))
+      ∙ ran.others name (λ made. none (record { rule = made.rule; file = made.file; is_done = ap (contains_number made.rule) (take_more (serial_order P) k r is) ∙ listed_earlier made.rule r (take k (serial_order P)) made.is_done; is_output = made.is_output; has_name = made.has_name }));
 }
   where
     last_is : (q : ℕ) → r ≡ q → contains_number q (take k (serial_order P) ++ r ∷ []) ≡ true

@@ -17,7 +17,7 @@ fn zeros(alloc: Global, size: u64) -> Result<Vec<u8>, Memory>
     }
 }
 
-/// The content of a file, or None where there is no such file. Two calls of the site.
+/// The content of a file, or None where there is no such file. At most two calls of the site.
 pub fn read_file<S: Site>(alloc: Global, site: &mut S, name: &Name) -> Result<Option<Bytes>, Fault>
     ensures content { IfOk result (λ content. S.tells → content ≡ S.files site.old name.now) }
     ensures files { S.tells → S.files site.new ≡ S.files site.old }

@@ -86,8 +86,8 @@ fn run_rule<F: Commands, S: Site, R: Runner<F>>(
     }
 }
 
-/// Runs the rules in the order of the serial run, and stops at the first that doesn't come to its end. For each rule: two
-/// calls of the site for each input and each output, and one of the runner.
+/// Runs the rules in the order of the serial run, and stops at the first that doesn't come to its end. For each rule: at
+/// most two calls of the site for each input and each output, and one of the runner.
 pub fn run_rules<F: Commands, S: Site, R: Runner<F>>(
     alloc: Global,
     plan: &Plan,

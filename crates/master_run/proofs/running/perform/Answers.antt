@@ -22,9 +22,9 @@ returns-in-Ok-None-clause-told g c = λ tells.
 pub returns-in-Err-Failed-clause-told : goal.returns-in-Err-Failed-clause-told
 returns-in-Err-Failed-clause-told g c = λ tells.
     site_perform c.args.plan.now g.F.Commands.gives g.F.Commands.may_fail (g.R.Runner.tells c.args.runner.now) (missing_source c.args.plan.now (g.S.Site.files c.args.site.now)) (g.S.Site.files c.args.site.now) (g.S.Site.files c.missing_source.new.site)
-      (c.missing_source.ensures.files tells)
+    (c.missing_source.ensures.files tells)
 
 pub returns-clause-told : goal.returns-clause-told
 returns-clause-told g c = λ tells.
     memory_perform c.args.plan.now g.F.Commands.gives g.F.Commands.may_fail (g.R.Runner.tells c.args.runner.now) (missing_source c.args.plan.now (g.S.Site.files c.args.site.now)) (g.S.Site.files c.args.site.now) (g.S.Site.files c.missing_source.new.site)
-      (c.missing_source.ensures.files tells)
+    (c.missing_source.ensures.files tells)

@@ -82,8 +82,8 @@ returns-in-Err-clause-failures g c =
     record {
       only = λ failed. absurd (let wrong : true ≡ false = sym (rw c.refusal_cause.ensures at failed) ∙ kind.1 in cc);
       always = λ lt. absurd (let wrong : ⊥ = omega (arith, lt) in wrong);
-    once = omega arith;
-  }
+      once = omega arith;
+    }
 
 pub returns-in-Err-clause-sure : goal.returns-in-Err-clause-sure
 returns-in-Err-clause-sure g c = λ sure.
