@@ -26,6 +26,7 @@ flow_text files name = ok_or (files name) (FlowMissing name)
 abbrev pub flow_plan : List ℕ → Result Plan Cause
 flow_plan text = ok_or (option_map plan_of_pair (pair_of text)) (Unbuilt 0)
 
+-- the plan, or its missing source
 abbrev pub sources_checked : Plan → Option ℕ → Result Plan Cause
 sources_checked P None = Ok P
 sources_checked P (Some file) = Err (SourceMissing (record { 0 = file }))

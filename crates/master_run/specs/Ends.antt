@@ -68,6 +68,7 @@ is_words_end WrongWords = true
 is_words_end NoMemory = true
 is_words_end _ = false
 
+-- whether words were wrong
 abbrev pub is_wrong_words : Kind → Bool
 is_wrong_words WrongWords = true
 is_wrong_words _ = false
@@ -89,6 +90,7 @@ FaultEnd before after (RunnerFault old new) = Rose old new before.runner after.r
 FaultEnd before after (SinkFault old new) = Rose old new before.sink after.sink
 FaultEnd before after cause = Unit {0}
 
+-- whether a command failed
 abbrev pub is_rule_failed : Kind → Bool
 is_rule_failed RuleFailed = true
 is_rule_failed _ = false
@@ -112,6 +114,7 @@ is_of_plan RuleFailed = true
 is_of_plan WrongSource = true
 is_of_plan _ = false
 
+-- whether memory was wanting
 abbrev pub is_no_memory : Kind → Bool
 is_no_memory NoMemory = true
 is_no_memory _ = false
@@ -135,11 +138,13 @@ pub record Prints (is_planned : Plan → Type 0) (count_before count_after : ℕ
   pub of_end : IsTrue (is_run_end (kind_of cause)) → (told ≡ cause) × (new ≡ old ++ line_of plan told)
   pub part : (n : ℕ) × (new ≡ old ++ take n (line_of plan told))
 
+-- the run is complete, or memory was wanting
 abbrev pub is_completed_or_no_memory : Kind → Bool
 is_completed_or_no_memory Completed = true
 is_completed_or_no_memory NoMemory = true
 is_completed_or_no_memory _ = false
 
+-- counts of these numbers
 abbrev pub counts : ℕ → ℕ → ℕ → Counts
 counts site runner sink = record { site = site; runner = runner; sink = sink }
 

@@ -47,6 +47,7 @@ abbrev pub is_other : List ℕ → Option (List ℕ) → Bool
 is_other made None = true
 is_other made (Some taken) = not (bytes_eq taken made)
 
+-- the pair of these parts, none where a file would be made from itself
 abbrev pub pair_with : List ℕ → Option (List ℕ) → List ℕ → Option PlainPair
 pair_with made taken command = if is_other made taken then Some (record { made = made; taken = taken; command = command }) else None
 

@@ -34,5 +34,6 @@ plan_from made (Some taken) command =
     then one_rule (port_to 0 taken ∷ []) (port_to 1 made) command (source_row taken ∷ made_row made ∷ [])
     else one_rule (port_to 1 taken ∷ []) (port_to 0 made) command (made_row made ∷ source_row taken ∷ [])
 
+-- the plan of one pair
 abbrev pub plan_of_pair : PlainPair → Plan
 plan_of_pair pair = plan_from pair.made pair.taken pair.command

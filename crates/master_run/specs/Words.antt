@@ -12,6 +12,7 @@ is_letter c = (nat_le 65 c && nat_le c 90) || (nat_le 97 c && nat_le c 122)
 abbrev pub is_plain_byte : ℕ → Bool
 is_plain_byte c = is_letter c || (nat_le 48 c && nat_le c 57) || (c == 46) || (c == 95) || (c == 45)
 
+-- whether a text begins with a letter
 abbrev pub begins_with_letter : List ℕ → Bool
 begins_with_letter [] = false
 begins_with_letter (c ∷ rest) = is_letter c

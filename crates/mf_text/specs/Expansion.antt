@@ -5,6 +5,7 @@ use Rattle.mf_text.specs.declared.fault.MakeFault.{MakeFault}
 use Rattle.mf_text.specs.declared.fault.MakeFault.TheVariants.{UnknownName, OpenParen, TooLarge}
 use Rattle.mf_text.specs.Names.{begins_name, continues_name, is_variable}
 
+-- A text's pieces, in order.
 pub data Piece : Type 0 where
   -- a byte that is no dollar
   plain : ℕ → Piece
@@ -51,6 +52,7 @@ pieces_from zero (b ∷ behind) =
 abbrev pub pieces : List ℕ → List Piece
 pieces text = pieces_from 0 text
 
+-- whether a piece lacks its closing mark
 abbrev pub is_unclosed : Piece → Bool
 is_unclosed unclosed = true
 is_unclosed _ = false

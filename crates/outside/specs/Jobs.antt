@@ -34,6 +34,7 @@ IsHonest given may_fail (Success contents) = contents ≡ given
 IsHonest given may_fail (Failed why) = may_fail why
 IsHonest given may_fail NotRun = ⊥
 
+-- the command ran to its end with status 0 and left what was wanted
 abbrev pub IsSuccess : Outcome → Type 0
 IsSuccess (Success contents) = Unit {0}
 IsSuccess (Failed why) = ⊥

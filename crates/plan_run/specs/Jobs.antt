@@ -17,6 +17,7 @@ use Rattle.plan_run.specs.Placed.{file_name, contents_in}
 abbrev pub PortsIn : ℕ → List Port → Type 0
 PortsIn files ports = All (λ port. port.file.0 < files) ports
 
+-- what is wanted at a port: its remote name and its file's bound
 abbrev pub want_for : Plan → Port → Want
 want_for P port = record { remote = port.remote; bound = bound_of P port.file.0 }
 

@@ -28,6 +28,7 @@ raw_rule outputs inputs command = record {
   env = [];
 }
 
+-- a flow of these rules alone
 abbrev pub flow_of : List RawRule → RawFlow
 flow_of rules = record { rules = rules; keep = []; bounds = [] }
 

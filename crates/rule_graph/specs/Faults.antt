@@ -27,12 +27,14 @@ first_said says (x ∷ xs) = or_else (says x) (first_said says xs)
 abbrev pub over_rules : (ℕ → RawRule → Option GraphFault) → RawFlow → Option GraphFault
 over_rules says flow = first_said (λ numbered. says numbered.0 numbered.1) (enumerate_from 0 flow.rules)
 
+-- a rule with more inputs or outputs than it may have
 abbrev pub too_many_ports : ℕ → RawRule → Option GraphFault
 too_many_ports r rule =
     if nat_lt most_inputs (length (raw_inputs rule)) then Some (faults.TooMany most_inputs)
     else if nat_lt most_outputs (length rule.outputs) then Some (faults.TooMany most_outputs)
     else None
 
+-- a flow past a limit: its rules, then its files, then the ports of a rule
 abbrev pub too_many : RawFlow → Option GraphFault
 too_many flow =
     if nat_lt most_rules (length flow.rules) then Some (faults.TooMany most_rules)
@@ -43,9 +45,11 @@ too_many flow =
 abbrev pub texts_of : RawRule → List (List ℕ)
 texts_of rule = flat_map (λ file. file.local ∷ remote_text file ∷ []) (rule.outputs ++ rule.inputs)
 
+-- a rule with a text that is no name
 abbrev pub bad_name : ℕ → RawRule → Option GraphFault
 bad_name r rule = option_map_or (λ text. Some (faults.BadName (rule_no r) text)) (find (λ text. is_none (name_of text)) (texts_of rule)) None
 
+-- a rule that makes nothing
 abbrev pub no_output : ℕ → RawRule → Option GraphFault
 no_output r rule = if length rule.outputs == 0 then Some (faults.NoOutput (rule_no r)) else None
 
@@ -58,6 +62,7 @@ first_repeat seen (name ∷ names) = if list_any (bytes_eq name) seen then Some 
 abbrev pub remote_names : RawRule → List (List ℕ)
 remote_names rule = map (λ port. port.remote) (raw_ports rule)
 
+-- a rule of which two ports have one remote name
 abbrev pub same_name : ℕ → RawRule → Option GraphFault
 same_name r rule = option_map_or (λ name. Some (faults.SameName (rule_no r) name)) (first_repeat [] (remote_names rule)) None
 
@@ -85,6 +90,7 @@ second_maker (making ∷ more) =
     or_else (option_map_or (λ second. Some (faults.TwoMakers making.name (rule_no making.maker) (rule_no second.maker))) (find (λ second. bytes_eq second.name making.name) more) None)
     (second_maker more)
 
+-- a loop among the rules that a serial run leaves over
 abbrev pub cycle : Plan → Option GraphFault
 cycle P = option_map_or (λ loop. Some (faults.Cycle (map rule_no loop))) (loop_among P (left_over P)) None
 

@@ -17,6 +17,7 @@ use Rattle.flow_types.specs.declared.plan.Port.{Port}
 use Rattle.flow_types.specs.Names.{name_of, form_of}
 use Rattle.flow_types.specs.Plans.{most_bytes}
 
+-- a rule's number
 abbrev pub rule_no : ℕ → RuleNo
 rule_no r = record { 0 = r }
 
@@ -25,6 +26,7 @@ pub record RawPort : Type 0 where
   pub local : List ℕ
   pub remote : List ℕ
 
+-- a file's remote text, its own where it has none
 abbrev pub remote_text : RawFile → List ℕ
 remote_text file = unwrap_or file.remote file.local
 
@@ -32,6 +34,7 @@ remote_text file = unwrap_or file.remote file.local
 abbrev pub raw_port : RawFile → RawPort
 raw_port file = record { local = form_of file.local; remote = form_of (remote_text file) }
 
+-- one file under one remote name
 abbrev pub is_same_port : RawPort → RawPort → Bool
 is_same_port a b = bytes_eq a.local b.local && bytes_eq a.remote b.remote
 
@@ -40,6 +43,7 @@ abbrev pub each_once : List RawPort → List RawPort
 each_once [] = []
 each_once (port ∷ ports) = port ∷ filter (λ other. not (is_same_port port other)) (each_once ports)
 
+-- a rule's outputs, as many as it states
 abbrev pub raw_outputs : RawRule → List RawPort
 raw_outputs rule = map raw_port rule.outputs
 
@@ -47,6 +51,7 @@ raw_outputs rule = map raw_port rule.outputs
 abbrev pub raw_inputs : RawRule → List RawPort
 raw_inputs rule = each_once (map raw_port rule.inputs)
 
+-- outputs first
 abbrev pub raw_ports : RawRule → List RawPort
 raw_ports rule = raw_outputs rule ++ raw_inputs rule
 
@@ -74,9 +79,11 @@ has_local name ports = list_any (λ port. bytes_eq name port.local) ports
 abbrev pub raw_maker : RawFlow → List ℕ → Option ℕ
 raw_maker flow name = position (λ rule. has_local name (raw_outputs rule)) flow.rules
 
+-- whether a rule takes in the file of this name
 abbrev pub is_taken : RawFlow → List ℕ → Bool
 is_taken flow name = list_any (λ rule. has_local name (raw_inputs rule)) flow.rules
 
+-- whether a flow names this file kept
 abbrev pub is_named_kept : RawFlow → List ℕ → Bool
 is_named_kept flow name = list_any (is_text_of name) flow.keep
 
@@ -85,9 +92,11 @@ abbrev pub row_for : RawFlow → List ℕ → Option ℕ → FileRow
 row_for flow name None = record { name = name; maker = None; kept = false; bound = most_bytes }
 row_for flow name (Some r) = record { name = name; maker = Some (rule_no r); kept = is_named_kept flow name || not (is_taken flow name); bound = stated_bound flow name }
 
+-- a port by its file's number
 abbrev pub port_for : List (List ℕ) → RawPort → Port
 port_for names port = record { file = record { 0 = number_of names port.local }; remote = port.remote }
 
+-- a rule of the plan; its bound is the sum of its outputs' bounds
 abbrev pub rule_for : RawFlow → List (List ℕ) → RawRule → Rule
 rule_for flow names rule = record {
   inputs = map (port_for names) (raw_inputs rule);

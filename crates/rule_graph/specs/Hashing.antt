@@ -16,9 +16,11 @@ Adds old new bytes = (message : List ℕ) → Holds256 old message → Holds256 
 abbrev pub IsCountable : {A : Type 0} → List A → Type 0
 IsCountable items = length items < 2 ^ 32
 
+-- a pair whose texts have lengths that fit a u32
 abbrev pub IsPairCountable : Pair → Type 0
 IsPairCountable pair = IsCountable pair.name × IsCountable pair.value
 
+-- a port whose remote name has such a length
 abbrev pub IsPortCountable : Port → Type 0
 IsPortCountable port = IsCountable port.remote
 
@@ -32,5 +34,6 @@ pub record IsRuleCountable (rule : Rule) : Type 0 where
   pub outputs : IsCountable rule.outputs
   pub each_output : All IsPortCountable rule.outputs
 
+-- a file whose name has such a length
 abbrev pub IsFileCountable : FileRow → Type 0
 IsFileCountable row = IsCountable row.name

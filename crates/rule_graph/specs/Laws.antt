@@ -19,6 +19,7 @@ pub record Spelled : Type 0 where
   pub outputs : List Port
   pub bound : ℕ
 
+-- what the spelling of a plan has of a rule
 abbrev pub spelled_part : Rule → Spelled
 spelled_part rule =
     record { command = rule.command; env = rule.env; inputs = rule.inputs; outputs = rule.outputs; bound = rule.bound }
@@ -35,6 +36,7 @@ pub record IsSerialOrder (P : Plan) : Type 0 where
   pub once : IsTrue (all_pairs (λ r s. not (r == s)) (serial_order P))
   pub inside : IsTrue (list_all (λ r. nat_lt r (length P.rules)) (serial_order P))
 
+-- A valid plan's serial order has each rule once, after the makers of its inputs.
 abbrev pub SerialOrderIsAnOrder : Type 0
 SerialOrderIsAnOrder = (P : Plan) → IsValid P → IsSerialOrder P
 
@@ -42,5 +44,6 @@ SerialOrderIsAnOrder = (P : Plan) → IsValid P → IsSerialOrder P
 abbrev pub NothingLeftOverIsAnOrder : Type 0
 NothingLeftOverIsAnOrder = (P : Plan) → left_over P ≡ [] → IsSerialOrder P × (cycle P ≡ None)
 
+-- A serial run of a valid plan comes to every rule.
 abbrev pub ValidPlansLeaveNothingOver : Type 0
 ValidPlansLeaveNothingOver = (P : Plan) → IsValid P → left_over P ≡ []

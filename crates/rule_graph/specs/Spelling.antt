@@ -17,25 +17,31 @@ text_bytes text = to_be_bytes w32 (length text) ++ text
 abbrev pub counted_bytes : {A : Type 0} → (A → List ℕ) → List A → List ℕ
 counted_bytes spell items = to_be_bytes w32 (length items) ++ flat_map spell items
 
+-- name, then value
 abbrev pub pair_bytes : Pair → List ℕ
 pair_bytes pair = text_bytes pair.name ++ text_bytes pair.value
 
+-- the file's number in four bytes, then the remote name
 abbrev pub port_bytes : Port → List ℕ
 port_bytes port = to_be_bytes w32 port.file.0 ++ text_bytes port.remote
 
+-- command, environment, inputs, outputs, and the bound in eight bytes
 abbrev pub rule_bytes : Rule → List ℕ
 rule_bytes rule =
     text_bytes rule.command ++ counted_bytes pair_bytes rule.env ++ counted_bytes port_bytes rule.inputs
     ++ counted_bytes port_bytes rule.outputs ++ to_be_bytes w64 rule.bound
 
+-- 0 for a source; 1 and the rule's number in four bytes for a made file
 abbrev pub maker_bytes : Option RuleNo → List ℕ
 maker_bytes None = 0 ∷ []
 maker_bytes (Some rule) = 1 ∷ to_be_bytes w32 rule.0
 
+-- 1 for true, 0 for false
 abbrev pub flag_bytes : Bool → List ℕ
 flag_bytes true = 1 ∷ []
 flag_bytes false = 0 ∷ []
 
+-- name, maker, kept, and the bound in eight bytes
 abbrev pub file_bytes : FileRow → List ℕ
 file_bytes row = text_bytes row.name ++ maker_bytes row.maker ++ flag_bytes row.kept ++ to_be_bytes w64 row.bound
 
