@@ -119,21 +119,31 @@ abbrev pub is_no_memory : Kind → Bool
 is_no_memory NoMemory = true
 is_no_memory _ = false
 
+-- how a call ends whose own line may not have been printed
+abbrev pub is_unprinted : Kind → Bool
+is_unprinted SinkBroke = true
+is_unprinted NoMemory = true
+is_unprinted _ = false
+
 -- What was printed over this plan: the line of the cause or that of want of memory, whole unless the sink's count rose or memory
--- was wanting, and then that of the cause that stands. The end of a run stands only where its line was printed whole.
+-- was wanting, and then that of the cause that stands. The end of a run stands only where its line was printed whole, and unless the sink's fault or
+-- want of memory stands, no other line was begun.
 pub record Told (P : Plan) (count_before count_after : ℕ) (old new : List ℕ) (cause stands : Cause) : Type 0 where
   pub told : Cause
   pub is_own : IsTrue (is_of_plan (kind_of told)) → told ≡ cause
+  pub is_standing : IsFalse (is_unprinted (kind_of stands)) → told ≡ stands
   pub whole : count_after ≡ count_before → IsFalse (is_no_memory (kind_of stands)) → (told ≡ stands) × (new ≡ old ++ line_of P told)
   pub of_end : IsTrue (is_run_end (kind_of stands)) → (told ≡ stands) × (new ≡ old ++ line_of P told)
   pub part : (n : ℕ) × (new ≡ old ++ take n (line_of P told))
 
 -- What was printed: the line of a cause, whole unless the sink's count rose or memory was wanting, and then the call's own. The
--- end of a run is answered only where its line was printed whole.
+-- end of a run is answered only where its line was printed whole, and unless the call ends by the sink's fault or want of
+-- memory, no other line was begun.
 pub record Prints (is_planned : Plan → Type 0) (count_before count_after : ℕ) (old new : List ℕ) (cause : Cause) : Type 0 where
   pub plan : Plan
   pub told : Cause
   pub is_read : IsTrue (is_of_plan (kind_of told)) → is_planned plan
+  pub is_standing : IsFalse (is_unprinted (kind_of cause)) → told ≡ cause
   pub whole : count_after ≡ count_before → IsFalse (is_no_memory (kind_of cause)) → (told ≡ cause) × (new ≡ old ++ line_of plan told)
   pub of_end : IsTrue (is_run_end (kind_of cause)) → (told ≡ cause) × (new ≡ old ++ line_of plan told)
   pub part : (n : ℕ) × (new ≡ old ++ take n (line_of plan told))

@@ -46,7 +46,10 @@ fn counts_of<F: Commands, S: Site, R: Runner<F>>(site: &S, runner: &R) -> Counts
     }
 }
 
-fn no_plan(alloc: Global) -> Plan {
+fn no_plan(alloc: Global) -> Plan
+    ensures rules { result.rules ≡ [] }
+    ensures files { result.files ≡ [] }
+{
     Plan {
         rules: Rows::new(alloc),
         files: Rows::new(alloc),

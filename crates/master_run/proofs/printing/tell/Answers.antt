@@ -1,4 +1,4 @@
-use Rattle.std.proofs.Common.{◌≡◌, true, false, Result, Err, refl}
+use Rattle.std.proofs.Common.{◌≡◌, true, false, Err, refl}
 use Rattle.outside.specs.declared.fault.Fault.TheVariants as faults
 use Rattle.report.specs.declared.cause.Cause.TheVariants.{Memory}
 use Rattle.master_run.proofs.printing.tell.Goals as goal
@@ -10,6 +10,7 @@ pub returns-in-Err-clause-told : goal.returns-in-Err-clause-told
 returns-in-Err-clause-told g c = λ tells. record {
   told = Memory;
   is_own = λ own. true_is_false (let wrong : false ≡ true = own in cc);
+  is_standing = λ printed. true_is_false printed;
   whole = λ same some. true_is_false some;
   of_end = λ ends. true_is_false (let wrong : false ≡ true = ends in cc);
   part = (c.write.ensures.bytes tells).some;
