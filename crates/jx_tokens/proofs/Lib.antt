@@ -1,0 +1,4 @@
+mod Held
+mod Quotes
+mod Fronts
+mod Scanned
