@@ -1,4 +1,5 @@
 pub mod Causes
 pub mod Files
+pub mod Disk
 pub mod Jobs
 pub mod Sent
