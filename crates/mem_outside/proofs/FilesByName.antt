@@ -11,7 +11,7 @@ use Rattle.std.specs.Map.{KeepsOthers, IsKeyTest, AreApart, lookup}
 use Rattle.std.specs.BTreeMap.{BTreeMap, UpdatesBy, is_at}
 use Rattle.std.specs.declared.alloc.Global.{Global}
 use Rattle.outside.specs.declared.fault.Fault.{Fault}
-use Rattle.outside.specs.Files.{Sets}
+use Rattle.outside.specs.Files.{Sets, Keeps}
 use Rattle.mem_outside.specs.Entries.{files_in, with_file}
 
 apart : (name other key : List ℕ) → bytes_eq name other ≡ false → is_eq (slice_cmp nat_cmp name key) ≡ true → is_eq (slice_cmp nat_cmp other key) ≡ false
@@ -65,4 +65,23 @@ changed_sets (Err e) name value old new ok err = record {
   done = tt;
   others = λ other differ. ap (λ (files : List ℕ → Option (List ℕ)). files other) err;
   refused = λ is. ap (λ (files : List ℕ → Option (List ℕ)). files name) err;
+}
+
+-- what stood there was set
+pub synced_same : {T : Type 0} (r : Result T Fault) (name : List ℕ) (old new : List ℕ → Option (List ℕ))
+    → OnOk r (new ≡ with_file name (old name) old) → OnErr r (new ≡ old) → new ≡ old
+synced_same (Ok x) name old new ok err = ok ∙ with_file-same old name (old name) refl
+synced_same (Err e) name old new ok err = err
+
+-- a call that changed no file, as the trait says it
+pub same_keeps : {T : Type 0} (r : Result T Fault) (name : List ℕ) (old new : List ℕ → Option (List ℕ)) → new ≡ old → Keeps r name old new
+same_keeps (Ok x) name old new same = record {
+  done = ap (λ (files : List ℕ → Option (List ℕ)). files name) same;
+  others = λ other differ. ap (λ (files : List ℕ → Option (List ℕ)). files other) same;
+  refused = λ never. absurd (cc);
+}
+same_keeps (Err e) name old new same = record {
+  done = tt;
+  others = λ other differ. ap (λ (files : List ℕ → Option (List ℕ)). files other) same;
+  refused = λ is. ap (λ (files : List ℕ → Option (List ℕ)). files name) same;
 }

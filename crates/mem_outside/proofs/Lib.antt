@@ -1,3 +1,5 @@
 pub mod FilesByName
+pub mod Copies
+pub mod Crashes
 pub mod EmptyContents
 pub mod Stops

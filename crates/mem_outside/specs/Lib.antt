@@ -1,5 +1,7 @@
 pub mod Calls
 pub mod Entries
+pub mod Steps
+pub mod StepLaws
 pub mod MemSite
 pub mod MemSink
 pub mod Blanks

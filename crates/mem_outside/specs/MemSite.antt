@@ -1,9 +1,14 @@
 -- What a site in memory is to contracts.
-use Rattle.std.specs.Prelude.{None}
+use Rattle.std.specs.Prelude.{◌≡◌, ℕ, List, [], ◌∷◌, ◌++◌, length, None, Result, OnOk, OnErr}
 use Rattle.mem_outside.specs.declared.mem_site.MemSite.{MemSite}
+use Rattle.mem_outside.specs.declared.step.Change.{Change}
+use Rattle.mem_outside.specs.declared.step.Step.{Step}
+use Rattle.outside.specs.Disk.{Outcomes}
 use Rattle.outside.specs.Files.{Files}
+use Rattle.outside.specs.declared.fault.Fault.{Fault}
 use Rattle.mem_outside.specs.Calls.{Calls, calls_in}
 use Rattle.mem_outside.specs.Entries.{files_in}
+use Rattle.mem_outside.specs.Steps.{leaves, images}
 
 -- its files
 abbrev pub files_of : MemSite → Files
@@ -13,6 +18,37 @@ files_of site = files_in site.entries
 abbrev pub calls_of : MemSite → Calls
 calls_of site = calls_in site.calls
 
+-- the files that were on the disk before its first step
+abbrev pub start_of : MemSite → Files
+start_of site = files_in site.start
+
+-- what was done to its files since then
+abbrev pub steps_of : MemSite → List Step
+steps_of site = site.steps.items
+
+-- what a crash now may leave
+abbrev pub leaves_of : MemSite → Outcomes
+leaves_of site = leaves (start_of site) (steps_of site)
+
+-- its disk time: each step is a moment
+abbrev pub moment_of : MemSite → ℕ
+moment_of site = length (steps_of site)
+
+-- what a crash since a time might have left
+abbrev pub images_of : MemSite → ℕ → Files → Type 0
+images_of site = images (start_of site) (steps_of site)
+
 -- there is no file
 abbrev pub no_files : Files
 no_files name = None
+
+-- No step was done.
+pub record IsStill (old new : MemSite) : Type 0 where
+  pub start : start_of new ≡ start_of old
+  pub steps : steps_of new ≡ steps_of old
+
+-- The call was kept as the last step where it was done, under its number, and else nothing was.
+pub record IsKept (result : Result (Unit {0}) Fault) (name : List ℕ) (change : Change) (old new : MemSite) : Type 0 where
+  pub start : start_of new ≡ start_of old
+  pub done : OnOk result (steps_of new ≡ steps_of old ++ record { call = (calls_of old).made; name = name; change = change } ∷ [])
+  pub undone : OnErr result (steps_of new ≡ steps_of old)

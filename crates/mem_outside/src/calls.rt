@@ -37,6 +37,13 @@ impl CallList {
         }
     }
 
+    // How many calls were made: the number of the next one.
+    pub(crate) fn made(&self) -> u64
+        ensures { result ≡ (calls_in self.now).made }
+    {
+        self.made
+    }
+
     // Counts a call, which fails where it is to.
     pub(crate) fn begin(&mut self) -> Result<(), Fault>
         ensures call { IsCall (calls_in self.old) (calls_in self.new) (IsDue (calls_in self.old)) result }

@@ -7,6 +7,7 @@ mod entries;
 mod fitting;
 mod mem_sink;
 mod mem_site;
+mod step;
 mod table_runner;
 
 pub use blank::{Blank, BlankRunner};
