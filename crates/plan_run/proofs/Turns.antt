@@ -1,7 +1,10 @@
 -- What follows for a rule's turn from its inputs, its job and its outputs.
-use Rattle.std.proofs.Common.{◌≡◌, ◌≢◌, ℕ, suc, ◌<◌, List, [], ◌∷◌, length, map, get_or, Option, Some, None, Result, Ok, Err, IsTrue, true, false, ◌==◌, ◌||◌, refl, ap, sym, ◌∙◌, subst, slice_get}
+use Rattle.std.proofs.Common.{◌≡◌, ◌≢◌, ⊎_elim, Bool, ℕ, suc, ◌<◌, List, [], ◌∷◌, length, map, get_or, Option, Some, None, Result, Ok, Err, IsTrue, true, false, ◌++◌, ◌==◌, ◌||◌, refl, ap, sym, ◌∙◌, subst, slice_get}
 use Rattle.std.specs.Option.{option_map_or}
-use Rattle.std.proofs.lemmas.Bool.{or_left, eq-eqb}
+use Rattle.std.specs.Prelude.{nat_lt}
+use Rattle.std.proofs.lemmas.Bool.{or_left, eq-eqb, and_parts, ltb-true, cases_Bool}
+use Rattle.std.proofs.lemmas.List.Folds.{list_all-append, list_all_at}
+use Rattle.std.specs.List.{list_all}
 use Rattle.std.proofs.lemmas.List.{length-map}
 use Rattle.std.proofs.lemmas.Option.{slice_get_read}
 use Rattle.flow_types.specs.declared.plan.Plan.{Plan}
@@ -18,8 +21,9 @@ use Rattle.flow_types.specs.Serial.{Function, given_by}
 use Rattle.outside.specs.Files.{Files}
 use Rattle.outside.specs.Jobs.{AllFit, IsShaped, IsHonest, NamesOutput}
 use Rattle.plan_run.specs.Placed.{file_name, place_outputs}
-use Rattle.plan_run.specs.Jobs.{InputsAre, job_with, want_for, given_for}
+use Rattle.plan_run.specs.Jobs.{PortsIn, InputsAre, job_with, want_for, given_for}
 use Rattle.plan_run.specs.Course.{IsMadeName}
+use Rattle.plan_run.proofs.Names.{all_at}
 use Rattle.plan_run.specs.Steps.{job_now, RuleRan, RuleFailed}
 
 -- the rule that was read is the one of this number
@@ -82,3 +86,17 @@ no_output P r row name is none f listed named =
       is_output = ap (λ found. contains_number f (option_map_or (λ rule. files_of rule.outputs) found [])) is ∙ listed;
       has_name = named;
     })
+
+each_passes : {A : Type 0} (p : A → Bool) (xs : List A) (k : ℕ) (d : A) → list_all p xs ≡ true → k < length xs → p (get_or xs k d) ≡ true
+each_passes p xs k d all lt =
+    ⊎_elim (λ is. is) (λ other. absurd (let wrong : true ≡ false = sym all ∙ list_all_at p xs k d lt other in let never : ⊥ = cc in never)) (cases_Bool (p (get_or xs k d)))
+
+-- the outputs of a rule have files of the plan
+pub outputs_inside : (P : Plan) (r : ℕ) (row : Rule) → IsTrue (list_all (λ rule. list_all (λ port. nat_lt port.file.0 (length P.files)) (rule.inputs ++ rule.outputs)) P.rules)
+    → slice_get P.rules r ≡ Some row → PortsIn (length P.files) row.outputs
+outputs_inside P r row inside at_rule = λ k port lt.
+    let test = λ (port : Port). nat_lt port.file.0 (length P.files) in
+    let ports : list_all test (row.inputs ++ row.outputs) ≡ true = all_at (λ rule. list_all test (rule.inputs ++ rule.outputs)) P.rules r row inside at_rule in
+    let outputs : list_all test row.outputs ≡ true =
+    (and_parts (list_all test row.inputs) (list_all test row.outputs) (sym (list_all-append test row.inputs row.outputs) ∙ ports)).1 in
+    ltb-true (get_or row.outputs k port).file.0 (length P.files) (each_passes test row.outputs k port outputs lt)

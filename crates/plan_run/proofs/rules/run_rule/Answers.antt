@@ -11,8 +11,21 @@ use Rattle.outside.specs.Jobs.{IsShaped, IsHonest}
 use Rattle.plan_run.specs.Placed.{place_outputs}
 use Rattle.plan_run.specs.Jobs.{InputsAre}
 use Rattle.plan_run.specs.Steps.{RuleRan, RuleFailed}
-use Rattle.plan_run.proofs.Turns.{rule_at, same_rule, as_many_ports, turn_ran, turn_failed, no_output}
+use Rattle.plan_run.proofs.Turns.{rule_at, same_rule, as_many_ports, turn_ran, turn_failed, no_output, outputs_inside}
 use Rattle.plan_run.proofs.rules.run_rule.Goals as goal
+
+pub make_job-requires : goal.make_job-requires
+make_job-requires g c =
+    let row = c.index-as_slice-number.result in
+    let row_is : row ≡ get_or c.args.plan.now.rules c.args.number.0 row = rw c.as_slice.ensures at c.index-as_slice-number.is in
+    outputs_inside c.args.plan.now c.args.number.0 row c.requires.valid.ports_inside (rule_at c.args.plan.now c.args.number.0 row c.requires.inside row_is)
+
+pub write_outputs-requires-clause-ports : goal.write_outputs-requires-clause-ports
+write_outputs-requires-clause-ports g c κs within =
+    let row = c.index-as_slice-number.result in
+    let row_is : row ≡ get_or c.args.plan.now.rules c.args.number.0 row = rw c.as_slice.ensures at c.index-as_slice-number.is in
+    rw c.as_slice-in-Ok-Success.ensures
+    (outputs_inside c.args.plan.now c.args.number.0 row c.requires.valid.ports_inside (rule_at c.args.plan.now c.args.number.0 row c.requires.inside row_is))
 
 pub write_outputs-requires-clause-outs : goal.write_outputs-requires-clause-outs
 write_outputs-requires-clause-outs g c κs within =
