@@ -5,10 +5,9 @@ use Rattle.mem_outside.specs.declared.step.Change.{Change}
 use Rattle.mem_outside.specs.declared.step.Step.{Step}
 use Rattle.outside.specs.Disk.{Outcomes}
 use Rattle.outside.specs.Files.{Files}
-use Rattle.outside.specs.declared.fault.Fault.{Fault}
 use Rattle.mem_outside.specs.Calls.{Calls, calls_in}
 use Rattle.mem_outside.specs.Entries.{files_in}
-use Rattle.mem_outside.specs.Steps.{leaves, images}
+use Rattle.mem_outside.specs.Steps.{leaves, reads, synced, images, up_to}
 
 -- its files
 abbrev pub files_of : MemSite → Files
@@ -38,6 +37,22 @@ moment_of site = length (steps_of site)
 abbrev pub images_of : MemSite → ℕ → Files → Type 0
 images_of site = images (start_of site) (steps_of site)
 
+-- what a crash might have left when a call had ended
+abbrev pub leaves_at : ℕ → MemSite → Outcomes
+leaves_at call site = leaves (start_of site) (up_to call (steps_of site))
+
+-- the disk time when a call had ended
+abbrev pub moment_at : ℕ → MemSite → ℕ
+moment_at call site = length (up_to call (steps_of site))
+
+-- what reads gave when a call had ended
+abbrev pub reads_at : ℕ → MemSite → Files
+reads_at call site = reads (start_of site) (up_to call (steps_of site))
+
+-- what each file was when it was last synced by then
+abbrev pub synced_at : ℕ → MemSite → Files
+synced_at call site = synced (start_of site) (up_to call (steps_of site))
+
 -- there is no file
 abbrev pub no_files : Files
 no_files name = None
@@ -48,7 +63,7 @@ pub record IsStill (old new : MemSite) : Type 0 where
   pub steps : steps_of new ≡ steps_of old
 
 -- The call was kept as the last step where it was done, under its number, and else nothing was.
-pub record IsKept (result : Result (Unit {0}) Fault) (name : List ℕ) (change : Change) (old new : MemSite) : Type 0 where
+pub record IsKept {E : Type 0} (result : Result (Unit {0}) E) (name : List ℕ) (change : Change) (old new : MemSite) : Type 0 where
   pub start : start_of new ≡ start_of old
   pub done : OnOk result (steps_of new ≡ steps_of old ++ record { call = (calls_of old).made; name = name; change = change } ∷ [])
   pub undone : OnErr result (steps_of new ≡ steps_of old)

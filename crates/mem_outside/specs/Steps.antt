@@ -1,6 +1,6 @@
 -- What steps make of the files of a site in memory, and what a crash after them may leave.
-use Rattle.std.specs.Prelude.{◌≡◌, ◌⊎◌, ◌≤◌, ℕ, Bool, true, false, List, [], ◌∷◌, length, take, Option, Some, None, option_map, if◌then◌else◌, MatchBool, nat_le}
-use Rattle.std.specs.List.{take_while}
+use Rattle.std.specs.Prelude.{◌≡◌, ◌⊎◌, ◌≤◌, ℕ, Bool, true, false, List, [], ◌∷◌, length, take, Option, Some, None, option_map, if◌then◌else◌, MatchBool, nat_lt}
+use Rattle.std.specs.List.{before_first}
 use Rattle.std.specs.Str.{bytes_eq}
 use Rattle.outside.specs.Disk.{Outcomes, IsImage, IsTorn, IsShortened, IsRemoved}
 use Rattle.outside.specs.Files.{Files, content, written}
@@ -84,4 +84,4 @@ images start steps t image = (k : ℕ) × (t ≤ k) × (k ≤ length steps) × I
 
 -- the steps up to a call and with it
 abbrev pub up_to : ℕ → List Step → List Step
-up_to call steps = take_while (λ step. nat_le step.call call) steps
+up_to call steps = before_first (λ step. nat_lt call step.call) steps

@@ -63,6 +63,25 @@ pub(crate) fn copy(entries: &Entries) -> Result<Entries, AllocError>
     entries.clone()
 }
 
+// Puts what the one has under the name in the place of what the other has there.
+pub(crate) fn settle(
+    alloc: Global,
+    written: &Entries,
+    synced: &mut Entries,
+    name: &[u8],
+) -> Result<(), AllocError>
+    ensures { OnOk result (files_in synced.new
+        ≡ with_file name.now (files_in written.now name.now) (files_in synced.old)) }
+{
+    match file(written, name) {
+        Some(bytes) => put(alloc, synced, name, bytes),
+        None => {
+            remove(synced, name);
+            Ok(())
+        }
+    }
+}
+
 // Writes over the bytes of the file from `at`, or from their end where that comes first, and past their end. It makes the
 // file where there is none.
 fn write(

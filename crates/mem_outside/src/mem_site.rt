@@ -4,6 +4,7 @@ ghost use Rattle.mem_outside.specs.Entries.{files_in};
 ghost use Rattle.mem_outside.specs.Steps.{reads};
 
 mod files;
+mod image;
 mod site;
 
 use crate::calls::CallList;

@@ -151,6 +151,87 @@ fn the_call_of_that_number_fails_and_changes_nothing(rt: HostRuntime) -> Result<
     Ok(())
 }
 
+// What stands under two names.
+type Pair<'a> = (Option<&'a [u8]>, Option<&'a [u8]>);
+
+// A site to which these calls were made: at even numbers a size, at odd ones a change.
+fn changed_site(alloc: Global, f: &Name, g: &Name) -> Result<MemSite, Fault> {
+    let mut site = MemSite::new(alloc);
+    site.put(f, b"ab")?;
+    write_within(&mut site, f, 2, b"cd")?;
+    site.size(f)?;
+    site.sync(f)?;
+    write_within(&mut site, f, 0, b"X")?;
+    write_within(&mut site, g, 0, b"new")?;
+    site.size(f)?;
+    site.remove(f)?;
+    cut_within(&mut site, g, 1)?;
+    site.size(f)?;
+    site.sync(f)?;
+    Ok(site)
+}
+
+#[test]
+fn a_crash_leaves_what_was_synced_or_all_that_was_written(rt: HostRuntime) -> Result<(), Fail> {
+    let cases: [(u64, Pair, Pair); 10] = [
+        (0, (Some(b"ab"), None), (Some(b"ab"), None)),
+        (1, (Some(b"ab"), None), (Some(b"abcd"), None)),
+        (2, (Some(b"ab"), None), (Some(b"abcd"), None)),
+        (3, (Some(b"abcd"), None), (Some(b"abcd"), None)),
+        (5, (Some(b"abcd"), None), (Some(b"Xbcd"), None)),
+        (7, (Some(b"abcd"), None), (Some(b"Xbcd"), Some(b"new"))),
+        (9, (Some(b"abcd"), None), (None, Some(b"new"))),
+        (11, (Some(b"abcd"), None), (None, Some(b"n"))),
+        (13, (None, None), (None, Some(b"n"))),
+        (99, (None, None), (None, Some(b"n"))),
+    ];
+    let f = Name::of(rt.alloc(), b"f")?;
+    let g = Name::of(rt.alloc(), b"g")?;
+    let site = changed_site(rt.alloc(), &f, &g)?;
+    for (call, synced, written) in cases.iter() {
+        let least = site.image(rt.alloc(), *call, 0)?;
+        assert_eq!(rt; (least.get(b"f"), least.get(b"g")), *synced);
+        let most = site.image(rt.alloc(), *call, 1)?;
+        assert_eq!(rt; (most.get(b"f"), most.get(b"g")), *written);
+        assert_eq!(rt; most.faults(), 0);
+    }
+    Ok(())
+}
+
+#[test]
+fn after_a_crash_all_that_is_left_is_on_the_disk(rt: HostRuntime) -> Result<(), Fail> {
+    let name = Name::of(rt.alloc(), b"f")?;
+    let mut site = MemSite::new(rt.alloc());
+    write_within(&mut site, &name, 0, b"ab")?;
+    let mut left = site.image(rt.alloc(), 1, 1)?;
+    write_within(&mut left, &name, 2, b"cd")?;
+    assert_eq!(rt;
+        left.image(rt.alloc(), 1, 0)?.get(b"f"),
+        Some(b"ab".as_slice())
+    );
+    assert_eq!(rt;
+        left.image(rt.alloc(), 1, 1)?.get(b"f"),
+        Some(b"abcd".as_slice())
+    );
+    Ok(())
+}
+
+#[test]
+fn a_call_that_fails_leaves_the_images_as_they_were(rt: HostRuntime) -> Result<(), Fail> {
+    let name = Name::of(rt.alloc(), b"f")?;
+    let mut site = MemSite::new(rt.alloc());
+    site.fail_at(1)?;
+    site.fail_at(2)?;
+    assert_eq!(rt;
+        write_within(&mut site, &name, 0, b"ab"),
+        Err(Fault::Failed)
+    );
+    assert_eq!(rt; site.sync(&name), Err(Fault::Failed));
+    assert_eq!(rt; site.image(rt.alloc(), 2, 1)?.get(b"f"), None);
+    assert_eq!(rt; site.faults(), 2);
+    Ok(())
+}
+
 fn print<O: Sink>(sink: &mut O, text: &[u8]) -> Result<(), Fault> {
     sink.write(text)
 }

@@ -3,8 +3,9 @@ ghost use Rattle.std.specs.Prelude.{◌≡◌, ◌∷◌, ◌++◌, [], Some, On
 ghost use Rattle.outside.specs.Disk.{Elapses};
 ghost use Rattle.mem_outside.specs.Calls.{no_calls, with_failure};
 ghost use Rattle.mem_outside.specs.Entries.{with_file};
-ghost use Rattle.mem_outside.specs.MemSite.{files_of, calls_of, start_of, steps_of, leaves_of, moment_of, images_of, no_files, IsStill};
+ghost use Rattle.mem_outside.specs.MemSite.{files_of, calls_of, start_of, steps_of, leaves_of, moment_of, images_of, no_files, IsStill, IsKept};
 ghost use Rattle.mem_outside.specs.Steps.{value_after};
+ghost use Rattle.mem_outside.specs.declared.step.Change.TheVariants.{Put as PutChange};
 
 use super::MemSite;
 use crate::calls::CallList;
@@ -37,6 +38,7 @@ impl MemSite {
         ensures ok { OnOk result
             (files_of self.new ≡ with_file name.now (Some content.now) (files_of self.old)) }
         ensures err { OnErr result (files_of self.new ≡ files_of self.old) }
+        ensures kept { IsKept result name.now (PutChange content.now) self.old self.new }
         ensures calls { calls_of self.new ≡ calls_of self.old }
     {
         let copy = Bytes::of(self.alloc, content)?;
