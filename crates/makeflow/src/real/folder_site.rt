@@ -1,5 +1,5 @@
 //! The current folder.
-ghost use Rattle.std.specs.Prelude.{None};
+ghost use Rattle.std.specs.Prelude.{◌<◌, ◌-◌, ◌^◌, None};
 
 use super::counts::counted;
 use super::files;
@@ -36,7 +36,23 @@ impl<'a, R: Files + Sync> Site for FolderSite<'a, R> {
 
     ghost files = { λ s name. None };
 
+    ghost may_leave = { λ s name entry. ⊥ };
+
+    ghost moment = { λ s. 0 };
+
+    ghost images_since = { λ s t image. ⊥ };
+
     ghost count = { λ s. s.faults };
+
+    ghost ample = { λ s. s.faults < 2 ^ 64 - 1 };
+
+    ghost reads_image = { λ told. absurd told };
+
+    ghost counts_now = { λ told. absurd told };
+
+    ghost only_now = { λ told. absurd told };
+
+    ghost ample_below = { λ s is. is };
 
     fn size(&mut self, name: &Name) -> Result<Option<u64>, Fault> {
         let answer = path_of(name).and_then(|path| files::file_len(self.rt, path));
