@@ -39,7 +39,8 @@ impl MemSite {
         let Ok(Disk { written, synced }) = replay(alloc, &self.start, steps) else {
             return Err(Memory);
         };
-        if choice == 0 {
+        let is_least = choice == 0;
+        if is_least {
             return settled_site(alloc, synced);
         }
         settled_site(alloc, written)

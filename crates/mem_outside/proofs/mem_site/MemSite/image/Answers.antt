@@ -6,15 +6,15 @@ use Rattle.mem_outside.specs.Steps.{up_to}
 use Rattle.mem_outside.proofs.Replays.{has_image, has_image_since, synced_image}
 use Rattle.mem_outside.proofs.mem_site.MemSite.image.Goals as goal
 
-pub returns-then-choice-eq0-clause-image : goal.returns-then-choice-eq0-clause-image
-returns-then-choice-eq0-clause-image c =
+pub returns-then-is_least-clause-image : goal.returns-then-is_least-clause-image
+returns-then-is_least-clause-image c =
     let is : files_in c.in-Ok.field-0.synced ≡ synced_at c.args.call c.args.self.now = search rules in
     has_image c.settled_site.result (leaves_at c.args.call c.args.self.now) (files_in c.in-Ok.field-0.synced)
     (synced_image (start_of c.args.self.now) (up_to c.args.call (steps_of c.args.self.now)) (files_in c.in-Ok.field-0.synced) is) c.settled_site.ensures.files
 
-pub returns-then-choice-eq0-clause-since : goal.returns-then-choice-eq0-clause-since
-returns-then-choice-eq0-clause-since c =
-    has_image_since c.settled_site.result (start_of c.args.self.now) (steps_of c.args.self.now) c.args.call (returns-then-choice-eq0-clause-image c)
+pub returns-then-is_least-clause-since : goal.returns-then-is_least-clause-since
+returns-then-is_least-clause-since c =
+    has_image_since c.settled_site.result (start_of c.args.self.now) (steps_of c.args.self.now) c.args.call (returns-then-is_least-clause-image c)
 
 pub returns-clause-image : goal.returns-clause-image
 returns-clause-image c =
