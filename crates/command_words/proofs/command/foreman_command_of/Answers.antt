@@ -1,0 +1,9 @@
+use Rattle.std.proofs.Common.{◌∙◌}
+use Rattle.std.proofs.lemmas.Result.{IfOk-weaker}
+use Rattle.command_words.specs.Peers.{foreman_command}
+use Rattle.command_words.proofs.AppLemmas.{step}
+use Rattle.command_words.proofs.command.foreman_command_of.Goals as goal
+
+pub returns : goal.returns
+unfolding foreman_command
+returns c = IfOk-weaker c.with_place-2.result _ _ (λ r e. e ∙ step _ (c.in_ok-command-3.ensures ∙ step _ (c.in_ok-command-2.ensures ∙ step _ (c.in_ok-command.ensures ∙ step _ c.new-command.ensures.app)))) c.with_place-2.ensures

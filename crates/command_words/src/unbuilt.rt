@@ -1,0 +1,62 @@
+// Options that aren't built yet.
+ghost use Rattle.std.specs.Prelude.{◌≡◌};
+ghost use Rattle.command_words.specs.Found.{rows_in};
+ghost use Rattle.command_words.specs.Unbuilt.{asks_jx, asks_log, asks_collection, asks_generated, asks_workers, asks_unbuilt};
+
+use crate::values::{flag, has_value, is_given};
+use clap::ArgMatches;
+
+#[tactic(auto, unfolding(crate::specs::Unbuilt::asks_jx))]
+fn asks_jx(matches: &ArgMatches<'_>) -> bool
+    ensures { result ≡ asks_jx (rows_in matches.now) }
+{
+    flag(matches, "jx")
+}
+
+#[tactic(auto, unfolding(crate::specs::Unbuilt::asks_log))]
+fn asks_log(matches: &ArgMatches<'_>) -> bool
+    ensures { result ≡ asks_log (rows_in matches.now) }
+{
+    if is_given(matches, "r") || is_given(matches, "l") {
+        return true;
+    }
+    flag(matches, "c") || flag(matches, "print-log")
+}
+
+#[tactic(auto, unfolding(crate::specs::Unbuilt::asks_collection))]
+fn asks_collection(matches: &ArgMatches<'_>) -> bool
+    ensures { result ≡ asks_collection (rows_in matches.now) }
+{
+    if has_value(matches, "g", "ref_cnt") || has_value(matches, "g", "on_demand") {
+        return true;
+    }
+    is_given(matches, "storage-limit")
+}
+
+#[tactic(auto, unfolding(crate::specs::Unbuilt::asks_generated))]
+fn asks_generated(matches: &ArgMatches<'_>) -> bool
+    ensures { result ≡ asks_generated (rows_in matches.now) }
+{
+    is_given(matches, "generate")
+}
+
+#[tactic(auto, unfolding(crate::specs::Unbuilt::asks_workers))]
+fn asks_workers(matches: &ArgMatches<'_>) -> bool
+    ensures { result ≡ asks_workers (rows_in matches.now) }
+{
+    has_value(matches, "T", "wq")
+}
+
+/// Whether an option is given that isn't built yet.
+#[tactic(auto, unfolding(crate::specs::Unbuilt::asks_unbuilt))]
+pub fn asks_unbuilt(matches: &ArgMatches<'_>) -> bool
+    ensures { result ≡ asks_unbuilt (rows_in matches.now) }
+{
+    if asks_jx(matches) || asks_log(matches) {
+        return true;
+    }
+    if asks_collection(matches) || asks_generated(matches) {
+        return true;
+    }
+    asks_workers(matches)
+}
