@@ -1,11 +1,11 @@
 -- Which words are a command line of `makeflow`, and what they choose.
-use Rattle.std.specs.Prelude.{ℕ, ◌^◌, List, ◌++◌, Option, Some, None, option_map, option_and_then, codes, if◌then◌else◌}
+use Rattle.std.specs.Prelude.{ℕ, ◌^◌, List, ◌++◌, length, nat_le, Option, Some, None, option_map, option_and_then, codes, if◌then◌else◌}
 use Rattle.std.specs.Option.{option_map_or}
 use Rattle.std.specs.Str.{bytes_eq}
 use Rattle.clap.specs.Walk.{Row, Text, first_of}
 use Rattle.clap.specs.Simple.{matches_of}
 use Rattle.clap.specs.Takes.{takes}
-use Rattle.flow_types.specs.Names.{name_of}
+use Rattle.flow_types.specs.Names.{most_name_bytes, name_of}
 use Rattle.flow_types.specs.declared.numbers.Amounts.{Amounts}
 use Rattle.command_words.specs.Command.{command}
 use Rattle.command_words.specs.Values.{number, optional_number, flag}
@@ -98,14 +98,18 @@ flow_in rows = do
   rules ← optional_number rows (codes "generate") 1 5000
   flow_from (first_of (codes "file") rows) rules (language_in rows)
 
--- the text of the log's name where none is given
-abbrev pub default_log : Flow → Text
-default_log (File name language) = name ++ codes ".makeflowlog"
-default_log (Generated rules) = codes "generated.makeflowlog"
+-- a name, where it isn't longer than names may be
+abbrev pub within_room : Text → Option Text
+within_room name = if nat_le (length name) most_name_bytes then Some name else None
 
--- `-l`, a name; without it the default, which is no name where FILE leaves no room for it
-unfoldable pub log_in : List Row → Flow → Option (List ℕ)
-log_in rows flow = option_map_or name_of (first_of (codes "l") rows) (name_of (default_log flow))
+-- the log's name where none is given; none where FILE leaves no room for it
+abbrev pub default_log : Flow → Option Text
+default_log (File name language) = within_room (name ++ codes ".makeflowlog")
+default_log (Generated rules) = Some (codes "generated.makeflowlog")
+
+-- `-l`, a name, or else the default
+unfoldable pub log_in : List Row → Flow → Option Text
+log_in rows flow = option_map_or name_of (first_of (codes "l") rows) (default_log flow)
 
 -- what the arguments choose, none where a value or a pair of options is wrong
 unfoldable pub options_in : List Row → Option Options

@@ -1,8 +1,8 @@
 // The names that the arguments of `makeflow` choose.
-ghost use Rattle.std.specs.Prelude.{◌≡◌, Some, None, IfOk, IsErrOf};
+ghost use Rattle.std.specs.Prelude.{◌≡◌, ◌++◌, Some, None, IfOk, IsErrOf, codes};
 ghost use Rattle.flow_types.specs.Names.{name_of};
 ghost use Rattle.command_words.specs.Found.{rows_in};
-ghost use Rattle.command_words.specs.Choices.{default_log, flow_in, log_in};
+ghost use Rattle.command_words.specs.Choices.{default_log, flow_in, log_in, within_room};
 ghost use Rattle.command_words.specs.Ranges.{IsFlowInRange};
 
 use crate::choices::language_in;
@@ -11,7 +11,7 @@ use crate::options::{Flow, Language};
 use crate::values::{optional_number, value_of};
 use clap::ArgMatches;
 use flow_types::{Name, NameFault};
-use std::alloc::{AllocError, Global};
+use std::alloc::Global;
 
 fn name_of(alloc: Global, text: &[u8]) -> Result<Name, WordsFault>
     ensures ok { IfOk result (λ name. name_of text.now ≡ Some name) }
@@ -47,16 +47,24 @@ pub fn flow_in(alloc: Global, matches: &ArgMatches<'_>) -> Result<Flow, WordsFau
     }
 }
 
-fn default_log(alloc: Global, flow: &Flow) -> Result<Vec<u8>, AllocError>
-    ensures { IfOk result (λ text. text.items ≡ default_log flow.now) }
+// The name of FILE and `.makeflowlog`.
+fn file_log(alloc: Global, name: &Name) -> Result<Name, WordsFault>
+    ensures ok { IfOk result (λ log. within_room (name.now ++ codes ".makeflowlog") ≡ Some log) }
+    ensures usage { IsErrOf result WordsFault.Usage →
+        within_room (name.now ++ codes ".makeflowlog") ≡ None }
+{
+    let mut text = Vec::from_slice(alloc, name.as_bytes())?;
+    text.extend_from_slice(b".makeflowlog")?;
+    name_of(alloc, &text)
+}
+
+fn default_log(alloc: Global, flow: &Flow) -> Result<Name, WordsFault>
+    ensures ok { IfOk result (λ log. default_log flow.now ≡ Some log) }
+    ensures usage { IsErrOf result WordsFault.Usage → default_log flow.now ≡ None }
 {
     match flow {
-        Flow::File { name, .. } => {
-            let mut text = Vec::from_slice(alloc, name.as_bytes())?;
-            text.extend_from_slice(b".makeflowlog")?;
-            Ok(text)
-        }
-        Flow::Generated { .. } => Vec::from_slice(alloc, b"generated.makeflowlog"),
+        Flow::File { name, .. } => file_log(alloc, name),
+        Flow::Generated { .. } => name_of(alloc, b"generated.makeflowlog"),
     }
 }
 
@@ -68,6 +76,6 @@ pub fn log_in(alloc: Global, matches: &ArgMatches<'_>, flow: &Flow) -> Result<Na
 {
     match value_of(matches, "l") {
         Some(text) => name_of(alloc, text.as_bytes()),
-        None => name_of(alloc, &default_log(alloc, flow)?),
+        None => default_log(alloc, flow),
     }
 }

@@ -75,7 +75,7 @@ zero-parts = record {
 }
 
 -- no byte is a slash
-abbrev HasNoSlash : List ℕ → Type 0
+abbrev pub HasNoSlash : List ℕ → Type 0
 HasNoSlash part = All (λ b. (b == 47) ≡ false) part
 
 onto_first-no_slash : (b : ℕ) (parts : List (List ℕ)) → (b == 47) ≡ false → All HasNoSlash parts → All HasNoSlash (onto_first b parts)
@@ -89,7 +89,7 @@ by_slash b text true h all =
 by_slash b text false h all =
     subst (λ parts. All HasNoSlash parts) (sym (slice_split-cons_no (λ b. b == 47) b text h)) (onto_first-no_slash b (parts_of text) h all)
 
-parts-no_slash : (text : List ℕ) → All HasNoSlash (parts_of text)
+pub parts-no_slash : (text : List ℕ) → All HasNoSlash (parts_of text)
 parts-no_slash [] = All-cons HasNoSlash [] [] (All-nil (λ b. (b == 47) ≡ false)) (All-nil HasNoSlash)
 parts-no_slash (b ∷ text) = by_slash b text (b == 47) refl (parts-no_slash text)
 
@@ -109,7 +109,7 @@ form-form parts all some = by_form (filter is_kept_part parts) (All-filter is_ke
     by_form [] all some = cc
     by_form (part ∷ parts) all some = parts_of-joined part parts all
 
-all_kept : (parts : List (List ℕ)) → All (λ part. is_kept_part part ≡ true) parts → filter is_kept_part parts ≡ parts
+pub all_kept : (parts : List (List ℕ)) → All (λ part. is_kept_part part ≡ true) parts → filter is_kept_part parts ≡ parts
 all_kept [] all = refl
 all_kept (part ∷ parts) all =
     rw (All-head (λ part. is_kept_part part ≡ true) part parts all) (ap (λ parts. part ∷ parts) (all_kept parts (All-tail (λ part. is_kept_part part ≡ true) part parts all)))
@@ -158,7 +158,7 @@ from_good text g =
     or_from _ _ (or_from _ _ (or_from _ _ (or_from _ _ (or_from _ _ (not_from_true (is_utf8 text) g.utf8) g.relative) g.no_parent) g.no_zero) g.some) g.short
 
 -- the parts of the form of a good text
-parts_of-form : (text : List ℕ) → IsGood text → parts_of (form_of text) ≡ filter is_kept_part (parts_of text)
+pub parts_of-form : (text : List ℕ) → IsGood text → parts_of (form_of text) ≡ filter is_kept_part (parts_of text)
 parts_of-form text g = form-form (parts_of text) (parts-no_slash text) g.some
 
 form_of-form : (text : List ℕ) → IsGood text → form_of (form_of text) ≡ form_of text
