@@ -68,7 +68,9 @@ UnbuiltCommandLines =
 -- command lines of the worker and the foreman
 abbrev pub PeerCommandLines : Type 0
 PeerCommandLines =
-    (worker_cache (codes "host" ∷ codes "9123" ∷ []) ≡ Some 4096)
+    (worker_options_of [] ≡ None)
+    × (foreman_options_of [] ≡ None)
+    × (worker_cache (codes "host" ∷ codes "9123" ∷ []) ≡ Some 4096)
     × (worker_cache (codes "--cache=0" ∷ codes "host" ∷ codes "1" ∷ []) ≡ Some 0)
     × (worker_cache (codes "host" ∷ []) ≡ None)
     × (worker_cache (codes "host" ∷ codes "0" ∷ []) ≡ None)

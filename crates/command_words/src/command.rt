@@ -16,7 +16,8 @@ fn with_letter<'a>(
     letter: char,
 ) -> Result<Command<'a>, AllocError>
     ensures { IfOk result (λ c.
-        app_of c ≡ app_of command.entry with record (new_rule name.entry.now) { short = Some letter }) }
+        app_of c ≡ app_of command.entry
+        with record (new_rule name.entry.now) { short = Some letter }) }
 {
     command.arg(Arg::new(alloc, name).short(letter))
 }

@@ -26,6 +26,3 @@ pub use options::{
 };
 pub use peers::{read_foreman_words, read_worker_words};
 pub use words::read_words;
-
-#[cfg(test)]
-mod tests;

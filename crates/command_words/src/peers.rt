@@ -49,7 +49,8 @@ fn peer_amounts_in(matches: &ArgMatches<'_>) -> Option<Amounts>
 #[tactic(auto, unfolding(crate::specs::Peers::worker_options_in))]
 fn worker_options_in(alloc: Global, matches: &ArgMatches<'_>) -> Result<WorkerOptions, WordsFault>
     ensures ok { IfOk result (λ options. worker_options_in (rows_in matches.now) ≡ Some options) }
-    ensures usage { IsErrOf result WordsFault.Usage → worker_options_in (rows_in matches.now) ≡ None }
+    ensures usage { IsErrOf result WordsFault.Usage →
+        worker_options_in (rows_in matches.now) ≡ None }
 {
     let Some(total) = peer_amounts_in(matches) else {
         return Err(WordsFault::Usage);
@@ -73,8 +74,10 @@ fn worker_options_in(alloc: Global, matches: &ArgMatches<'_>) -> Result<WorkerOp
 
 #[tactic(auto, unfolding(crate::specs::Peers::foreman_options_in))]
 fn foreman_options_in(alloc: Global, matches: &ArgMatches<'_>) -> Result<ForemanOptions, WordsFault>
-    ensures ok { IfOk result (λ options. foreman_options_in (rows_in matches.now) ≡ Some options) }
-    ensures usage { IsErrOf result WordsFault.Usage → foreman_options_in (rows_in matches.now) ≡ None }
+    ensures ok { IfOk result (λ options.
+        foreman_options_in (rows_in matches.now) ≡ Some options) }
+    ensures usage { IsErrOf result WordsFault.Usage →
+        foreman_options_in (rows_in matches.now) ≡ None }
 {
     let Some(listening) = number(matches, "p", 1, 65_535, 9_123) else {
         return Err(WordsFault::Usage);
@@ -99,8 +102,10 @@ fn foreman_options_in(alloc: Global, matches: &ArgMatches<'_>) -> Result<Foreman
 /// What the words of a command line of `work_queue_worker` choose. The first word is the program's name.
 #[tactic(auto, unfolding(crate::specs::Peers::worker_options_of))]
 pub fn read_worker_words(alloc: Global, words: &[String]) -> Result<WorkerOptions, WordsFault>
-    ensures ok { IfOk result (λ options. worker_options_of (map string_bytes words.now) ≡ Some options) }
-    ensures usage { IsErrOf result WordsFault.Usage → worker_options_of (map string_bytes words.now) ≡ None }
+    ensures ok { IfOk result (λ options.
+        worker_options_of (map string_bytes words.now) ≡ Some options) }
+    ensures usage { IsErrOf result WordsFault.Usage →
+        worker_options_of (map string_bytes words.now) ≡ None }
 {
     let command = worker_command_of(alloc)?;
     let matches = parse(command, words)?;
@@ -110,8 +115,10 @@ pub fn read_worker_words(alloc: Global, words: &[String]) -> Result<WorkerOption
 /// What the words of a command line of `work_queue_foreman` choose. The first word is the program's name.
 #[tactic(auto, unfolding(crate::specs::Peers::foreman_options_of))]
 pub fn read_foreman_words(alloc: Global, words: &[String]) -> Result<ForemanOptions, WordsFault>
-    ensures ok { IfOk result (λ options. foreman_options_of (map string_bytes words.now) ≡ Some options) }
-    ensures usage { IsErrOf result WordsFault.Usage → foreman_options_of (map string_bytes words.now) ≡ None }
+    ensures ok { IfOk result (λ options.
+        foreman_options_of (map string_bytes words.now) ≡ Some options) }
+    ensures usage { IsErrOf result WordsFault.Usage →
+        foreman_options_of (map string_bytes words.now) ≡ None }
 {
     let command = foreman_command_of(alloc)?;
     let matches = parse(command, words)?;

@@ -8,6 +8,7 @@ ghost use Rattle.command_words.specs.Command.{is_plain};
 ghost use Rattle.command_words.specs.Choices.{options_in, options_of};
 ghost use Rattle.command_words.specs.Found.{rows_in};
 ghost use Rattle.command_words.specs.Ranges.{IsInRange};
+ghost use Rattle.command_words.specs.Unbuilt.{IsBuilt};
 
 use crate::choices::{limits_in, local_amounts_in, mode_in, service_in, work_in};
 use crate::command::command_of;
@@ -24,6 +25,7 @@ fn options_in(alloc: Global, matches: &ArgMatches<'_>) -> Result<Options, WordsF
     ensures ok { IfOk result (λ options. options_in (rows_in matches.now) ≡ Some options) }
     ensures usage { IsErrOf result WordsFault.Usage → options_in (rows_in matches.now) ≡ None }
     ensures range { IfOk result IsInRange }
+    ensures built { IfOk result (λ options. options.unbuilt ≡ false → IsBuilt options) }
 {
     let Some(service) = service_in(matches) else {
         return Err(WordsFault::Usage);
@@ -77,8 +79,10 @@ pub fn parse<'a>(command: Command<'a>, words: &'a [String]) -> Result<ArgMatches
 #[tactic(auto, unfolding(crate::specs::Choices::options_of))]
 pub fn read_words(alloc: Global, words: &[String]) -> Result<Options, WordsFault>
     ensures ok { IfOk result (λ options. options_of (map string_bytes words.now) ≡ Some options) }
-    ensures usage { IsErrOf result WordsFault.Usage → options_of (map string_bytes words.now) ≡ None }
+    ensures usage { IsErrOf result WordsFault.Usage →
+        options_of (map string_bytes words.now) ≡ None }
     ensures range { IfOk result IsInRange }
+    ensures built { IfOk result (λ options. options.unbuilt ≡ false → IsBuilt options) }
 {
     let command = command_of(alloc)?;
     let matches = parse(command, words)?;
