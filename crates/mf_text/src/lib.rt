@@ -14,6 +14,7 @@ pub use expansion::expand;
 pub use fault::MakeFault;
 pub use laws::texts_are_cut_once;
 pub use lines::{Line, MAX_TEXT, logical_lines};
+pub use names::{is_variable, name_len};
 pub use scope::Scope;
 
 #[cfg(test)]

@@ -41,14 +41,16 @@ fn continuing_len(bytes: &[u8]) -> usize
         .count()
 }
 
-pub(crate) fn is_variable(text: &str) -> bool
+/// Whether a text is the name of a variable: an ASCII letter or `_`, and then letters, digits
+/// and `_`.
+pub fn is_variable(text: &str) -> bool
     ensures { result ≡ is_variable text.now }
 {
     begins_name(first_byte(text)) && all_continue(text.as_bytes())
 }
 
-// How many bytes the longest name at the text's beginning has, none where it begins with none.
-pub(crate) fn name_len(text: &str) -> Option<usize>
+/// How many bytes the longest name at the text's beginning has, none where it begins with none.
+pub fn name_len(text: &str) -> Option<usize>
     ensures { result ≡ (if begins_name (slice_index text.now 0) then Some (prefix_len continues_name text.now)
         else None) }
 {

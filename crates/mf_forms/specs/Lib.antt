@@ -1,0 +1,6 @@
+pub mod Words
+pub mod Quotes
+pub mod Forms
+pub mod Heads
+pub mod Commands
+pub mod Numbers

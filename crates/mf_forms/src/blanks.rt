@@ -1,0 +1,82 @@
+//! Blanks, and the words between them. A blank is a space or a tab.
+ghost use Rattle.std.specs.Prelude.{◌≡◌, IfOk, length, ◌-◌, take, drop};
+ghost use Rattle.std.specs.List.{prefix_len, suffix_len, position_or_len};
+ghost use Rattle.mf_forms.specs.Words.{is_blank, without_front, without_end, trimmed, words, first_word, behind_word};
+
+use flow_types::{Memory, Rows, Text};
+use std::alloc::Global;
+
+/// The words of a text, which blanks part.
+pub fn words(alloc: Global, text: &str) -> Result<Rows<Text>, Memory>
+    ensures { IfOk result (λ found. found ≡ words text.now) }
+{
+    Err(Memory)
+}
+
+fn is_blank(byte: u8) -> bool
+    ensures { result ≡ is_blank byte }
+{
+    byte == b' ' || byte == b'\t'
+}
+
+// How many blanks stand at the front.
+fn front_len(text: &str) -> usize
+    ensures { result ≡ prefix_len is_blank text.now }
+{
+    text.as_bytes()
+        .iter()
+        .take_while(|byte| is_blank(**byte))
+        .count()
+}
+
+// How many bytes stand before the first blank.
+fn word_len(text: &str) -> usize
+    ensures { result ≡ position_or_len is_blank text.now }
+{
+    text.as_bytes()
+        .iter()
+        .take_while(|byte| !is_blank(**byte))
+        .count()
+}
+
+// How many blanks stand at the end.
+fn end_len(text: &str) -> usize
+    ensures { result ≡ suffix_len is_blank text.now }
+{
+    text.as_bytes()
+        .iter()
+        .rev()
+        .take_while(|byte| is_blank(**byte))
+        .count()
+}
+
+/// The text without the blanks at its front.
+pub(crate) fn without_front(text: &str) -> &str
+    ensures { result.now ≡ without_front text.now }
+{
+    text.split_at(front_len(text)).1
+}
+
+// The text without the blanks at its end.
+fn without_end(text: &str) -> &str
+    ensures { result.now ≡ without_end text.now }
+{
+    let blanks = end_len(text);
+    text.split_at(text.len() - blanks).0
+}
+
+/// The text without the blanks at both ends.
+pub(crate) fn trimmed(text: &str) -> &str
+    ensures { result.now ≡ trimmed text.now }
+{
+    without_end(without_front(text))
+}
+
+/// The first word, and what follows it.
+pub(crate) fn split_word(text: &str) -> (&str, &str)
+    ensures word { result.0.now ≡ first_word text.now }
+    ensures rest { result.1.now ≡ drop (length (first_word text.now)) (without_front text.now) }
+{
+    let rest = without_front(text);
+    rest.split_at(word_len(rest))
+}

@@ -1,0 +1,16 @@
+//! The form of one line of a Makeflow text, and the readers of a line's parts.
+#![tactic(auto)]
+
+mod blanks;
+mod commands;
+mod form;
+mod heads;
+mod numbers;
+mod quotes;
+
+pub use blanks::words;
+pub use commands::{command_in, is_local, is_no_command};
+pub use form::{Form, Resource, form_of};
+pub use heads::{HeadFiles, files_of_head};
+pub use numbers::{number_within, size_bound_in};
+pub use quotes::is_open_at_end;

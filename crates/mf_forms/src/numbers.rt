@@ -1,0 +1,40 @@
+//! Numbers, and the bounds of sizes.
+ghost use Rattle.std.specs.Prelude.{◌≡◌, IfOk};
+ghost use Rattle.std.specs.List.{list_all};
+ghost use Rattle.mf_forms.specs.Numbers.{is_digit, number_within, bound_in};
+
+use flow_types::{Memory, SizeBound};
+use std::alloc::Global;
+
+/// The number that one to ten decimal digits spell, where it is at most this.
+pub fn number_within(most: u64, text: &str) -> Option<u64>
+    ensures { result ≡ number_within most text.now }
+{
+    if text.is_empty() || text.len() > 10 || !all_digits(text) {
+        return None;
+    }
+    match text.parse::<u64>() {
+        Ok(number) if number <= most => Some(number),
+        _ => None,
+    }
+}
+
+fn is_digit(byte: u8) -> bool
+    ensures { result ≡ is_digit byte }
+{
+    matches!(byte, b'0'..=b'9')
+}
+
+fn all_digits(text: &str) -> bool
+    ensures { result ≡ list_all is_digit text.now }
+{
+    text.as_bytes().iter().all(|byte| is_digit(*byte))
+}
+
+/// The bound that the arguments of `.SIZE` give: a name, and a number of bytes that a file may
+/// have. None for anything else.
+pub fn size_bound_in(alloc: Global, text: &str) -> Result<Option<SizeBound>, Memory>
+    ensures { IfOk result (λ bound. bound ≡ bound_in text.now) }
+{
+    Err(Memory)
+}
