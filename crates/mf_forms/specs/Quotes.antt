@@ -1,6 +1,7 @@
 -- Quotes: a quotation mark opens one, which ends at the next same mark.
-use Rattle.std.specs.Prelude.{ℕ, ◌-◌, Bool, true, false, ◌&&◌, ◌||◌, List, [], ◌∷◌, length, take, drop, slice_index, nat_lt, ◌==◌, if◌then◌else◌, Option, Some, None, is_some, fold}
+use Rattle.std.specs.Prelude.{ℕ, ◌-◌, Bool, true, false, not, ◌&&◌, ◌||◌, List, [], ◌∷◌, length, take, drop, slice_index, nat_lt, ◌==◌, if◌then◌else◌, Option, Some, None, is_some, fold, map, filter}
 use Rattle.std.specs.List.{position_or_len}
+use Rattle.mf_text.specs.Expansion.{holds}
 
 -- a quotation mark of either kind
 abbrev pub is_quote : ℕ → Bool
@@ -43,12 +44,22 @@ abbrev pub is_mark : Place → Bool
 is_mark mark = true
 is_mark _ = false
 
--- where the first such byte outside quotes stands, at the text's end where there is none
-abbrev pub bare_position : ℕ → List ℕ → ℕ
-bare_position byte text = position_or_len (λ (b : ℕ × Place). is_bare b.1 && (b.0 == byte)) (placed text)
+-- one of these bytes outside quotes
+abbrev pub is_bare_among : List ℕ → ℕ × Place → Bool
+is_bare_among wanted b = is_bare b.1 && holds b.0 wanted
+
+-- where the first of these bytes outside quotes stands, the text's end where there is none
+abbrev pub bare_position : List ℕ → List ℕ → ℕ
+bare_position wanted text = position_or_len (is_bare_among wanted) (placed text)
+
+-- bytes without the quotation marks among them
+abbrev pub without_marks : List (ℕ × Place) → List ℕ
+without_marks bytes = map (λ (b : ℕ × Place). b.0) (filter (λ (b : ℕ × Place). not (is_mark b.1)) bytes)
+
+-- one pair of equal quotation marks encloses the text
+abbrev pub is_enclosed : List ℕ → Bool
+is_enclosed text = nat_lt 1 (length text) && is_quote (slice_index text 0) && (slice_index text 0 == slice_index text (length text - 1))
 
 -- the text less one pair of equal quotation marks that encloses it
 abbrev pub unquoted : List ℕ → List ℕ
-unquoted text =
-    if nat_lt 1 (length text) && is_quote (slice_index text 0) && (slice_index text 0 == slice_index text (length text - 1))
-    then take (length text - 2) (drop 1 text) else text
+unquoted text = if is_enclosed text then take (length text - 2) (drop 1 text) else text

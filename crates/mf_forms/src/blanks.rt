@@ -1,6 +1,7 @@
 //! Blanks, and the words between them. A blank is a space or a tab.
-ghost use Rattle.std.specs.Prelude.{◌≡◌, IfOk, length, ◌-◌, take, drop};
+ghost use Rattle.std.specs.Prelude.{◌≡◌, ◌<◌, IfOk, MatchOption, IfSome, is_some, slice_index, [], ◌∷◌, length, ◌-◌, take, drop};
 ghost use Rattle.std.specs.List.{prefix_len, suffix_len, position_or_len};
+ghost use Rattle.mf_forms.specs.Forms.{begins_with_word};
 ghost use Rattle.mf_forms.specs.Words.{is_blank, without_front, without_end, trimmed, words, first_word, behind_word};
 
 use flow_types::{Memory, Rows, Text};
@@ -10,13 +11,56 @@ use std::alloc::Global;
 pub fn words(alloc: Global, text: &str) -> Result<Rows<Text>, Memory>
     ensures { IfOk result (λ found. found ≡ words text.now) }
 {
-    Err(Memory)
+    let mut found = Rows::new(alloc);
+    let mut rest = text;
+    while let Some((word, behind)) = next_word(rest) {
+        if found.push(Text::of(alloc, word)?).is_err() {
+            return Err(Memory);
+        }
+        rest = behind;
+    }
+    Ok(found)
 }
 
+// The first word and what follows it, none where there is no word.
+fn next_word(text: &str) -> Option<(&str, &str)>
+    ensures words { MatchOption result (words text.now ≡ []) (λ x. words text.now ≡ x.0.now ∷ words x.1.now) }
+    ensures shorter { MatchOption result (words text.now ≡ []) (λ x. length x.1.now < length text.now) }
+{
+    let (word, rest) = split_word(text);
+    if word.is_empty() {
+        None
+    } else {
+        Some((word, rest))
+    }
+}
+
+/// The first byte, 0 in an empty text.
+pub(crate) fn first_byte(text: &str) -> u8
+    ensures { result ≡ slice_index text.now 0 }
+{
+    text.as_bytes().first().copied().unwrap_or(0)
+}
+
+/// What follows this word at the text's front and the blanks behind it, none where the text
+/// begins otherwise.
+pub(crate) fn behind<'a>(text: &'a str, word: &str) -> Option<&'a str>
+    ensures begins { is_some result ≡ begins_with_word word.now text.now }
+    ensures rest { IfSome result (λ rest. rest.now ≡ behind_word text.now) }
+{
+    let (first, rest) = split_word(text);
+    if is_blank(first_byte(text)) || first != word {
+        None
+    } else {
+        Some(without_front(rest))
+    }
+}
+
+// Whether a byte is a space or a tab.
 fn is_blank(byte: u8) -> bool
     ensures { result ≡ is_blank byte }
 {
-    byte == b' ' || byte == b'\t'
+    b" \t".contains(&byte)
 }
 
 // How many blanks stand at the front.
@@ -57,8 +101,8 @@ pub(crate) fn without_front(text: &str) -> &str
     text.split_at(front_len(text)).1
 }
 
-// The text without the blanks at its end.
-fn without_end(text: &str) -> &str
+/// The text without the blanks at its end.
+pub(crate) fn without_end(text: &str) -> &str
     ensures { result.now ≡ without_end text.now }
 {
     let blanks = end_len(text);

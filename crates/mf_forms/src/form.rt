@@ -1,7 +1,11 @@
 //! The form of a line, which its own text decides.
 ghost use Rattle.std.specs.Prelude.{◌≡◌, IfOk};
-ghost use Rattle.mf_forms.specs.Forms.{form_of};
+ghost use Rattle.mf_forms.specs.Forms.{uncommented, tab_form, plain_form, form_of};
 
+use crate::assignments::{as_assignment, as_export};
+use crate::blanks::{first_byte, trimmed};
+use crate::quotes::{bare_position, is_open_at_end};
+use crate::settings::as_setting;
 use flow_types::{Memory, Rows, Text};
 use std::alloc::Global;
 
@@ -47,5 +51,49 @@ pub enum Form {
 pub fn form_of(alloc: Global, line: &str) -> Result<Form, Memory>
     ensures { IfOk result (λ form. form ≡ form_of line.now) }
 {
-    Err(Memory)
+    if first_byte(line) == b'\t' {
+        tab_form(alloc, trimmed(line))
+    } else {
+        plain_form(alloc, uncommented(line))
+    }
+}
+
+// A line before its comment.
+fn uncommented(line: &str) -> &str
+    ensures { result.now ≡ uncommented line.now }
+{
+    line.split_at(bare_position(line, b"#")).0
+}
+
+// The form of a line that begins with a tab, without the blanks around it.
+fn tab_form(alloc: Global, inside: &str) -> Result<Form, Memory>
+    ensures { IfOk result (λ form. form ≡ tab_form inside.now) }
+{
+    if inside.is_empty() || first_byte(inside) == b'#' {
+        Ok(Form::Passed)
+    } else {
+        Ok(Form::Command(Text::of(alloc, inside)?))
+    }
+}
+
+// The form of a line that begins with no tab, without its comment.
+fn plain_form(alloc: Global, text: &str) -> Result<Form, Memory>
+    ensures { IfOk result (λ form. form ≡ plain_form text.now) }
+{
+    if is_open_at_end(text) {
+        return Ok(Form::OpenQuote);
+    }
+    if trimmed(text).is_empty() {
+        return Ok(Form::Passed);
+    }
+    if let Some(form) = as_assignment(alloc, false, text)? {
+        return Ok(form);
+    }
+    if let Some(form) = as_export(alloc, text)? {
+        return Ok(form);
+    }
+    match as_setting(alloc, text)? {
+        Some(form) => Ok(form),
+        None => Ok(Form::Head(Text::of(alloc, text)?)),
+    }
 }

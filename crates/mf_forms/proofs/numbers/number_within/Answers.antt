@@ -1,4 +1,4 @@
-use Rattle.std.proofs.Common.{◌≡◌, ◌<◌, ◌≤◌, length, sym, ◌∙◌, arith}
+use Rattle.std.proofs.Common.{sym, ◌∙◌}
 use Rattle.mf_forms.proofs.Digits.{IsNumber, number_from, accepted, above, unread}
 use Rattle.mf_forms.proofs.numbers.number_within.Goals as goal
 
