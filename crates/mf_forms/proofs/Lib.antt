@@ -4,3 +4,4 @@ pub mod Runs
 pub mod Quoting
 pub mod Naming
 pub mod Arrows
+pub mod QuotesRead

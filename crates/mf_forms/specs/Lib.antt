@@ -4,3 +4,4 @@ pub mod Forms
 pub mod Heads
 pub mod Commands
 pub mod Numbers
+pub mod Laws

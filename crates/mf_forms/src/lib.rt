@@ -6,6 +6,7 @@ mod blanks;
 mod commands;
 mod form;
 mod heads;
+mod laws;
 mod numbers;
 mod quotes;
 mod settings;
@@ -14,5 +15,9 @@ pub use blanks::words;
 pub use commands::{command_in, is_local, is_no_command};
 pub use form::{Form, Resource, form_of};
 pub use heads::{HeadFiles, files_of_head};
+pub use laws::quotes_end_at_the_next_same_mark;
 pub use numbers::{MOST_FILE_BYTES, number_within, size_bound_in};
 pub use quotes::is_open_at_end;
+
+#[cfg(test)]
+mod tests;
