@@ -36,10 +36,12 @@ placed_behind m (c ∷ more) = (c, place_behind m c) ∷ placed_behind (open_beh
 abbrev pub placed : List ℕ → List (ℕ × Place)
 placed text = placed_behind None text
 
+-- outside quotes
 abbrev pub is_bare : Place → Bool
 is_bare bare = true
 is_bare _ = false
 
+-- a mark that opens or closes a quote
 abbrev pub is_mark : Place → Bool
 is_mark mark = true
 is_mark _ = false

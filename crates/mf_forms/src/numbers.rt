@@ -10,11 +10,13 @@ use std::alloc::Global;
 /// The most bytes that a file may have.
 pub const MOST_FILE_BYTES: u64 = 67_108_864;
 
+const MOST_DIGITS: usize = 10;
+
 /// The number that one to ten decimal digits spell, where it is at most this.
 pub fn number_within(most: u64, text: &str) -> Option<u64>
     ensures { result ≡ number_within most text.now }
 {
-    if text.is_empty() || text.len() > 10 || !all_digits(text) {
+    if text.is_empty() || text.len() > MOST_DIGITS || !all_digits(text) {
         return None;
     }
     match text.parse::<u64>() {
