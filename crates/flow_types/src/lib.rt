@@ -20,7 +20,7 @@ pub use flow::{Pair, RawFile, RawFlow, RawRule, SizeBound};
 pub use job::{Failure, Given, Job, Outcome, Want};
 pub use laws::{names_are_fixed, serial_run_is_fixed};
 pub use lists::{Bytes, Memory, Rows, Text};
-pub use name::{Name, NameFault};
+pub use name::{Name, NameFault, form_of};
 pub use numbers::{Amounts, AttemptNo, Content, Digest, FileNo, LinkNo, Needs, RuleNo};
 pub use plan::{FileRow, Plan, Port, Rule};
 pub use records::{EndKind, Record};

