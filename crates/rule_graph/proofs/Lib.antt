@@ -1,3 +1,6 @@
+pub mod Ports
+pub mod RuleFaults
+pub mod Folders
 pub mod Hashed
 pub mod Counts
 pub mod Spelled

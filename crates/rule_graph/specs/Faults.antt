@@ -3,6 +3,7 @@ use Rattle.std.specs.Prelude.{ℕ, Bool, List, [], ◌∷◌, ◌++◌, length, 
 use Rattle.std.specs.List.{list_any, enumerate_from}
 use Rattle.std.specs.Option.{option_map_or}
 use Rattle.std.specs.Str.{bytes_eq}
+use Rattle.flow_types.specs.declared.flow.RawFile.{RawFile}
 use Rattle.flow_types.specs.declared.flow.RawRule.{RawRule}
 use Rattle.flow_types.specs.declared.flow.RawFlow.{RawFlow}
 use Rattle.flow_types.specs.declared.plan.Plan.{Plan}
@@ -41,13 +42,21 @@ too_many flow =
     else if nat_lt most_files (length (names_of flow)) then Some (faults.TooMany most_files)
     else over_rules too_many_ports flow
 
--- the texts of a rule's names as they stand, outputs first, a file's own name before its remote one
+-- the texts of files' names as they stand, a file's own name before its remote one
+abbrev pub file_texts : List RawFile → List (List ℕ)
+file_texts files = flat_map (λ file. file.local ∷ remote_text file ∷ []) files
+
+-- the texts of a rule's names as they stand, outputs first
 abbrev pub texts_of : RawRule → List (List ℕ)
-texts_of rule = flat_map (λ file. file.local ∷ remote_text file ∷ []) (rule.outputs ++ rule.inputs)
+texts_of rule = file_texts (rule.outputs ++ rule.inputs)
+
+-- a text that gives no name
+abbrev pub is_no_name : List ℕ → Bool
+is_no_name text = is_none (name_of text)
 
 -- a rule with a text that is no name
 abbrev pub bad_name : ℕ → RawRule → Option GraphFault
-bad_name r rule = option_map_or (λ text. Some (faults.BadName (rule_no r) text)) (find (λ text. is_none (name_of text)) (texts_of rule)) None
+bad_name r rule = option_map_or (λ text. Some (faults.BadName (rule_no r) text)) (find is_no_name (texts_of rule)) None
 
 -- a rule that makes nothing
 abbrev pub no_output : ℕ → RawRule → Option GraphFault
@@ -94,16 +103,21 @@ second_maker (making ∷ more) =
 abbrev pub cycle : Plan → Option GraphFault
 cycle P = option_map_or (λ loop. Some (faults.Cycle (map rule_no loop))) (loop_among P (left_over P)) None
 
--- The first fault of a flow.
-abbrev pub fault_of : RawFlow → Option GraphFault
-fault_of flow =
+-- The first fault of a flow that its rules show one by one, or that its names show.
+abbrev pub early_fault : RawFlow → Option GraphFault
+early_fault flow =
     or_else (too_many flow)
     (or_else (over_rules bad_name flow)
     (or_else (over_rules no_output flow)
     (or_else (over_rules same_name flow)
-    (or_else (nested_name flow)
+    (nested_name flow))))
+
+-- The first fault of a flow.
+abbrev pub fault_of : RawFlow → Option GraphFault
+fault_of flow =
+    or_else (early_fault flow)
     (or_else (second_maker (makings flow))
-    (cycle (plan_without_faults flow)))))))
+    (cycle (plan_without_faults flow)))
 
 -- The plan of a flow, or its first fault.
 abbrev pub plan_of : RawFlow → Result Plan GraphFault

@@ -4,5 +4,6 @@ pub mod Progress
 pub mod Flows
 pub mod Cycles
 pub mod Faults
+pub mod Checked
 pub mod Examples
 pub mod Laws

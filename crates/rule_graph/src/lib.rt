@@ -1,10 +1,13 @@
 //! The graph of a flow's rules: the order of a serial run, and the digest of a plan.
 #![tactic(auto)]
 
+mod checks;
 mod digest;
+mod early;
 mod examples;
 mod faults;
 mod laws;
+mod nesting;
 mod order;
 mod raw;
 

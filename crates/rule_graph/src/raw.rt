@@ -1,5 +1,8 @@
 //! The ports and the names of a flow as its texts give them, before it is known that they are names.
-ghost use Rattle.std.specs.Prelude.{◌≡◌, IfOk, map};
+ghost use Rattle.std.specs.Prelude.{◌≡◌, IfOk, OnOk, map, fold};
+ghost use Rattle.std.specs.BTreeSet.{insert_key};
+ghost use Rattle.std.specs.Cmp.Lexicographic.{slice_cmp};
+ghost use Rattle.std.specs.Ordering.{nat_cmp};
 ghost use Rattle.flow_types.specs.Names.{form_of};
 ghost use Rattle.rule_graph.specs.Flows.{remote_text, raw_port, raw_outputs, raw_inputs, names_of};
 
@@ -58,15 +61,58 @@ pub(crate) fn raw_outputs(alloc: Global, rule: &RawRule) -> Result<Vec<RawPort>,
 }
 
 // A rule's inputs, each port once, where it stands first.
-pub(crate) fn raw_inputs(_alloc: Global, _rule: &RawRule) -> Result<Vec<RawPort>, AllocError>
-    ensures { IfOk result (λ ports. ports.items ≡ raw_inputs _rule.now) }
+pub(crate) fn raw_inputs(alloc: Global, rule: &RawRule) -> Result<Vec<RawPort>, AllocError>
+    ensures { IfOk result (λ ports. ports.items ≡ raw_inputs rule.now) }
 {
-    Err(AllocError)
+    let mut seen = BTreeSet::new(alloc);
+    let mut ports = Vec::new(alloc);
+    for file in rule.inputs.as_slice() {
+        let port = raw_port(alloc, file)?;
+        if seen.insert(key_of(alloc, &port)?)? {
+            ports.push(port)?;
+        }
+    }
+    Ok(ports)
+}
+
+// A port as a key of a set.
+fn key_of(alloc: Global, port: &RawPort) -> Result<(Vec<u8>, Vec<u8>), AllocError>
+    ensures { IfOk result (λ key. port.now ≡ record { local = key.0.items; remote = key.1.items }) }
+{
+    let local = Vec::from_slice(alloc, port.local.as_slice())?;
+    let remote = Vec::from_slice(alloc, port.remote.as_slice())?;
+    Ok((local, remote))
 }
 
 // The names of a flow's files, each once, ascending by bytes.
-pub(crate) fn names_of(_alloc: Global, _flow: &RawFlow) -> Result<Vec<Bytes>, AllocError>
-    ensures { IfOk result (λ names. names.items ≡ names_of _flow.now) }
+pub(crate) fn names_of(alloc: Global, flow: &RawFlow) -> Result<Vec<Bytes>, AllocError>
+    ensures { IfOk result (λ names. names.items ≡ names_of flow.now) }
 {
-    Err(AllocError)
+    let mut names = BTreeSet::new(alloc);
+    for rule in flow.rules.as_slice() {
+        add_names(&mut names, raw_outputs(alloc, rule)?)?;
+        add_names(&mut names, raw_inputs(alloc, rule)?)?;
+    }
+    listed(alloc, names)
+}
+
+// The keys of a set of names, in order.
+pub(crate) fn listed(alloc: Global, names: BTreeSet<Vec<u8>>) -> Result<Vec<Bytes>, AllocError>
+    ensures { IfOk result (λ texts. texts.items ≡ map (λ name. name.items) names.keys) }
+{
+    let mut texts = Vec::new(alloc);
+    for name in names {
+        texts.push(Bytes::from_vec(name))?;
+    }
+    Ok(texts)
+}
+
+fn add_names(names: &mut BTreeSet<Vec<u8>>, ports: Vec<RawPort>) -> Result<(), AllocError>
+    ensures { OnOk result (map (λ name. name.items) names.new.keys ≡ fold (λ names port. insert_key (slice_cmp nat_cmp) names port.local) (map (λ name. name.items) names.old.keys) ports.items) }
+{
+    for port in ports {
+        let RawPort { local, remote: _ } = port;
+        names.insert(local.into_vec())?;
+    }
+    Ok(())
 }

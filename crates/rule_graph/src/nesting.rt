@@ -1,0 +1,172 @@
+//! Names that are folders of other names.
+ghost use Rattle.std.specs.Prelude.{◌≡◌, ◌∷◌, [], ◌++◌, ◌<◌, ◌≤◌, ◌^◌, ℕ, false, true, Some, None, All, IfOk, find, map, length, slice_index_or, nat_eq, fold};
+ghost use Rattle.std.specs.List.{list_any, starts_with};
+ghost use Rattle.std.specs.Option.{option_copied, option_map_or};
+ghost use Rattle.std.specs.BTreeSet.{insert_key};
+ghost use Rattle.std.specs.Cmp.Lexicographic.{slice_cmp};
+ghost use Rattle.std.specs.Ordering.{nat_cmp};
+ghost use Rattle.flow_types.specs.declared.flow.RawRule.{RawRule as RawRuleValue};
+ghost use Rattle.flow_types.specs.Names.{is_folder_of};
+ghost use Rattle.flow_types.specs.Plans.{is_name_less};
+ghost use Rattle.rule_graph.specs.declared.faults.GraphFault.TheVariants as faults;
+ghost use Rattle.rule_graph.specs.Faults.{nested_in, nested_name, remote_names};
+ghost use Rattle.rule_graph.specs.Checked.{HasNames, IsName, IsAscending, HasAll, ascending};
+
+use crate::checks::{
+    BadNames, NoOutput, RuleCheck, SameNames, name_from, over_rules, remote_names, too_many,
+};
+use crate::faults::GraphFault;
+use crate::raw::{listed, names_of};
+use flow_types::{Bytes, RawFlow, RawRule, RuleNo};
+use std::alloc::{AllocError, Global};
+use std::collections::BTreeSet;
+
+// How many of ascending names stand before this text.
+fn first_from(names: &[Bytes], start: &[u8]) -> usize
+    requires { IsAscending names.now }
+    ensures within { result ≤ length names.now }
+    ensures before { (k : ℕ) → k < result → is_name_less (slice_index_or names.now k []) start.now ≡ true }
+    ensures from { result < length names.now → is_name_less (slice_index_or names.now result []) start.now ≡ false }
+{
+    let mut low = 0;
+    let mut high = names.len();
+    while low < high {
+        let middle = low + (high - low) / 2;
+        if is_less(&names[middle], start) {
+            low = middle + 1;
+        } else {
+            high = middle;
+        }
+    }
+    low
+}
+
+fn is_less(name: &Bytes, start: &[u8]) -> bool
+    ensures { result ≡ is_name_less name.now start.now }
+{
+    name.as_slice() < start
+}
+
+// Whether one of ascending names begins so.
+fn any_begins(names: &[Bytes], start: &[u8]) -> bool
+    requires { IsAscending names.now }
+    ensures { result ≡ list_any (λ name. starts_with nat_eq name start.now) names.now }
+{
+    let at = first_from(names, start);
+    if at == names.len() {
+        return false;
+    }
+    names[at].as_slice().starts_with(start)
+}
+
+// The first of the names that begins so.
+fn first_begins<'a>(names: &'a [Bytes], start: &[u8]) -> Option<&'a Bytes>
+    ensures { option_copied result ≡ find (λ name. starts_with nat_eq name start.now) names.now }
+{
+    for name in names {
+        if name.as_slice().starts_with(start) {
+            return Some(name);
+        }
+    }
+    None
+}
+
+// How the names below a folder begin.
+fn start_below(alloc: Global, folder: &Bytes) -> Result<Vec<u8>, AllocError>
+    ensures { IfOk result (λ start. start.items ≡ folder.now ++ 47 ∷ []) }
+{
+    let mut start = Vec::from_slice(alloc, folder.as_slice())?;
+    start.push(b'/')?;
+    Ok(start)
+}
+
+// A folder with the first of the names below it, where there is one.
+fn nested_under(
+    alloc: Global,
+    sorted: &[Bytes],
+    names: &[Bytes],
+    folder: &Bytes,
+) -> Result<Option<GraphFault>, AllocError>
+    requires ascending { IsAscending sorted.now }
+    requires all { HasAll sorted.now names.now }
+    requires names { All IsName names.now }
+    requires folder { IsName folder.now }
+    ensures { IfOk result (λ fault. fault ≡ option_map_or (λ name. Some (faults.NestedName folder.now name)) (find (is_folder_of folder.now) names.now) None) }
+{
+    let start = start_below(alloc, folder)?;
+    if !any_begins(sorted, &start) {
+        return Ok(None);
+    }
+    match first_begins(names, &start) {
+        Some(name) => {
+            let outer = name_from(alloc, folder)?;
+            let inner = name_from(alloc, name)?;
+            Ok(Some(GraphFault::NestedName(outer, inner)))
+        }
+        None => Ok(None),
+    }
+}
+
+// The first of the names that is a folder of another, with the first of which it is. The sorted names have each of them.
+fn nested_in(
+    alloc: Global,
+    sorted: &[Bytes],
+    names: &[Bytes],
+) -> Result<Option<GraphFault>, AllocError>
+    requires ascending { IsAscending sorted.now }
+    requires all { HasAll sorted.now names.now }
+    requires names { All IsName names.now }
+    ensures { IfOk result (λ fault. fault ≡ nested_in names.now) }
+{
+    for folder in names {
+        let fault = nested_under(alloc, sorted, names, folder)?;
+        if fault.is_some() {
+            return Ok(fault);
+        }
+    }
+    Ok(None)
+}
+
+// The names, each once, ascending.
+fn ascending(alloc: Global, names: &[Bytes]) -> Result<Vec<Bytes>, AllocError>
+    ensures { IfOk result (λ sorted. sorted.items ≡ ascending names.now) }
+{
+    let mut sorted = BTreeSet::new(alloc);
+    for name in names {
+        sorted.insert(Vec::from_slice(alloc, name.as_slice())?)?;
+    }
+    listed(alloc, sorted)
+}
+
+// A rule of which one remote name is a folder of another.
+struct NestedRemotes;
+
+impl RuleCheck for NestedRemotes {
+    ghost says = { λ r rule. nested_in (remote_names rule) };
+
+    ghost fits = { HasNames };
+
+    fn fault(
+        alloc: Global,
+        _number: RuleNo,
+        rule: &RawRule,
+    ) -> Result<Option<GraphFault>, AllocError> {
+        let names = remote_names(alloc, rule)?;
+        let sorted = ascending(alloc, &names)?;
+        nested_in(alloc, &sorted, &names)
+    }
+}
+
+// Names of files before remote names.
+pub(crate) fn nested_name(alloc: Global, flow: &RawFlow) -> Result<Option<GraphFault>, AllocError>
+    requires count { length flow.now.rules < 2 ^ 32 }
+    requires names { All HasNames flow.now.rules }
+    ensures { IfOk result (λ fault. fault ≡ nested_name flow.now) }
+{
+    let names = names_of(alloc, flow)?;
+    let fault = nested_in(alloc, &names, &names)?;
+    if fault.is_some() {
+        return Ok(fault);
+    }
+    over_rules::<NestedRemotes>(alloc, flow)
+}
