@@ -20,10 +20,10 @@ use Rattle.flow_types.specs.declared.flow.RawRule.{RawRule}
 use Rattle.flow_types.specs.declared.flow.RawFlow.{RawFlow}
 use Rattle.flow_types.specs.Plans.{is_less, is_name_less}
 use Rattle.rule_graph.specs.declared.raw.RawPort.{RawPort}
-use Rattle.rule_graph.specs.Flows.{raw_ports, names_of}
+use Rattle.rule_graph.specs.Flows.{raw_ports, with_port, names_of}
 use Rattle.rule_graph.specs.Faults.{or_else, first_said}
 use Rattle.rule_graph.specs.Checked.{HasNames, IsName, IsAscending, HasAll, ascending}
-use Rattle.rule_graph.proofs.Ports.{with_port, insert_ascending}
+use Rattle.rule_graph.proofs.Ports.{insert_ascending}
 use Rattle.rule_graph.proofs.RuleFaults.{IsGoodPort, ports_good}
 
 less_from : (o : Ordering) → is_less o ≡ true → o ≡ Less

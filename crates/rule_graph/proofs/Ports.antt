@@ -18,7 +18,7 @@ use Rattle.std.proofs.lemmas.Map.Text.{is_eq-slice_cmp}
 use Rattle.flow_types.specs.declared.flow.RawFlow.{RawFlow}
 use Rattle.flow_types.specs.declared.flow.RawRule.{RawRule}
 use Rattle.rule_graph.specs.declared.raw.RawPort.{RawPort}
-use Rattle.rule_graph.specs.Flows.{is_same_port, each_once, raw_ports, names_of}
+use Rattle.rule_graph.specs.Flows.{is_same_port, each_once, raw_ports, with_port, names_of}
 use Rattle.rule_graph.specs.Checked.{IsAscending}
 
 abbrev pub Key : Type 0
@@ -113,10 +113,6 @@ at_place Greater x k xs more names is = ap (λ names. x.items ∷ names) is
 pub insert_bytes : (keys : List (Vec ℕ Global)) (k : Vec ℕ Global) → map bytes_of (insert_key vec_cmp keys k) ≡ insert_key (slice_cmp nat_cmp) (map bytes_of keys) k.items
 insert_bytes [] k = refl
 insert_bytes (x ∷ xs) k = at_place (vec_cmp k x) x k xs (insert_key vec_cmp xs k) (insert_key (slice_cmp nat_cmp) (map bytes_of xs) k.items) (insert_bytes xs k)
-
--- the names, and that of a port
-abbrev pub with_port : List (List ℕ) → RawPort → List (List ℕ)
-with_port names port = insert_key (slice_cmp nat_cmp) names port.local
 
 -- the names of one rule more
 pub names_more : (rules : List RawRule) (i : ℕ) (rule : RawRule) (outputs inputs : List RawPort) (start now then_ : List (List ℕ)) → i < length rules → rule ≡ get_or rules i rule

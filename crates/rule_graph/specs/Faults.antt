@@ -75,9 +75,13 @@ remote_names rule = map (λ port. port.remote) (raw_ports rule)
 abbrev pub same_name : ℕ → RawRule → Option GraphFault
 same_name r rule = option_map_or (λ name. Some (faults.SameName (rule_no r) name)) (first_repeat [] (remote_names rule)) None
 
+-- a folder and the first of the names below it
+abbrev pub nested_under : List (List ℕ) → List ℕ → Option GraphFault
+nested_under names folder = option_map_or (λ name. Some (faults.NestedName folder name)) (find (is_folder_of folder) names) None
+
 -- the first of the names that is a folder of another, and the first of which it is
 abbrev pub nested_in : List (List ℕ) → Option GraphFault
-nested_in names = first_said (λ folder. option_map_or (λ name. Some (faults.NestedName folder name)) (find (is_folder_of folder) names) None) names
+nested_in names = first_said (nested_under names) names
 
 -- names of files before remote names
 abbrev pub nested_name : RawFlow → Option GraphFault
@@ -103,14 +107,19 @@ second_maker (making ∷ more) =
 abbrev pub cycle : Plan → Option GraphFault
 cycle P = option_map_or (λ loop. Some (faults.Cycle (map rule_no loop))) (loop_among P (left_over P)) None
 
--- The first fault of a flow that its rules show one by one, or that its names show.
+-- the first fault that a flow without bad names shows before its files are numbered
+abbrev pub named_fault : RawFlow → Option GraphFault
+named_fault flow =
+    or_else (over_rules no_output flow)
+    (or_else (over_rules same_name flow)
+    (nested_name flow))
+
+-- the first fault that a flow shows before its files are numbered
 abbrev pub early_fault : RawFlow → Option GraphFault
 early_fault flow =
     or_else (too_many flow)
     (or_else (over_rules bad_name flow)
-    (or_else (over_rules no_output flow)
-    (or_else (over_rules same_name flow)
-    (nested_name flow))))
+    (named_fault flow))
 
 -- The first fault of a flow.
 abbrev pub fault_of : RawFlow → Option GraphFault

@@ -51,9 +51,13 @@ raw_inputs rule = each_once (map raw_port rule.inputs)
 abbrev pub raw_ports : RawRule → List RawPort
 raw_ports rule = raw_outputs rule ++ raw_inputs rule
 
+-- ascending names, and the name of a port's file where it isn't among them
+abbrev pub with_port : List (List ℕ) → RawPort → List (List ℕ)
+with_port names port = insert_key (slice_cmp nat_cmp) names port.local
+
 -- the names of a flow's files, each once, ascending by bytes
 abbrev pub names_of : RawFlow → List (List ℕ)
-names_of flow = fold (λ names port. insert_key (slice_cmp nat_cmp) names port.local) [] (flat_map raw_ports flow.rules)
+names_of flow = fold with_port [] (flat_map raw_ports flow.rules)
 
 -- the place of a name among the names
 abbrev pub number_of : List (List ℕ) → List ℕ → ℕ

@@ -1,6 +1,6 @@
 //! The faults of a flow that show before its files are numbered.
 ghost use Rattle.std.specs.Prelude.{◌≡◌, ◌<◌, ◌^◌, All, IfOk, length};
-ghost use Rattle.rule_graph.specs.Faults.{or_else, over_rules, no_output, same_name, nested_name, early_fault};
+ghost use Rattle.rule_graph.specs.Faults.{named_fault, early_fault};
 ghost use Rattle.rule_graph.specs.Checked.{HasNames};
 
 use crate::checks::{BadNames, NoOutput, SameNames, over_rules, too_many};
@@ -9,11 +9,11 @@ use crate::nesting::nested_name;
 use flow_types::RawFlow;
 use std::alloc::{AllocError, Global};
 
-// The faults that stand behind a bad name.
-fn later_fault(alloc: Global, flow: &RawFlow) -> Result<Option<GraphFault>, AllocError>
+// The first fault that a flow without bad names shows before its files are numbered.
+fn named_fault(alloc: Global, flow: &RawFlow) -> Result<Option<GraphFault>, AllocError>
     requires count { length flow.now.rules < 2 ^ 32 }
     requires names { All HasNames flow.now.rules }
-    ensures { IfOk result (λ fault. fault ≡ or_else (over_rules no_output flow.now) (or_else (over_rules same_name flow.now) (nested_name flow.now))) }
+    ensures { IfOk result (λ fault. fault ≡ named_fault flow.now) }
 {
     let fault = over_rules::<NoOutput>(alloc, flow)?;
     if fault.is_some() {
@@ -26,7 +26,7 @@ fn later_fault(alloc: Global, flow: &RawFlow) -> Result<Option<GraphFault>, Allo
     nested_name(alloc, flow)
 }
 
-// The first fault of a flow that its rules show one by one, or that its names show.
+// The first fault that a flow shows before its files are numbered.
 pub(crate) fn early_fault(alloc: Global, flow: &RawFlow) -> Result<Option<GraphFault>, AllocError>
     ensures { IfOk result (λ fault. fault ≡ early_fault flow.now) }
 {
@@ -38,5 +38,5 @@ pub(crate) fn early_fault(alloc: Global, flow: &RawFlow) -> Result<Option<GraphF
     if fault.is_some() {
         return Ok(fault);
     }
-    later_fault(alloc, flow)
+    named_fault(alloc, flow)
 }

@@ -1,20 +1,12 @@
 //! Names that are folders of other names.
-ghost use Rattle.std.specs.Prelude.{◌≡◌, ◌∷◌, [], ◌++◌, ◌<◌, ◌≤◌, ◌^◌, ℕ, false, true, Some, None, All, IfOk, find, map, length, slice_index_or, nat_eq, fold};
+ghost use Rattle.std.specs.Prelude.{◌≡◌, ◌∷◌, [], ◌++◌, ◌<◌, ◌≤◌, ◌^◌, ℕ, false, true, All, IfOk, find, map, length, slice_index_or, nat_eq};
 ghost use Rattle.std.specs.List.{list_any, starts_with};
-ghost use Rattle.std.specs.Option.{option_copied, option_map_or};
-ghost use Rattle.std.specs.BTreeSet.{insert_key};
-ghost use Rattle.std.specs.Cmp.Lexicographic.{slice_cmp};
-ghost use Rattle.std.specs.Ordering.{nat_cmp};
-ghost use Rattle.flow_types.specs.declared.flow.RawRule.{RawRule as RawRuleValue};
-ghost use Rattle.flow_types.specs.Names.{is_folder_of};
+ghost use Rattle.std.specs.Option.{option_copied};
 ghost use Rattle.flow_types.specs.Plans.{is_name_less};
-ghost use Rattle.rule_graph.specs.declared.faults.GraphFault.TheVariants as faults;
-ghost use Rattle.rule_graph.specs.Faults.{nested_in, nested_name, remote_names};
+ghost use Rattle.rule_graph.specs.Faults.{nested_under, nested_in, nested_name, remote_names};
 ghost use Rattle.rule_graph.specs.Checked.{HasNames, IsName, IsAscending, HasAll, ascending};
 
-use crate::checks::{
-    BadNames, NoOutput, RuleCheck, SameNames, name_from, over_rules, remote_names, too_many,
-};
+use crate::checks::{RuleCheck, name_from, over_rules, remote_names};
 use crate::faults::GraphFault;
 use crate::raw::{listed, names_of};
 use flow_types::{Bytes, RawFlow, RawRule, RuleNo};
@@ -91,7 +83,7 @@ fn nested_under(
     requires all { HasAll sorted.now names.now }
     requires names { All IsName names.now }
     requires folder { IsName folder.now }
-    ensures { IfOk result (λ fault. fault ≡ option_map_or (λ name. Some (faults.NestedName folder.now name)) (find (is_folder_of folder.now) names.now) None) }
+    ensures { IfOk result (λ fault. fault ≡ nested_under names.now folder.now) }
 {
     let start = start_below(alloc, folder)?;
     if !any_begins(sorted, &start) {

@@ -1,10 +1,7 @@
 //! The ports and the names of a flow as its texts give them, before it is known that they are names.
 ghost use Rattle.std.specs.Prelude.{◌≡◌, IfOk, OnOk, map, fold};
-ghost use Rattle.std.specs.BTreeSet.{insert_key};
-ghost use Rattle.std.specs.Cmp.Lexicographic.{slice_cmp};
-ghost use Rattle.std.specs.Ordering.{nat_cmp};
 ghost use Rattle.flow_types.specs.Names.{form_of};
-ghost use Rattle.rule_graph.specs.Flows.{remote_text, raw_port, raw_outputs, raw_inputs, names_of};
+ghost use Rattle.rule_graph.specs.Flows.{remote_text, raw_port, raw_outputs, raw_inputs, with_port, names_of};
 
 use flow_types::{Bytes, RawFile, RawFlow, RawRule, Rows, form_of};
 use std::alloc::{AllocError, Global};
@@ -108,7 +105,7 @@ pub(crate) fn listed(alloc: Global, names: BTreeSet<Vec<u8>>) -> Result<Vec<Byte
 }
 
 fn add_names(names: &mut BTreeSet<Vec<u8>>, ports: Vec<RawPort>) -> Result<(), AllocError>
-    ensures { OnOk result (map (λ name. name.items) names.new.keys ≡ fold (λ names port. insert_key (slice_cmp nat_cmp) names port.local) (map (λ name. name.items) names.old.keys) ports.items) }
+    ensures { OnOk result (map (λ name. name.items) names.new.keys ≡ fold with_port (map (λ name. name.items) names.old.keys) ports.items) }
 {
     for port in ports {
         let RawPort { local, remote: _ } = port;

@@ -4,7 +4,8 @@ use Rattle.std.specs.Ordering.{nat_cmp}
 use Rattle.std.specs.Cmp.Lexicographic.{slice_cmp}
 use Rattle.std.specs.BTreeSet.{insert_key}
 use Rattle.std.proofs.lemmas.List.Sums.{fold-append}
-use Rattle.rule_graph.proofs.Ports.{bytes_of, with_port, insert_bytes}
+use Rattle.rule_graph.specs.Flows.{with_port}
+use Rattle.rule_graph.proofs.Ports.{bytes_of, insert_bytes}
 use Rattle.rule_graph.proofs.raw.add_names.Goals as goal
 
 pub loop-port-preserved : goal.loop-port-preserved

@@ -1,7 +1,7 @@
 use Rattle.std.proofs.Common.{◌≡◌, [], map, fold, take}
 use Rattle.std.specs.Prelude.{flat_map}
-use Rattle.rule_graph.specs.Flows.{raw_ports}
-use Rattle.rule_graph.proofs.Ports.{bytes_of, with_port}
+use Rattle.rule_graph.specs.Flows.{raw_ports, with_port}
+use Rattle.rule_graph.proofs.Ports.{bytes_of}
 use Rattle.rule_graph.proofs.raw.names_of.Given as goal
 
 -- the names of the rules so far
