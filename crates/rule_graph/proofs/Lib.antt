@@ -1,6 +1,7 @@
 pub mod Ports
 pub mod RuleFaults
 pub mod Folders
+pub mod Unfaulted
 pub mod Hashed
 pub mod Counts
 pub mod Spelled

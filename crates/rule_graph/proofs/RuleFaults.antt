@@ -62,11 +62,11 @@ pub none_both : {A : Type 0} (a b : Option A) → or_else a b ≡ None → (a �
 none_both None b none = (refl, none)
 none_both (Some x) b none = absurd (none-some x (sym none))
 
-none_first : {A : Type 0} (b : Bool) (x : A) (rest : Option A) → cond b (Some x) rest ≡ None → (b ≡ false) × (rest ≡ None)
+pub none_first : {A : Type 0} (b : Bool) (x : A) (rest : Option A) → cond b (Some x) rest ≡ None → (b ≡ false) × (rest ≡ None)
 none_first true x rest none = absurd (none-some x (sym none))
 none_first false x rest none = (refl, none)
 
-nothing_mapped : {A B : Type 0} (f : A → B) (a : Option A) → option_map_or (λ x. Some (f x)) a None ≡ None → a ≡ None
+pub nothing_mapped : {A B : Type 0} (f : A → B) (a : Option A) → option_map_or (λ x. Some (f x)) a None ≡ None → a ≡ None
 nothing_mapped f None none = refl
 nothing_mapped f (Some x) none = absurd (none-some (f x) (sym none))
 
