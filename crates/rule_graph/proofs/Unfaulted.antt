@@ -1,9 +1,8 @@
 -- What a flow without a fault before numbering has, and what its plan has of it.
-use Rattle.std.proofs.Common.{◌≡◌, ℕ, zero, suc, ◌+◌, ◌<◌, ◌≤◌, Bool, true, false, cond, not, ◌&&◌, ◌||◌, List, [], ◌∷◌, ◌++◌, length, refl, ap, sym, ◌∙◌, arith, subst, All}
+use Rattle.std.proofs.Common.{◌≡◌, ℕ, ◌+◌, ◌≤◌, Bool, true, false, cond, not, ◌&&◌, ◌||◌, List, [], ◌∷◌, ◌++◌, length, refl, ap, ◌∙◌, arith, subst, All}
 use Rattle.std.specs.Prelude.{Option, Some, None, map, find, ⊤, nat_lt, nat_le, ◌==◌, IsTrue}
 use Rattle.std.specs.List.{list_any, list_all, enumerate_from, AllByRecursion}
 use Rattle.std.specs.List.Sorted.{IsStrictlySortedBy}
-use Rattle.std.specs.Option.{option_map_or}
 use Rattle.std.specs.Str.{bytes_eq}
 use Rattle.std.specs.declared.cmp.Ordering.TheVariants.{Less}
 use Rattle.std.specs.Ordering.{nat_cmp}
@@ -14,12 +13,11 @@ use Rattle.std.proofs.lemmas.List.Folds.{list_all-map}
 use Rattle.std.proofs.lemmas.List.Elements.{All-cons, All-nil, All-append, All-head, All-tail}
 use Rattle.flow_types.specs.declared.flow.RawRule.{RawRule}
 use Rattle.flow_types.specs.declared.flow.RawFlow.{RawFlow}
-use Rattle.flow_types.specs.declared.plan.Plan.{Plan}
 use Rattle.flow_types.specs.declared.plan.Rule.{Rule}
 use Rattle.flow_types.specs.declared.plan.Port.{Port}
 use Rattle.flow_types.specs.declared.plan.FileRow.{FileRow}
 use Rattle.flow_types.specs.Names.{is_name, is_folder_of, are_nested}
-use Rattle.flow_types.specs.Plans.{most_rules, most_files, most_inputs, most_outputs, all_pairs, is_less, is_name_less, remotes_of}
+use Rattle.flow_types.specs.Plans.{most_rules, most_files, all_pairs, is_less, is_name_less, remotes_of}
 use Rattle.rule_graph.specs.declared.faults.GraphFault.{GraphFault}
 use Rattle.rule_graph.specs.declared.faults.GraphFault.TheVariants as faults
 use Rattle.rule_graph.specs.declared.raw.RawPort.{RawPort}
@@ -65,15 +63,17 @@ pairs_split R (x ∷ xs) ys all =
     front : {A : Type 0} (P : A → Type 0) (xs ys : List A) → All P (xs ++ ys) → All P xs
     front P [] ys all = All-nil P
     front P (x ∷ xs) ys all = All-cons P x xs (All-head P x (xs ++ ys) all) (front P xs ys (All-tail P x (xs ++ ys) all))
+
     back : {A : Type 0} (P : A → Type 0) (xs ys : List A) → All P (xs ++ ys) → All P ys
     back P [] ys all = all
     back P (x ∷ xs) ys all = back P xs ys (All-tail P x (xs ++ ys) all)
 
 pairs_join : {A : Type 0} (R : A → A → Type 0) (xs ys : List A) → AllPairs R xs → AllPairs R ys → All (λ x. All (R x) ys) xs → AllPairs R (xs ++ ys)
 pairs_join R [] ys first second across = second
-pairs_join R (x ∷ xs) ys first second across =
-    (All-append (R x) xs ys first.0 (All-head (λ x. All (R x) ys) x xs across),
-    pairs_join R xs ys first.1 second (All-tail (λ x. All (R x) ys) x xs across))
+pairs_join R (x ∷ xs) ys first second across = (
+  All-append (R x) xs ys first.0 (All-head (λ x. All (R x) ys) x xs across),
+  pairs_join R xs ys first.1 second (All-tail (λ x. All (R x) ys) x xs across),
+)
 
 each_none : {A : Type 0} (R : A → A → Type 0) (xs : List A) → All (λ x. All (R x) []) xs
 each_none R [] = All-nil (λ x. All (R x) [])
@@ -125,9 +125,10 @@ none_nested names none =
 -- a name that no seen one is
 new_names : (x : List ℕ) (seen : List (List ℕ)) (ys : List (List ℕ)) → All (λ y. list_any (bytes_eq y) (x ∷ seen) ≡ false) ys
     → All (λ y. bytes_eq x y ≡ false) ys × All (λ y. list_any (bytes_eq y) seen ≡ false) ys
-new_names x seen ys all =
-    (as_all (λ y. list_any (bytes_eq y) (x ∷ seen) ≡ false) (λ y. bytes_eq x y ≡ false) (λ y none. nat_list_eq_equiv.symm x y ∙ (neither (bytes_eq y x) (list_any (bytes_eq y) seen) none).0) ys all,
-    as_all (λ y. list_any (bytes_eq y) (x ∷ seen) ≡ false) (λ y. list_any (bytes_eq y) seen ≡ false) (λ y none. (neither (bytes_eq y x) (list_any (bytes_eq y) seen) none).1) ys all)
+new_names x seen ys all = (
+  as_all (λ y. list_any (bytes_eq y) (x ∷ seen) ≡ false) (λ y. bytes_eq x y ≡ false) (λ y none. nat_list_eq_equiv.symm x y ∙ (neither (bytes_eq y x) (list_any (bytes_eq y) seen) none).0) ys all,
+  as_all (λ y. list_any (bytes_eq y) (x ∷ seen) ≡ false) (λ y. list_any (bytes_eq y) seen ≡ false) (λ y none. (neither (bytes_eq y x) (list_any (bytes_eq y) seen) none).1) ys all,
+)
   where
     neither : (a b : Bool) → (a || b) ≡ false → (a ≡ false) × (b ≡ false)
     neither true b none = absurd (true≢false none)
@@ -162,10 +163,11 @@ apart_pairs (x ∷ xs) differ none =
     (All-tail (λ folder. All (λ name. is_folder_of folder name ≡ false) (x ∷ xs)) x xs none) in
     let nested : All (λ name. (is_folder_of x name ≡ false) × (is_folder_of name x ≡ false)) xs =
     both_all (λ name. is_folder_of x name ≡ false) (λ name. is_folder_of name x ≡ false) (λ name. (is_folder_of x name ≡ false) × (is_folder_of name x ≡ false))
-    (λ name before behind. (before, behind)) xs of_x above_x in
-    (both_all (λ name. bytes_eq x name ≡ false) (λ name. (is_folder_of x name ≡ false) × (is_folder_of name x ≡ false)) (AreApart x)
-    (λ name other both. record { differ = other; before = both.0; behind = both.1 }) xs differ.0 nested,
-    apart_pairs xs differ.1 (fewer_folders x xs none))
+    (λ name before behind. (before, behind)) xs of_x above_x in (
+      both_all (λ name. bytes_eq x name ≡ false) (λ name. (is_folder_of x name ≡ false) × (is_folder_of name x ≡ false)) (AreApart x)
+          (λ name other both. record { differ = other; before = both.0; behind = both.1 }) xs differ.0 nested,
+      apart_pairs xs differ.1 (fewer_folders x xs none),
+    )
 
 apart_not_nested : (a b : List ℕ) → AreApart a b → not (are_nested a b) ≡ true
 apart_not_nested a b apart =
@@ -339,6 +341,7 @@ rule_remotes flow rule =
     map-append plan_remote (map (port_for (names_of flow)) (raw_inputs rule)) (map (port_for (names_of flow)) (raw_outputs rule))
     ∙ ap (λ remotes. remotes ++ map plan_remote (map (port_for (names_of flow)) (raw_outputs rule))) (remotes_for (names_of flow) (raw_inputs rule))
     ∙ ap (λ remotes. map remote_of (raw_inputs rule) ++ remotes) (remotes_for (names_of flow) (raw_outputs rule))
+
 -- a rule with names that differ and aren't nested
 remotes_test : (rule : RawRule) → HasNames rule → first_repeat [] (remote_names rule) ≡ None → nested_in (remote_names rule) ≡ None
     → (remotes : List (List ℕ)) → remotes ≡ map remote_of (raw_inputs rule) ++ map remote_of (raw_outputs rule)
@@ -359,6 +362,7 @@ remotes_test rule named differ apart remotes is =
     front_part : (xs ys : List (List ℕ)) → All IsName (xs ++ ys) → All IsName xs
     front_part [] ys all = All-nil IsName
     front_part (x ∷ xs) ys all = All-cons IsName x xs (All-head IsName x (xs ++ ys) all) (front_part xs ys (All-tail IsName x (xs ++ ys) all))
+
     back_part : (xs ys : List (List ℕ)) → All IsName (xs ++ ys) → All IsName ys
     back_part [] ys all = all
     back_part (x ∷ xs) ys all = back_part xs ys (All-tail IsName x (xs ++ ys) all)
