@@ -9,6 +9,7 @@ use Rattle.flow_types.specs.declared.flow.RawFlow.{RawFlow}
 use Rattle.flow_types.specs.declared.plan.Plan.{Plan}
 use Rattle.flow_types.specs.Names.{name_of, is_folder_of}
 use Rattle.flow_types.specs.Plans.{most_rules, most_files, most_inputs, most_outputs}
+use Rattle.rule_graph.specs.declared.raw.RawPort.{RawPort}
 use Rattle.rule_graph.specs.declared.faults.GraphFault.{GraphFault}
 use Rattle.rule_graph.specs.declared.faults.GraphFault.TheVariants as faults
 use Rattle.rule_graph.specs.Flows.{rule_no, remote_text, raw_outputs, raw_inputs, raw_ports, names_of, plan_without_faults}
@@ -67,9 +68,13 @@ abbrev pub first_repeat : List (List ℕ) → List (List ℕ) → Option (List �
 first_repeat seen [] = None
 first_repeat seen (name ∷ names) = if list_any (bytes_eq name) seen then Some name else first_repeat (name ∷ seen) names
 
+-- the remote names of ports
+abbrev pub remotes : List RawPort → List (List ℕ)
+remotes ports = map (λ port. port.remote) ports
+
 -- the remote names of a rule's ports, outputs first
 abbrev pub remote_names : RawRule → List (List ℕ)
-remote_names rule = map (λ port. port.remote) (raw_ports rule)
+remote_names rule = remotes (raw_ports rule)
 
 -- a rule of which two ports have one remote name
 abbrev pub same_name : ℕ → RawRule → Option GraphFault

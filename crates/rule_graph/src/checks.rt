@@ -1,10 +1,9 @@
 //! The faults that a flow's rules show one by one.
-ghost use Rattle.std.specs.Prelude.{◌≡◌, ◌∷◌, [], ◌++◌, ◌<◌, ◌^◌, ℕ, Option, Some, None, if◌then◌else◌, ⊤, All, IfOk, OnOk, find, length, map};
+ghost use Rattle.std.specs.Prelude.{◌≡◌, ◌∷◌, [], ◌++◌, ◌<◌, ◌^◌, ℕ, Option, Some, None, if◌then◌else◌, ⊤, All, IfOk, OnOk, find, length};
 ghost use Rattle.std.specs.Option.{option_copied};
 ghost use Rattle.flow_types.specs.declared.flow.RawRule.{RawRule as RawRuleValue};
 ghost use Rattle.rule_graph.specs.declared.faults.GraphFault.{GraphFault as GraphFaultValue};
-ghost use Rattle.rule_graph.specs.Flows.{remote_text};
-ghost use Rattle.rule_graph.specs.Faults.{over_rules, too_many_ports, too_many, is_no_name, file_texts, texts_of, bad_name, no_output, remote_names, first_repeat, same_name};
+ghost use Rattle.rule_graph.specs.Faults.{remotes, over_rules, too_many_ports, too_many, is_no_name, file_texts, texts_of, bad_name, no_output, remote_names, first_repeat, same_name};
 ghost use Rattle.rule_graph.specs.Checked.{HasNames, IsName};
 
 use crate::faults::GraphFault;
@@ -110,7 +109,7 @@ fn bad_copy(alloc: Global, text: &Text) -> Result<Option<Text>, AllocError>
 
 // The first text of a file that is no name: its own before its remote one.
 fn bad_text(alloc: Global, file: &RawFile) -> Result<Option<Text>, AllocError>
-    ensures { IfOk result (λ text. text ≡ find is_no_name (file.now.local ∷ remote_text file.now ∷ [])) }
+    ensures { IfOk result (λ text. text ≡ find is_no_name (file_texts (file.now ∷ []))) }
 {
     let own = bad_copy(alloc, &file.local)?;
     if own.is_some() {
@@ -198,7 +197,7 @@ pub(crate) fn name_from(alloc: Global, bytes: &Bytes) -> Result<Name, AllocError
 }
 
 fn add_remotes(names: &mut Vec<Bytes>, ports: Vec<RawPort>) -> Result<(), AllocError>
-    ensures { OnOk result (names.new.items ≡ names.old.items ++ map (λ port. port.remote) ports.items) }
+    ensures { OnOk result (names.new.items ≡ names.old.items ++ remotes ports.items) }
 {
     for port in ports {
         let RawPort { local: _, remote } = port;

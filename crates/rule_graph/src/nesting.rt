@@ -1,10 +1,10 @@
 //! Names that are folders of other names.
-ghost use Rattle.std.specs.Prelude.{◌≡◌, ◌∷◌, [], ◌++◌, ◌<◌, ◌≤◌, ◌^◌, ℕ, false, true, All, IfOk, find, map, length, slice_index_or, nat_eq};
+ghost use Rattle.std.specs.Prelude.{◌≡◌, ◌∷◌, [], ◌++◌, ◌<◌, ◌≤◌, ◌^◌, ℕ, false, true, All, IfOk, find, length, nat_eq};
 ghost use Rattle.std.specs.List.{list_any, starts_with};
 ghost use Rattle.std.specs.Option.{option_copied};
 ghost use Rattle.flow_types.specs.Plans.{is_name_less};
 ghost use Rattle.rule_graph.specs.Faults.{nested_under, nested_in, nested_name, remote_names};
-ghost use Rattle.rule_graph.specs.Checked.{HasNames, IsName, IsAscending, HasAll, ascending};
+ghost use Rattle.rule_graph.specs.Checked.{HasNames, IsName, IsAscending, HasAll, ascending, stands_before};
 
 use crate::checks::{RuleCheck, name_from, over_rules, remote_names};
 use crate::faults::GraphFault;
@@ -17,8 +17,8 @@ use std::collections::BTreeSet;
 fn first_from(names: &[Bytes], start: &[u8]) -> usize
     requires { IsAscending names.now }
     ensures within { result ≤ length names.now }
-    ensures before { (k : ℕ) → k < result → is_name_less (slice_index_or names.now k []) start.now ≡ true }
-    ensures from { result < length names.now → is_name_less (slice_index_or names.now result []) start.now ≡ false }
+    ensures before { (k : ℕ) → k < result → stands_before names.now k start.now ≡ true }
+    ensures from { result < length names.now → stands_before names.now result start.now ≡ false }
 {
     let mut low = 0;
     let mut high = names.len();
@@ -99,7 +99,7 @@ fn nested_under(
     }
 }
 
-// The first of the names that is a folder of another, with the first of which it is. The sorted names have each of them.
+// The first of the names that is a folder of another, with the first of which it is. Each stands among the sorted names.
 fn nested_in(
     alloc: Global,
     sorted: &[Bytes],

@@ -1,6 +1,7 @@
-//! The ports and the names of a flow as its texts give them, before it is known that they are names.
+//! The ports and the names of a flow as its texts give them, be they names or not.
 ghost use Rattle.std.specs.Prelude.{◌≡◌, IfOk, OnOk, map, fold};
 ghost use Rattle.flow_types.specs.Names.{form_of};
+ghost use Rattle.rule_graph.specs.Checked.{names_in};
 ghost use Rattle.rule_graph.specs.Flows.{remote_text, raw_port, raw_outputs, raw_inputs, with_port, names_of};
 
 use flow_types::{Bytes, RawFile, RawFlow, RawRule, Rows, form_of};
@@ -95,7 +96,7 @@ pub(crate) fn names_of(alloc: Global, flow: &RawFlow) -> Result<Vec<Bytes>, Allo
 
 // The keys of a set of names, in order.
 pub(crate) fn listed(alloc: Global, names: BTreeSet<Vec<u8>>) -> Result<Vec<Bytes>, AllocError>
-    ensures { IfOk result (λ texts. texts.items ≡ map (λ name. name.items) names.keys) }
+    ensures { IfOk result (λ texts. texts.items ≡ names_in names) }
 {
     let mut texts = Vec::new(alloc);
     for name in names {
@@ -105,7 +106,7 @@ pub(crate) fn listed(alloc: Global, names: BTreeSet<Vec<u8>>) -> Result<Vec<Byte
 }
 
 fn add_names(names: &mut BTreeSet<Vec<u8>>, ports: Vec<RawPort>) -> Result<(), AllocError>
-    ensures { OnOk result (map (λ name. name.items) names.new.keys ≡ fold with_port (map (λ name. name.items) names.old.keys) ports.items) }
+    ensures { OnOk result (names_in names.new ≡ fold with_port (names_in names.old) ports.items) }
 {
     for port in ports {
         let RawPort { local, remote: _ } = port;
