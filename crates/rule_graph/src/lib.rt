@@ -16,3 +16,6 @@ pub use examples::{bytes_of_one_copy, faults_of_small_flows, plans_of_small_flow
 pub use faults::GraphFault;
 pub use laws::{serial_order_is_an_order, spelling_tells_the_plan};
 pub use order::serial_order;
+
+#[cfg(test)]
+mod early_tests;
