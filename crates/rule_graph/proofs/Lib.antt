@@ -11,3 +11,11 @@ pub mod Indexing
 pub mod Ranges
 pub mod Rounds
 pub mod OrderLaws
+pub mod Chains
+pub mod Walks
+pub mod LoopLaws
+pub mod LoopsLeftOver
+pub mod Places
+pub mod Marks
+pub mod LeastInput
+pub mod WalkSteps

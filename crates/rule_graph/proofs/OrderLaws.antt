@@ -85,7 +85,7 @@ next_inside P rounds taken (Some r) is inside later =
     (list_all-append (λ r. nat_lt r (length P.rules)) taken (r ∷ [])
     ∙ and_from _ _ inside (and_from (nat_lt r (length P.rules)) true (lt-ltb r (length P.rules) low) refl))
 
-order_inside : (P : Plan) (rounds : ℕ) (taken : List ℕ) → list_all (λ r. nat_lt r (length P.rules)) taken ≡ true
+pub order_inside : (P : Plan) (rounds : ℕ) (taken : List ℕ) → list_all (λ r. nat_lt r (length P.rules)) taken ≡ true
     → list_all (λ r. nat_lt r (length P.rules)) (order_from P rounds taken) ≡ true
 order_inside P zero taken inside = inside
 order_inside P (suc rounds) taken inside = next_inside P rounds taken (next_rule P taken) refl inside (λ r. order_inside P rounds (taken ++ (r ∷ [])))
@@ -113,7 +113,7 @@ every_rule P valid =
 pub serial_order_of_valid : (P : Plan) → IsValid P → IsSerialOrder P
 serial_order_of_valid P valid = order_of_run P (every_rule P valid)
 
-none_fail : (p : ℕ → Bool) (xs : List ℕ) → filter (λ x. not (p x)) xs ≡ [] → list_all p xs ≡ true
+pub none_fail : (p : ℕ → Bool) (xs : List ℕ) → filter (λ x. not (p x)) xs ≡ [] → list_all p xs ≡ true
 none_fail p [] none = refl
 none_fail p (x ∷ xs) none = at_item p x xs (p x) refl none (none_fail p xs)
   where
@@ -122,7 +122,7 @@ none_fail p (x ∷ xs) none = at_item p x xs (p x) refl none (none_fail p xs)
     at_item p x xs true is none rest = and_from _ _ is (rest none)
     at_item p x xs false is none rest = absurd (let wrong : ⊥ = cc in wrong)
 
-all_pass : (p : ℕ → Bool) (xs : List ℕ) → list_all p xs ≡ true → filter (λ x. not (p x)) xs ≡ []
+pub all_pass : (p : ℕ → Bool) (xs : List ℕ) → list_all p xs ≡ true → filter (λ x. not (p x)) xs ≡ []
 all_pass p [] all = refl
 all_pass p (x ∷ xs) all =
     let parts = and_parts (p x) (list_all p xs) all in

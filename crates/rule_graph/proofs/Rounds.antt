@@ -54,7 +54,7 @@ takes_at P t (Some rule) all = inside_at P rule (all rule refl)
 some_same : (x y : Rule) → Some x ≡ Some y → x ≡ y
 some_same x y e = cc
 
-takes_inside : (P : Plan) (t : ℕ) → IsWired P → All (λ f. f < length P.files) (takes P t)
+pub takes_inside : (P : Plan) (t : ℕ) → IsWired P → All (λ f. f < length P.files) (takes P t)
 takes_inside P t wired =
     takes_at P t (slice_get P.rules t)
     (λ rule found. elim (slice_get_cases P.rules t).1 [
@@ -104,12 +104,12 @@ find_step p a n r false other from to passes below rest =
     ap (λ b. cond b (Some a) (find p (range_with_len (a + 1) n))) (below a (omega (arith, from, ne)))
     ∙ rest (omega (arith, from, ne)) (omega (arith, to))
 
-find_at : (p : ℕ → Bool) (a n r : ℕ) → a ≤ r → r < a + n → p r ≡ true → ((q : ℕ) → q < r → p q ≡ false) → find p (range_with_len a n) ≡ Some r
+pub find_at : (p : ℕ → Bool) (a n r : ℕ) → a ≤ r → r < a + n → p r ≡ true → ((q : ℕ) → q < r → p q ≡ false) → find p (range_with_len a n) ≡ Some r
 find_at p a zero r from to passes below = absurd (let wrong : ⊥ = omega (arith, from, to) in wrong)
 find_at p a (suc n) r from to passes below =
     find_step p a n r (a == r) refl from to passes below (λ from to. find_at p (a + 1) n r from to passes below)
 
-find_none : (p : ℕ → Bool) (a n : ℕ) → ((q : ℕ) → q < a + n → p q ≡ false) → find p (range_with_len a n) ≡ None
+pub find_none : (p : ℕ → Bool) (a n : ℕ) → ((q : ℕ) → q < a + n → p q ≡ false) → find p (range_with_len a n) ≡ None
 find_none p a zero fails = refl
 find_none p a (suc n) fails =
     ap (λ b. cond b (Some a) (find p (range_with_len (a + 1) n))) (fails a (omega arith)) ∙ find_none p (a + 1) n (λ q low. fails q (omega (arith, low)))

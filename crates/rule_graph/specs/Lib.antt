@@ -6,4 +6,6 @@ pub mod Cycles
 pub mod Faults
 pub mod Checked
 pub mod Examples
+pub mod Loops
+pub mod Walking
 pub mod Laws

@@ -2,6 +2,7 @@
 #![tactic(auto)]
 
 mod checks;
+mod cycle;
 mod digest;
 mod early;
 mod examples;
@@ -11,6 +12,7 @@ mod nesting;
 mod order;
 mod raw;
 
+pub use cycle::the_named_loop;
 pub use digest::plan_digest;
 pub use examples::{bytes_of_one_copy, faults_of_small_flows, plans_of_small_flows};
 pub use faults::GraphFault;
