@@ -20,7 +20,7 @@ use Rattle.rule_graph.specs.Faults.{cycle}
 use Rattle.rule_graph.specs.Flows.{rule_no}
 use Rattle.rule_graph.specs.declared.faults.GraphFault.{GraphFault}
 use Rattle.rule_graph.specs.declared.faults.GraphFault.TheVariants as faults
-use Rattle.rule_graph.specs.Loops.{IsNumbered, IsFedBy, IsLoop, IsNamedLoop}
+use Rattle.rule_graph.specs.Loops.{IsNumbered, IsFedBy, IsLoop, IsNamedLoop, step}
 use Rattle.rule_graph.specs.Walking.{IsWalk, IsTurned}
 use Rattle.rule_graph.proofs.Rounds.{takes_inside}
 use Rattle.rule_graph.proofs.OrderLaws.{none_fail, all_pass, nothing_left_over}
@@ -163,10 +163,6 @@ next_left P r numbered left =
     let none = or_parts (is_source P f) (list_any (λ t. contains_number f (makes P t)) (serial_order P)) input.2 in
     let maker = made_at P f inside none.0 in
     next_from P r f maker.0 numbered inside input.1 maker.1 none.1
-
--- the steps to the maker of the least input whose maker is left over
-abbrev pub step : Plan → ℕ → Option ℕ
-step P r = maker_before P (left_over P) r
 
 -- each of these rules has one of them before it
 abbrev GoesOn : Plan → List ℕ → Type 0

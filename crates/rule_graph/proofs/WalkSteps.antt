@@ -9,12 +9,12 @@ use Rattle.flow_types.specs.declared.numbers.RuleNo.{RuleNo}
 use Rattle.flow_types.specs.Plans.{contains_number, rule_numbers}
 use Rattle.flow_types.specs.Serial.{serial_order}
 use Rattle.rule_graph.specs.Cycles.{left_over, from_first, loop_among}
-use Rattle.rule_graph.specs.Loops.{IsNumbered}
+use Rattle.rule_graph.specs.Loops.{IsNumbered, step}
 use Rattle.rule_graph.specs.Walking.{numbers_of, AreMarks, IsWalk, IsTurned}
 use Rattle.rule_graph.proofs.Rounds.{find_at}
 use Rattle.rule_graph.proofs.Chains.{in_first}
 use Rattle.rule_graph.proofs.Walks.{few_of, walk_more, IsFound, found_at, turned_found, turned_least}
-use Rattle.rule_graph.proofs.LoopLaws.{step, next_left, left_parts, left_from, named_from, named_is_computed}
+use Rattle.rule_graph.proofs.LoopLaws.{next_left, left_parts, left_from, named_from, named_is_computed}
 use Rattle.rule_graph.proofs.Places.{as_many}
 
 number : RuleNo → ℕ

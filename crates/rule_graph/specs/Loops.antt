@@ -37,15 +37,23 @@ abbrev pub after_steps : (ℕ → Option ℕ) → ℕ → ℕ → Option ℕ
 after_steps next zero r = Some r
 after_steps next (suc steps) r = option_and_then (after_steps next steps) (next r)
 
+-- the step from a rule: to the maker of its least input whose maker is left over
+abbrev pub step : Plan → ℕ → Option ℕ
+step P r = maker_before P (left_over P) r
+
 -- The loop that is named: it goes from rule to rule to the maker of the least input whose maker is left over, and from the last
 -- rule to the first; such steps lead to it from the least rule left over; and it begins at its least rule.
 pub record IsNamedLoop (P : Plan) (loop : List ℕ) : Type 0 where
   pub some : 0 < length loop
   pub once : (r : ℕ) → times_in r loop ≤ 1
   pub all_left_over : (r : ℕ) → IsTrue (contains_number r loop) → IsTrue (contains_number r (left_over P))
-  pub steps : IsChain (λ r s. maker_before P (left_over P) r ≡ Some s) loop (slice_index loop 0)
-  pub reached : (n r : ℕ) × (after_steps (maker_before P (left_over P)) n (slice_index (left_over P) 0) ≡ Some r) × IsTrue (contains_number r loop)
+  pub steps : IsChain (λ r s. step P r ≡ Some s) loop (slice_index loop 0)
+  pub reached : (n r : ℕ) × (after_steps (step P) n (slice_index (left_over P) 0) ≡ Some r) × IsTrue (contains_number r loop)
   pub least_first : (r : ℕ) → IsTrue (contains_number r loop) → slice_index loop 0 ≤ r
+
+-- the loop among the rules left over, where there are any
+abbrev pub named_loop : Plan → Option (List ℕ)
+named_loop P = loop_among P (left_over P)
 
 -- No loop is named exactly where the serial order has every rule.
 abbrev pub NoneNamedWhereAllAreTaken : Type 0
@@ -61,7 +69,7 @@ NamedLoopIsALoop = (P : Plan) (loop : List ℕ) → IsNumbered P → IsNamedLoop
 
 -- The loop computed among the rules left over is the one that the relation names, and it names no other.
 abbrev pub NamedLoopIsTheLoop : Type 0
-NamedLoopIsTheLoop = (P : Plan) (loop : List ℕ) → IsNumbered P → (loop_among P (left_over P) ≡ Some loop) ↔ IsNamedLoop P loop
+NamedLoopIsTheLoop = (P : Plan) (loop : List ℕ) → IsNumbered P → (named_loop P ≡ Some loop) ↔ IsNamedLoop P loop
 
 -- A serial run comes to no rule of a loop.
 abbrev pub LoopsAreLeftOver : Type 0

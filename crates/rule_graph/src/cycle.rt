@@ -1,12 +1,12 @@
 //! The loop that is named where a serial run leaves rules over, in time of the plan's ports.
-ghost use Rattle.std.specs.Prelude.{◌≡◌, ℕ, ◌<◌, ◌≤◌, ◌^◌, ◌==◌, true, false, not, List, IfOk, IsTrue, MatchOption, length, min, replicate, slice_set, slice_index, slice_index_or};
+ghost use Rattle.std.specs.Prelude.{◌≡◌, ◌<◌, ◌≤◌, ◌^◌, ◌==◌, true, false, not, IfOk, IsTrue, MatchOption, length, min, replicate, slice_set, slice_index, slice_index_or};
 ghost use Rattle.std.specs.List.{prefix_len};
 ghost use Rattle.std.specs.Option.{option_map, option_map_or};
 ghost use Rattle.flow_types.specs.Plans.{contains_number, files_of, maker_of};
 ghost use Rattle.rule_graph.specs.Progress.{IsWired};
-ghost use Rattle.rule_graph.specs.Cycles.{left_over, is_made_among, maker_before, from_first, loop_among};
-ghost use Rattle.rule_graph.specs.Loops.{IsNumbered, NoneNamedWhereAllAreTaken, NoneNamedWhereNoneIs, NamedLoopIsALoop, NamedLoopIsTheLoop, LoopsAreLeftOver};
-ghost use Rattle.rule_graph.specs.Walking.{numbers_of, AreMarks, IsLeastOf, IsWalk, IsTurned};
+ghost use Rattle.rule_graph.specs.Cycles.{left_over, from_first};
+ghost use Rattle.rule_graph.specs.Loops.{IsNumbered, NoneNamedWhereAllAreTaken, NoneNamedWhereNoneIs, NamedLoopIsALoop, NamedLoopIsTheLoop, LoopsAreLeftOver, named_loop, step};
+ghost use Rattle.rule_graph.specs.Walking.{numbers_of, rule_number, file_number, is_never_made, AreMarks, HasNoMark, IsFirstMark, IsLeastOf, IsLeastPlace, IsWalkOf, ComesRound, IsTurned};
 
 use crate::order::order_of;
 use flow_types::{FileNo, Plan, Port, Rows, RuleNo};
@@ -25,7 +25,7 @@ pub fn the_named_loop()
 // The loop that is named, none where a serial run comes to every rule.
 pub(crate) fn loop_of(alloc: Global, plan: &Plan) -> Result<Option<Vec<RuleNo>>, AllocError>
     requires { IsNumbered plan.now }
-    ensures { IfOk result (λ found. option_map (λ rules. numbers_of rules.items) found ≡ loop_among plan.now (left_over plan.now)) }
+    ensures { IfOk result (λ v. option_map (λ r. numbers_of r.items) v ≡ named_loop plan.now) }
 {
     let left = left_marks(alloc, plan)?;
     match first_marked(&left) {
@@ -78,7 +78,7 @@ fn is_marked(marks: &[bool], rule: RuleNo) -> bool
 // The least rule that is marked.
 fn first_marked(marks: &[bool]) -> Option<RuleNo>
     requires { length marks.now < 2 ^ 32 }
-    ensures { MatchOption result ((r : ℕ) → slice_index_or marks.now r false ≡ false) (λ first. (slice_index_or marks.now first.0 false ≡ true) × ((r : ℕ) → r < first.0 → slice_index_or marks.now r false ≡ false)) }
+    ensures { MatchOption result (HasNoMark marks.now) (λ first. IsFirstMark marks.now first.0) }
 {
     'rules: for rule in 0..marks.len() {
         if marks[rule] {
@@ -89,7 +89,7 @@ fn first_marked(marks: &[bool]) -> Option<RuleNo>
 }
 
 fn maker_of(plan: &Plan, file: FileNo) -> Option<RuleNo>
-    ensures { option_map (λ rule. rule.0) result ≡ maker_of plan.now file.0 }
+    ensures { rule_number result ≡ maker_of plan.now file.0 }
 {
     match plan.files.get(file.0 as usize) {
         Some(row) => row.maker,
@@ -98,8 +98,9 @@ fn maker_of(plan: &Plan, file: FileNo) -> Option<RuleNo>
 }
 
 // Whether the file's maker is left over.
-fn is_made_among(plan: &Plan, left: &[bool], file: FileNo) -> bool
-    ensures { (rules : List ℕ) → AreMarks rules left.now → result ≡ is_made_among plan.now rules file.0 }
+fn is_never_made(plan: &Plan, left: &[bool], file: FileNo) -> bool
+    requires { AreMarks (left_over plan.now) left.now }
+    ensures { result ≡ is_never_made plan.now file.0 }
 {
     match maker_of(plan, file) {
         Some(maker) => is_marked(left, maker),
@@ -111,18 +112,19 @@ fn lesser(least: Option<FileNo>, file: FileNo) -> FileNo
     ensures { result.0 ≡ option_map_or (λ other. min other.0 file.0) least file.0 }
 {
     match least {
-        Some(other) => { if other.0 < file.0 { other } else { file } }
-        None => file,
+        Some(other) if other.0 < file.0 => other,
+        _ => file,
     }
 }
 
 // The least input whose maker is left over.
 fn least_input(plan: &Plan, left: &[bool], inputs: &Rows<Port>) -> Option<FileNo>
-    ensures { (rules : List ℕ) → AreMarks rules left.now → IsLeastOf (is_made_among plan.now rules) (files_of inputs.now) (option_map (λ file. file.0) result) }
+    requires { AreMarks (left_over plan.now) left.now }
+    ensures { IsLeastOf (is_never_made plan.now) (files_of inputs.now) (file_number result) }
 {
     let mut least = None;
     for port in inputs.as_slice() {
-        if is_made_among(plan, left, port.file) {
+        if is_never_made(plan, left, port.file) {
             least = Some(lesser(least, port.file));
         }
     }
@@ -131,7 +133,8 @@ fn least_input(plan: &Plan, left: &[bool], inputs: &Rows<Port>) -> Option<FileNo
 
 // The maker of the rule's least input whose maker is left over.
 fn maker_before(plan: &Plan, left: &[bool], rule: RuleNo) -> Option<RuleNo>
-    ensures { (rules : List ℕ) → AreMarks rules left.now → option_map (λ maker. maker.0) result ≡ maker_before plan.now rules rule.0 }
+    requires { AreMarks (left_over plan.now) left.now }
+    ensures { rule_number result ≡ step plan.now rule.0 }
 {
     match plan.rules.get(rule.0 as usize) {
         Some(row) => match least_input(plan, left, &row.inputs) {
@@ -155,8 +158,8 @@ fn walk_from(alloc: Global, plan: &Plan, left: &[bool], first: RuleNo) -> Result
     requires marks { AreMarks (left_over plan.now) left.now }
     requires is_first { first.0 ≡ slice_index (left_over plan.now) 0 }
     requires is_left { IsTrue (contains_number first.0 (left_over plan.now)) }
-    ensures walk { IfOk result (λ walk. IsWalk (maker_before plan.now (left_over plan.now)) (left_over plan.now) (numbers_of walk.path.items) walk.next.0) }
-    ensures repeats { IfOk result (λ walk. IsTrue (contains_number walk.next.0 (numbers_of walk.path.items))) }
+    ensures walk { IfOk result (λ walk. IsWalkOf plan.now walk) }
+    ensures repeats { IfOk result ComesRound }
 {
     let mut seen = marks(alloc, plan.rules.len(), false)?;
     let mut path = Vec::new(alloc);
@@ -196,7 +199,7 @@ fn loop_in(walk: &Walk) -> &[RuleNo]
 fn place_of_least(rules: &[RuleNo]) -> usize
     requires { 0 < length rules.now }
     ensures inside { result < length rules.now }
-    ensures least { (k : ℕ) → k < length rules.now → slice_index (numbers_of rules.now) result ≤ slice_index (numbers_of rules.now) k }
+    ensures least { IsLeastPlace rules.now result }
 {
     let mut least = 0;
     'places: for place in 0..rules.len() {

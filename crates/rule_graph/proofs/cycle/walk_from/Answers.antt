@@ -3,8 +3,9 @@ use Rattle.std.proofs.lemmas.List.{length-set}
 use Rattle.flow_types.specs.declared.plan.Plan.{Plan}
 use Rattle.flow_types.specs.Plans.{contains_number}
 use Rattle.rule_graph.specs.Cycles.{left_over}
+use Rattle.rule_graph.specs.Loops.{step}
 use Rattle.rule_graph.specs.Walking.{numbers_of, IsWalk}
-use Rattle.rule_graph.proofs.LoopLaws.{step, left_parts}
+use Rattle.rule_graph.proofs.LoopLaws.{left_parts}
 use Rattle.rule_graph.proofs.Marks.{mark_more}
 use Rattle.rule_graph.proofs.WalkSteps.{pushed, walk_next, walk_shrinks, never_none}
 use Rattle.rule_graph.proofs.cycle.walk_from.Goals as goal
@@ -22,7 +23,7 @@ steps-smaller c =
     sym (c.steps.invariant.seen c.steps.next.0) ∙ ap (λ marks. get_or marks c.steps.next.0 false) (sym c.deref.ensures.value) ∙ sym c.is_marked.ensures ∙ c.steps-test.true in
     walk_shrinks P c.steps.path.items c.push.new.self.items c.steps.next c.in-Some.maker.0 c.in_ok-push.ensures.items
     (walk_next P c.steps.path.items c.push.new.self.items c.steps.next c.in-Some.maker c.requires.numbered c.steps.invariant.walk fresh
-    (c.in-Some.ensures (left_over P) c.requires.marks) c.in_ok-push.ensures.items)
+    c.in-Some.ensures c.in_ok-push.ensures.items)
 
 pub steps-preserved : goal.steps-preserved
 steps-preserved c =
@@ -33,7 +34,7 @@ steps-preserved c =
     let inside : c.steps.next.0 < length c.steps.seen.items = omega (arith, low, c.steps.invariant.rules) in
     record {
       walk = walk_next P c.steps.path.items c.push.new.self.items c.steps.next c.in-Some.maker c.requires.numbered c.steps.invariant.walk fresh
-          (c.in-Some.ensures (left_over P) c.requires.marks) c.in_ok-push.ensures.items;
+          c.in-Some.ensures c.in_ok-push.ensures.items;
       seen = λ r.
           ap (λ marks. get_or marks r false) c.set_mark.ensures
           ∙ mark_more c.steps.seen.items (numbers_of c.steps.path.items) c.steps.next.0 r inside (c.steps.invariant.seen r)
@@ -47,5 +48,5 @@ returns-clause-walk c =
     elim c.steps-test.branch [
       | else-steps-test w ↦ subst (λ path. IsWalk (step P) (left_over P) (numbers_of path.items) c.steps.next.0) (sym w.path-is) c.steps.invariant.walk
       | then-steps-test+in_ok-push+in-None w ↦
-          absurd (never_none P c.steps.next.0 c.requires.numbered c.steps.invariant.walk.here (w.in-None.ensures (left_over P) c.requires.marks))
+          absurd (never_none P c.steps.next.0 c.requires.numbered c.steps.invariant.walk.here w.in-None.ensures)
     ]
