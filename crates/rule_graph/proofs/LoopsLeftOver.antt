@@ -1,17 +1,21 @@
 -- A serial run never comes to a rule of a loop.
-use Rattle.std.proofs.Common.{◌≡◌, ℕ, zero, suc, ◌<◌, Bool, true, false, not, ◌||◌, List, [], ◌∷◌, ◌++◌, length, get_or, Option, Some, None, refl, ap, sym, ◌∙◌, arith, subst, ◌⊎◌, inl, inr}
+use Rattle.std.proofs.Common.{◌≡◌, ℕ, zero, suc, ◌<◌, Bool, true, false, not, ◌||◌, List, [], ◌∷◌, ◌++◌, length, get_or, Option, Some, None, refl, ap, sym, ◌∙◌, arith, subst, ◌⊎◌, inl, inr, All, ◌≤◌}
 use Rattle.std.specs.Prelude.{◌↔◌, ◌==◌, nat_lt, slice_get, is_none}
 use Rattle.std.specs.List.{list_any, list_all}
 use Rattle.std.specs.Option.{option_map_or}
-use Rattle.std.proofs.lemmas.Bool.{and_parts, or_cases, true≢false, false_from_ne_true, ltb-true, ltb-false}
-use Rattle.std.proofs.lemmas.List.Folds.{list_any-append}
+use Rattle.std.proofs.lemmas.Bool.{and_parts, or_cases, true≢false, false_from_ne_true, ltb-true, ltb-false, leb-true}
+use Rattle.std.proofs.lemmas.List.Folds.{list_any-append, list_all-append}
 use Rattle.std.proofs.lemmas.Option.{none-some, slice_get_past}
 use Rattle.flow_types.specs.declared.plan.Plan.{Plan}
 use Rattle.flow_types.specs.declared.plan.FileRow.{FileRow}
 use Rattle.flow_types.specs.declared.numbers.RuleNo.{RuleNo}
-use Rattle.flow_types.specs.Plans.{takes, makes, is_source, files_of, contains_number, rule_numbers}
+use Rattle.flow_types.specs.Plans.{takes, makes, is_source, files_of, contains_number, rule_numbers, IsValid}
 use Rattle.flow_types.specs.Serial.{is_made, can_take, next_rule, order_from}
 use Rattle.flow_types.proofs.SerialRun.{HasMakers, find-passes, maker_in, made_by-makers}
+use Rattle.flow_types.specs.declared.plan.Port.{Port}
+use Rattle.flow_types.specs.declared.plan.Rule.{Rule}
+use Rattle.rule_graph.proofs.Counts.{all_from}
+use Rattle.rule_graph.specs.Progress.{IsInside}
 use Rattle.rule_graph.specs.Cycles.{left_over}
 use Rattle.rule_graph.specs.Faults.{cycle}
 use Rattle.rule_graph.specs.Loops.{IsNumbered, IsChain, IsFedBy, IsLoop}
@@ -131,3 +135,29 @@ none_named_where_none_is P numbered = (
             absurd (no_loop found.0 (named_is_loop P found.0 numbered (named_from P found.0 found.1.found found.1.least))))
       ],
 )
+
+ports_wired : (P : Plan) (ports : List Port) → list_all (λ port. nat_lt port.file.0 (length P.files)) ports ≡ true → All (IsInside P) ports
+ports_wired P ports inside =
+    all_from (λ port. nat_lt port.file.0 (length P.files)) (IsInside P) (λ port low. ltb-true port.file.0 (length P.files) low) ports inside
+
+both_parts : (P : Plan) (rule : Rule) → list_all (λ port. nat_lt port.file.0 (length P.files)) (rule.inputs ++ rule.outputs) ≡ true
+    → All (IsInside P) rule.inputs × All (IsInside P) rule.outputs
+both_parts P rule inside =
+    let parts =
+    and_parts (list_all (λ port. nat_lt port.file.0 (length P.files)) rule.inputs) (list_all (λ port. nat_lt port.file.0 (length P.files)) rule.outputs)
+    (sym (list_all-append (λ port. nat_lt port.file.0 (length P.files)) rule.inputs rule.outputs) ∙ inside) in
+    (ports_wired P rule.inputs parts.0, ports_wired P rule.outputs parts.1)
+
+-- a valid plan is numbered
+pub valid_is_numbered : (P : Plan) → IsValid P → IsNumbered P
+valid_is_numbered P valid =
+    let test : Rule → Bool = λ rule. list_all (λ port. nat_lt port.file.0 (length P.files)) (rule.inputs ++ rule.outputs) in
+    record {
+      wired = record {
+        few_rules = let few : length P.rules ≤ 20000 = leb-true (length P.rules) 20000 valid.few_rules in omega (arith, few);
+        inputs_inside = all_from test (λ rule. All (IsInside P) rule.inputs) (λ rule inside. (both_parts P rule inside).0) P.rules valid.ports_inside;
+        outputs_inside = all_from test (λ rule. All (IsInside P) rule.outputs) (λ rule inside. (both_parts P rule inside).1) P.rules valid.ports_inside;
+      };
+      made_by = valid.made_by;
+      makers = valid.makers;
+    }

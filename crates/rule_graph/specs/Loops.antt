@@ -3,7 +3,7 @@ use Rattle.std.specs.Prelude.{◌≡◌, ◌↔◌, ℕ, zero, suc, ◌<◌, ◌
 use Rattle.std.specs.List.{list_all}
 use Rattle.std.specs.Option.{option_map_or, option_and_then}
 use Rattle.flow_types.specs.declared.plan.Plan.{Plan}
-use Rattle.flow_types.specs.Plans.{takes, makes, maker_of, is_made_by, rule_numbers, file_numbers, contains_number}
+use Rattle.flow_types.specs.Plans.{IsValid, takes, makes, maker_of, is_made_by, rule_numbers, file_numbers, contains_number}
 use Rattle.flow_types.specs.Serial.{serial_order}
 use Rattle.rule_graph.specs.Progress.{IsWired, times_in}
 use Rattle.rule_graph.specs.Cycles.{left_over, maker_before, loop_among}
@@ -16,6 +16,10 @@ pub record IsNumbered (P : Plan) : Type 0 where
   pub made_by : IsTrue (list_all (λ r. list_all (λ f. is_made_by P r f) (makes P r)) (rule_numbers P))
   -- The maker of a file makes it.
   pub makers : IsTrue (list_all (λ f. option_map_or (λ r. contains_number f (makes P r)) (maker_of P f) true) (file_numbers P))
+
+-- A valid plan is numbered so.
+abbrev pub ValidPlansAreNumbered : Type 0
+ValidPlansAreNumbered = (P : Plan) → IsValid P → IsNumbered P
 
 -- each rule of the list stands so to the next one, and the last to this one
 abbrev pub IsChain : (ℕ → ℕ → Type 0) → List ℕ → ℕ → Type 0

@@ -5,7 +5,7 @@ ghost use Rattle.std.specs.Option.{option_map, option_map_or};
 ghost use Rattle.flow_types.specs.Plans.{contains_number, files_of, maker_of};
 ghost use Rattle.rule_graph.specs.Progress.{IsWired};
 ghost use Rattle.rule_graph.specs.Cycles.{left_over, from_first};
-ghost use Rattle.rule_graph.specs.Loops.{IsNumbered, NoneNamedWhereAllAreTaken, NoneNamedWhereNoneIs, NamedLoopIsALoop, NamedLoopIsTheLoop, LoopsAreLeftOver, named_loop, step};
+ghost use Rattle.rule_graph.specs.Loops.{IsNumbered, NoneNamedWhereAllAreTaken, NoneNamedWhereNoneIs, NamedLoopIsALoop, NamedLoopIsTheLoop, LoopsAreLeftOver, ValidPlansAreNumbered, named_loop, step};
 ghost use Rattle.rule_graph.specs.Walking.{numbers_of, rule_number, file_number, is_never_made, AreMarks, HasNoMark, IsFirstMark, IsLeastOf, IsLeastPlace, IsWalkOf, ComesRound, IsTurned};
 
 use crate::order::order_of;
@@ -14,12 +14,14 @@ use std::alloc::{AllocError, Global};
 
 /// No loop is named exactly where the serial order has every rule, which is exactly where the plan has no loop. The loop that
 /// is named is a loop of the plan: the one to which the steps from the least rule left over lead, begun at its least rule.
+/// All this holds of plans whose files are numbered, as those of valid plans are.
 pub fn the_named_loop()
     ensures taken { NoneNamedWhereAllAreTaken }
     ensures none { NoneNamedWhereNoneIs }
     ensures a_loop { NamedLoopIsALoop }
     ensures the_loop { NamedLoopIsTheLoop }
     ensures left_over { LoopsAreLeftOver }
+    ensures valid { ValidPlansAreNumbered }
 {}
 
 // The loop that is named, none where a serial run comes to every rule.
