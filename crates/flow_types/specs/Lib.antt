@@ -1,5 +1,6 @@
 pub mod Names
 pub mod Plans
+pub mod Flows
 pub mod Serial
 pub mod Laws
 pub mod Examples

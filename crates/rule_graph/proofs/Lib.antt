@@ -11,6 +11,13 @@ pub mod Indexing
 pub mod Ranges
 pub mod Rounds
 pub mod OrderLaws
+pub mod NamePlaces
+pub mod Tables
+pub mod Makings
+pub mod PlanRows
+pub mod Known
+pub mod PlanMakers
+pub mod PlanFiles
 pub mod Chains
 pub mod Walks
 pub mod LoopLaws
@@ -19,3 +26,4 @@ pub mod Places
 pub mod Marks
 pub mod LeastInput
 pub mod WalkSteps
+pub mod PlanValid

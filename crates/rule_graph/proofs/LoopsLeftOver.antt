@@ -1,6 +1,6 @@
 -- A serial run never comes to a rule of a loop.
 use Rattle.std.proofs.Common.{◌≡◌, ℕ, zero, suc, ◌<◌, Bool, true, false, not, ◌||◌, List, [], ◌∷◌, ◌++◌, length, get_or, Option, Some, None, refl, ap, sym, ◌∙◌, arith, subst, ◌⊎◌, inl, inr, All, ◌≤◌}
-use Rattle.std.specs.Prelude.{◌↔◌, ◌==◌, nat_lt, slice_get, is_none}
+use Rattle.std.specs.Prelude.{◌↔◌, ◌==◌, nat_lt, slice_get, is_none, IsTrue}
 use Rattle.std.specs.List.{list_any, list_all}
 use Rattle.std.specs.Option.{option_map_or}
 use Rattle.std.proofs.lemmas.Bool.{and_parts, or_cases, true≢false, false_from_ne_true, ltb-true, ltb-false, leb-true}
@@ -9,7 +9,7 @@ use Rattle.std.proofs.lemmas.Option.{none-some, slice_get_past}
 use Rattle.flow_types.specs.declared.plan.Plan.{Plan}
 use Rattle.flow_types.specs.declared.plan.FileRow.{FileRow}
 use Rattle.flow_types.specs.declared.numbers.RuleNo.{RuleNo}
-use Rattle.flow_types.specs.Plans.{takes, makes, is_source, files_of, contains_number, rule_numbers, IsValid}
+use Rattle.flow_types.specs.Plans.{takes, makes, is_source, files_of, contains_number, rule_numbers, file_numbers, maker_of, is_made_by, IsValid}
 use Rattle.flow_types.specs.Serial.{is_made, can_take, next_rule, order_from}
 use Rattle.flow_types.proofs.SerialRun.{HasMakers, find-passes, maker_in, made_by-makers}
 use Rattle.flow_types.specs.declared.plan.Port.{Port}
@@ -148,16 +148,22 @@ both_parts P rule inside =
     (sym (list_all-append (λ port. nat_lt port.file.0 (length P.files)) rule.inputs rule.outputs) ∙ inside) in
     (ports_wired P rule.inputs parts.0, ports_wired P rule.outputs parts.1)
 
--- a valid plan is numbered
-pub valid_is_numbered : (P : Plan) → IsValid P → IsNumbered P
-valid_is_numbered P valid =
+-- a plan whose ports are inside, and whose makers make, is numbered
+pub parts_numbered : (P : Plan) → length P.rules ≤ 20000 → IsTrue (list_all (λ rule. list_all (λ port. nat_lt port.file.0 (length P.files)) (rule.inputs ++ rule.outputs)) P.rules)
+    → IsTrue (list_all (λ r. list_all (λ f. is_made_by P r f) (makes P r)) (rule_numbers P))
+    → IsTrue (list_all (λ f. option_map_or (λ r. contains_number f (makes P r)) (maker_of P f) true) (file_numbers P)) → IsNumbered P
+parts_numbered P few inside made_by makers =
     let test : Rule → Bool = λ rule. list_all (λ port. nat_lt port.file.0 (length P.files)) (rule.inputs ++ rule.outputs) in
     record {
       wired = record {
-        few_rules = let few : length P.rules ≤ 20000 = leb-true (length P.rules) 20000 valid.few_rules in omega (arith, few);
-        inputs_inside = all_from test (λ rule. All (IsInside P) rule.inputs) (λ rule inside. (both_parts P rule inside).0) P.rules valid.ports_inside;
-        outputs_inside = all_from test (λ rule. All (IsInside P) rule.outputs) (λ rule inside. (both_parts P rule inside).1) P.rules valid.ports_inside;
+        few_rules = omega (arith, few);
+        inputs_inside = all_from test (λ rule. All (IsInside P) rule.inputs) (λ rule is. (both_parts P rule is).0) P.rules inside;
+        outputs_inside = all_from test (λ rule. All (IsInside P) rule.outputs) (λ rule is. (both_parts P rule is).1) P.rules inside;
       };
-      made_by = valid.made_by;
-      makers = valid.makers;
+      made_by = made_by;
+      makers = makers;
     }
+
+-- a valid plan is numbered
+pub valid_is_numbered : (P : Plan) → IsValid P → IsNumbered P
+valid_is_numbered P valid = parts_numbered P (leb-true (length P.rules) 20000 valid.few_rules) valid.ports_inside valid.made_by valid.makers

@@ -11,6 +11,7 @@ use Rattle.flow_types.specs.Names.{name_of, is_folder_of}
 use Rattle.flow_types.specs.Plans.{most_rules, most_files, most_inputs, most_outputs}
 use Rattle.rule_graph.specs.declared.raw.RawPort.{RawPort}
 use Rattle.rule_graph.specs.declared.faults.GraphFault.{GraphFault}
+use Rattle.rule_graph.specs.declared.numbering.Making.{Making}
 use Rattle.rule_graph.specs.declared.faults.GraphFault.TheVariants as faults
 use Rattle.rule_graph.specs.Flows.{rule_no, remote_text, raw_outputs, raw_inputs, raw_ports, names_of, plan_without_faults}
 use Rattle.rule_graph.specs.Cycles.{left_over, loop_among}
@@ -91,11 +92,6 @@ nested_in names = first_said (nested_under names) names
 -- names of files before remote names
 abbrev pub nested_name : RawFlow → Option GraphFault
 nested_name flow = or_else (nested_in (names_of flow)) (first_said (λ rule. nested_in (remote_names rule)) flow.rules)
-
--- a rule and a name that it makes
-pub record Making : Type 0 where
-  pub maker : ℕ
-  pub name : List ℕ
 
 -- the outputs of all rules, as they stand
 abbrev pub makings : RawFlow → List Making

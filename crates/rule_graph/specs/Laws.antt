@@ -1,4 +1,4 @@
--- What a plan's spelling tells of it, and that a serial run takes rules in an order.
+-- What a plan's spelling tells of it, that a serial run takes rules in an order, and which plans are valid.
 use Rattle.std.specs.Prelude.{◌≡◌, ℕ, List, [], Option, None, map, not, ◌==◌, nat_lt, length, IsTrue}
 use Rattle.std.specs.List.{list_all}
 use Rattle.flow_types.specs.declared.plan.Plan.{Plan}
@@ -8,7 +8,10 @@ use Rattle.flow_types.specs.declared.flow.Pair.{Pair}
 use Rattle.flow_types.specs.Plans.{IsValid, is_order, all_pairs}
 use Rattle.flow_types.specs.Serial.{serial_order}
 use Rattle.rule_graph.specs.Cycles.{left_over}
-use Rattle.rule_graph.specs.Faults.{cycle}
+use Rattle.rule_graph.specs.Faults.{cycle, fault_of}
+use Rattle.rule_graph.specs.Flows.{plan_without_faults}
+use Rattle.flow_types.specs.Flows.{FitsLimits}
+use Rattle.flow_types.specs.declared.flow.RawFlow.{RawFlow}
 use Rattle.rule_graph.specs.Spelling.{plan_bytes}
 
 -- a rule but for its needs and its local mark
@@ -47,3 +50,7 @@ NothingLeftOverIsAnOrder = (P : Plan) → left_over P ≡ [] → IsSerialOrder P
 -- A serial run of a valid plan comes to every rule.
 abbrev pub ValidPlansLeaveNothingOver : Type 0
 ValidPlansLeaveNothingOver = (P : Plan) → IsValid P → left_over P ≡ []
+
+-- The plan of a flow without a fault that keeps the limits is valid.
+abbrev pub FaultlessPlansAreValid : Type 0
+FaultlessPlansAreValid = (flow : RawFlow) → FitsLimits flow → fault_of flow ≡ None → IsValid (plan_without_faults flow)

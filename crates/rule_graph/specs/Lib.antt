@@ -4,7 +4,9 @@ pub mod Progress
 pub mod Flows
 pub mod Cycles
 pub mod Faults
+pub mod Answers
 pub mod Checked
+pub mod Numbering
 pub mod Examples
 pub mod Loops
 pub mod Walking

@@ -1,5 +1,5 @@
 //! Laws of the definitions, each the contract of a function that does nothing.
-ghost use Rattle.rule_graph.specs.Laws.{SpellingTells, SerialOrderIsAnOrder, NothingLeftOverIsAnOrder, ValidPlansLeaveNothingOver};
+ghost use Rattle.rule_graph.specs.Laws.{FaultlessPlansAreValid, SpellingTells, SerialOrderIsAnOrder, NothingLeftOverIsAnOrder, ValidPlansLeaveNothingOver};
 
 /// Two valid plans with one spelling have the same commands, environments, ports, bounds and files; only needs and local
 /// marks may differ.
@@ -13,4 +13,10 @@ pub fn serial_order_is_an_order()
     ensures order { SerialOrderIsAnOrder }
     ensures whole { NothingLeftOverIsAnOrder }
     ensures valid { ValidPlansLeaveNothingOver }
+{}
+
+/// The plan of a flow without a fault, none of whose commands, environments, amounts and stated bounds passes its limit, is
+/// valid.
+pub fn faultless_plans_are_valid()
+    ensures { FaultlessPlansAreValid }
 {}

@@ -9,15 +9,19 @@ mod examples;
 mod faults;
 mod laws;
 mod nesting;
+mod numbering;
 mod order;
+mod plan;
 mod raw;
+mod rows;
 
 pub use cycle::the_named_loop;
 pub use digest::plan_digest;
 pub use examples::{bytes_of_one_copy, faults_of_small_flows, plans_of_small_flows};
 pub use faults::GraphFault;
-pub use laws::{serial_order_is_an_order, spelling_tells_the_plan};
+pub use laws::{faultless_plans_are_valid, serial_order_is_an_order, spelling_tells_the_plan};
 pub use order::serial_order;
+pub use plan::plan_of;
 
 #[cfg(test)]
-mod early_tests;
+mod tests;
