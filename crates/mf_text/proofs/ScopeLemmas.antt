@@ -1,8 +1,8 @@
 -- Looking names up in a scope, whose keys are strings, as in the finite map that it is seen as.
-use Rattle.std.proofs.Common.{◌≡◌, ℕ, Bool, true, false, cond, List, [], ◌∷◌, map, Option, Some, refl, sym, ap, ◌∙◌, string_bytes, String, Global}
+use Rattle.std.proofs.Common.{◌≡◌, ℕ, Bool, true, false, cond, List, [], ◌∷◌, map, Option, Some, refl, sym, ap, ◌∙◌, string_bytes, String, Global, Result, Ok, Err, OnOk, OnErr}
 use Rattle.std.specs.Option.{option_map}
 use Rattle.std.specs.Ordering.{nat_cmp, eq_by_cmp}
-use Rattle.std.specs.Cmp.{eq_by_cmp_equiv}
+use Rattle.std.specs.Cmp.{eq_by_cmp_equiv, Equal-is}
 use Rattle.std.specs.Str.{bytes_eq}
 use Rattle.std.specs.String.{string_cmp}
 use Rattle.std.proofs.lemmas.Map.Text.{btree_map_updates_text, is_eq-slice_cmp}
@@ -41,16 +41,43 @@ written : (b : Bool) (v : String Global) (old : Option (String Global)) → opti
 written true v old = refl
 written false v old = refl
 
+-- a value that is put in at these bytes is put into the finite map
+pub insert-seen_at : (m n : BTreeMap (String Global) (String Global)) (k : List ℕ) (v : String Global)
+    → UpdatesBy string_cmp (λ x. slice_cmp nat_cmp k (string_bytes x)) m n (Some v)
+    → seen n ≡ finite.insert (seen m) k (string_bytes v)
+insert-seen_at m n k v updates =
+    let is : (q : List ℕ) → finite.get (seen n) q ≡ finite.get (finite.insert (seen m) k (string_bytes v)) q = λ q.
+    get-seen n q
+    ∙ ap (λ (o : Option (String Global)). option_map string_bytes o) (btree_map_updates_text k m n (Some v) updates q)
+    ∙ written (bytes_eq k q) v (get_by_text m q)
+    ∙ ap (λ (b : Bool). cond b (Some (string_bytes v)) (option_map string_bytes (get_by_text m q))) (same_either_way k q)
+    ∙ ap (λ (o : Option (List ℕ)). cond (eq_by_cmp (slice_cmp nat_cmp) q k) (Some (string_bytes v)) o) (sym (get-seen m q))
+    ∙ sym (finite.get-insert nat_list_cmp_total (seen m) k (string_bytes v) q) in
+    finite.same_map nat_list_cmp_total (finite.slice_cmp-IsAntisymmetric finite.nat_cmp-IsAntisymmetric) (seen n) (finite.insert (seen m) k (string_bytes v)) is
+
 -- a value that is put in is put into the finite map
 pub insert-seen : (m n : BTreeMap (String Global) (String Global)) (k v : String Global)
     → UpdatesBy string_cmp (λ x. slice_cmp nat_cmp (string_bytes k) (string_bytes x)) m n (Some v)
     → seen n ≡ finite.insert (seen m) (string_bytes k) (string_bytes v)
-insert-seen m n k v updates =
-    let is : (q : List ℕ) → finite.get (seen n) q ≡ finite.get (finite.insert (seen m) (string_bytes k) (string_bytes v)) q = λ q.
-    get-seen n q
-    ∙ ap (λ (o : Option (String Global)). option_map string_bytes o) (btree_map_updates_text (string_bytes k) m n (Some v) updates q)
-    ∙ written (bytes_eq (string_bytes k) q) v (get_by_text m q)
-    ∙ ap (λ (b : Bool). cond b (Some (string_bytes v)) (option_map string_bytes (get_by_text m q))) (same_either_way (string_bytes k) q)
-    ∙ ap (λ (o : Option (List ℕ)). cond (eq_by_cmp (slice_cmp nat_cmp) q (string_bytes k)) (Some (string_bytes v)) o) (sym (get-seen m q))
-    ∙ sym (finite.get-insert nat_list_cmp_total (seen m) (string_bytes k) (string_bytes v) q) in
-    finite.same_map nat_list_cmp_total (finite.slice_cmp-IsAntisymmetric finite.nat_cmp-IsAntisymmetric) (seen n) (finite.insert (seen m) (string_bytes k) (string_bytes v)) is
+insert-seen m n k v updates = insert-seen_at m n (string_bytes k) v updates
+
+-- a value that is put in where it stands already changes nothing
+pub insert-same : (m : Values) (k v : List ℕ) → finite.get m k ≡ Some v → finite.insert m k v ≡ m
+insert-same m k v has =
+    let is : (q : List ℕ) → finite.get (finite.insert m k v) q ≡ finite.get m q = λ q.
+    finite.get-insert nat_list_cmp_total m k v q
+    ∙ elim (eq_by_cmp (slice_cmp nat_cmp) q k) as (λ (b : Bool). eq_by_cmp (slice_cmp nat_cmp) q k ≡ b → cond b (Some v) (finite.get m q) ≡ finite.get m q) [
+      | true ↦ λ e. sym has ∙ finite.get_tied nat_list_cmp_total m q k ((Equal-is (slice_cmp nat_cmp q k)).0 e)
+      | false ↦ λ e. refl
+    ] refl in
+    finite.same_map nat_list_cmp_total (finite.slice_cmp-IsAntisymmetric finite.nat_cmp-IsAntisymmetric) (finite.insert m k v) m is
+
+-- a fact of a call that went well, carried on
+pub on_ok : {X E : Type 0} (r : Result X E) (A B : Type 0) → OnOk r A → (A → B) → OnOk r B
+on_ok (Ok x) A B h step = step h
+on_ok (Err e) A B h step = tt
+
+-- a fact of a call that failed, carried on
+pub on_err : {X E : Type 0} (r : Result X E) (A B : Type 0) → OnErr r A → (A → B) → OnErr r B
+on_err (Ok x) A B h step = tt
+on_err (Err e) A B h step = step h

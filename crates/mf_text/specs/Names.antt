@@ -1,5 +1,5 @@
 -- Names of variables, and the values that they have.
-use Rattle.std.specs.Prelude.{ℕ, Bool, ◌&&◌, ◌||◌, List, slice_index, nat_le, ◌==◌}
+use Rattle.std.specs.Prelude.{ℕ, Bool, ◌&&◌, ◌||◌, List, ◌∷◌, ◌++◌, Option, Some, None, slice_index, nat_le, ◌==◌}
 use Rattle.std.specs.List.{list_all}
 use Rattle.std.specs.FinMap as map
 use Rattle.std.specs.Ordering.{nat_cmp}
@@ -20,3 +20,8 @@ is_variable text = begins_name (slice_index text 0) && list_all continues_name t
 -- a finite map from names to values
 abbrev pub Values : Type 0
 Values = map.FinMap (slice_cmp nat_cmp) (List ℕ)
+
+-- a value behind the old one and a space, alone where there is no old one
+abbrev pub behind_old : Option (List ℕ) → List ℕ → List ℕ
+behind_old None value = value
+behind_old (Some old) value = old ++ 32 ∷ value

@@ -1,7 +1,8 @@
 //! The variables of a text.
-ghost use Rattle.std.specs.Prelude.{◌≡◌, OnOk, OnErr};
+ghost use Rattle.std.specs.Prelude.{◌≡◌, ◌++◌, ◌∷◌, OnOk, OnErr, string_bytes};
 ghost use Rattle.std.specs.Option.{option_map};
 ghost use Rattle.std.specs.FinMap as map;
+ghost use Rattle.mf_text.specs.Names.{behind_old};
 
 use flow_types::Memory;
 use std::alloc::Global;
@@ -56,6 +57,19 @@ impl Scope {
         }
     }
 
+    /// Puts a space and this value behind the one that a variable has, or sets it where it has none.
+    pub fn append(&mut self, name: &str, value: &str) -> Result<(), Memory>
+        ensures ok { OnOk result
+            (self.new
+            ≡ map.insert self.old name.now (behind_old (map.get self.old name.now) value.now)) }
+        ensures err { OnErr result (self.new ≡ self.old) }
+    {
+        match self.values.get_mut(name) {
+            Some(old) => put_behind(old, value),
+            None => self.set(name, value),
+        }
+    }
+
     /// The value of a variable.
     pub fn get(&self, name: &str) -> Option<&str>
         ensures { option_map (λ value. value.now) result ≡ map.get self.now name.now }
@@ -64,5 +78,20 @@ impl Scope {
             Some(value) => Some(value.as_str()),
             None => None,
         }
+    }
+}
+
+// A space and the value behind a text, which stays as it is for want of memory.
+fn put_behind(text: &mut String, value: &str) -> Result<(), Memory>
+    ensures ok { OnOk result (string_bytes text.new ≡ string_bytes text.old ++ 32 ∷ value.now) }
+    ensures err { OnErr result (string_bytes text.new ≡ string_bytes text.old) }
+{
+    let room = value.len().saturating_add(1);
+    if text.reserve(room).is_err() || text.push(' ').is_err() {
+        return Err(Memory);
+    }
+    match text.push_str(value) {
+        Ok(()) => Ok(()),
+        Err(_) => Err(Memory),
     }
 }
