@@ -1,0 +1,9 @@
+pub mod NameLemmas
+pub mod NumberLemmas
+pub mod CategoryLemmas
+pub mod VariableLemmas
+pub mod Lists
+pub mod FaultLemmas
+pub mod Standing
+pub mod Assigning
+pub mod Commands
