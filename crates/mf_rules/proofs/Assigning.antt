@@ -100,13 +100,13 @@ module _ (env : List (List ℕ × List ℕ)) (earlier : List Formed) (n : ℕ) (
   unfolding given_value after_line put_value
   holds_assigned old new h is puts = record {
     values = ap (λ (m : Values). finite.get m) (puts.values ∙ ap (λ (v : List ℕ). finite.insert old.values name v) (value_is old h is))
-      ∙ same_functions (λ x. get_put old.values name given_value x
-      ∙ ap (λ (f : List ℕ → Option (List ℕ)). cond (bytes_eq name x) (Some given_value) (f x)) h.values
-      ∙ put_given (bytes_eq name x) given_value (text_value env earlier x) (first_pair env x));
+        ∙ same_functions (λ x. get_put old.values name given_value x
+        ∙ ap (λ (f : List ℕ → Option (List ℕ)). cond (bytes_eq name x) (Some given_value) (f x)) h.values
+        ∙ put_given (bytes_eq name x) given_value (text_value env earlier x) (first_pair env x));
     of_text = λ x. ap (λ (s : NameSet). finite.contains_key s x) puts.of_text ∙ in_insert old.of_text name x
-      ∙ ap (λ (b : Bool). b || finite.contains_key old.of_text x) (sym (same_either_way name x))
-      ∙ ap (λ (b : Bool). bytes_eq name x || b) (h.of_text x)
-      ∙ put_some (bytes_eq name x) given_value (text_value env earlier x);
+        ∙ ap (λ (b : Bool). b || finite.contains_key old.of_text x) (sym (same_either_way name x))
+        ∙ ap (λ (b : Bool). bytes_eq name x || b) (h.of_text x)
+        ∙ put_some (bytes_eq name x) given_value (text_value env earlier x);
     marked = puts.marked ∙ elim marks as (λ (b : Bool). cond b (finite.insert old.marked name tt) old.marked ≡ set_of (marked_at (record { number = n; form = form.Assignment b name appends text } ∷ earlier))) [
       | true ↦ ap (λ (s : NameSet). finite.insert s name tt) h.marked
       | false ↦ h.marked
@@ -117,13 +117,13 @@ module _ (env : List (List ℕ × List ℕ)) (earlier : List Formed) (n : ℕ) (
   unfolding given_value after_line
   holds_heeded old new shown h heeds is = record {
     current = heeds.current
-      ∙ ap (λ (c : List ℕ). cond (bytes_eq name (codes "CATEGORY")) shown c) h.current
-      ∙ ap (λ (v : List ℕ). cond (bytes_eq name (codes "CATEGORY")) v (category_at env earlier)) is
-      ∙ entered (bytes_eq name (codes "CATEGORY")) given_value (category_at env earlier);
+        ∙ ap (λ (c : List ℕ). cond (bytes_eq name (codes "CATEGORY")) shown c) h.current
+        ∙ ap (λ (v : List ℕ). cond (bytes_eq name (codes "CATEGORY")) v (category_at env earlier)) is
+        ∙ entered (bytes_eq name (codes "CATEGORY")) given_value (category_at env earlier);
     amounts = λ wanted x. heeds.amounts wanted x
-      ∙ ap (λ (c : List ℕ). or_else (amount_by wanted x c (set_by_variable name shown)) (finite.get (amounts_of wanted old) x)) h.current
-      ∙ ap (λ (v : List ℕ). or_else (amount_by wanted x (category_at env earlier) (set_by_variable name v)) (finite.get (amounts_of wanted old) x)) is
-      ∙ ap (λ (o : Option ℕ). or_else (amount_by wanted x (category_at env earlier) (set_by_variable name given_value)) o) (h.amounts wanted x);
+        ∙ ap (λ (c : List ℕ). or_else (amount_by wanted x c (set_by_variable name shown)) (finite.get (amounts_of wanted old) x)) h.current
+        ∙ ap (λ (v : List ℕ). or_else (amount_by wanted x (category_at env earlier) (set_by_variable name v)) (finite.get (amounts_of wanted old) x)) is
+        ∙ ap (λ (o : Option ℕ). or_else (amount_by wanted x (category_at env earlier) (set_by_variable name given_value)) o) (h.amounts wanted x);
   }
 
   shown_is : (old new : Variables) (shown : List ℕ) → HoldsVariables env earlier old → expanded_at env earlier n text ≡ Ok value → Assigns old marks name appends value new

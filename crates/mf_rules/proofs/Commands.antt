@@ -50,10 +50,10 @@ module _ (env : List (List ℕ × List ℕ)) (earlier : List Formed) (old : Read
         categories = record { current = s.categories.current; amounts = s.categories.amounts };
         waiting = refl;
         drafts = takes.drafts
-          ∙ ap (λ (ds : List Draft). ds ++ drafted old.waiting t (table_pairs old.variables)) s.drafts
-          ∙ ap (λ (h : Option Head). drafts_at env earlier ++ drafted h t (table_pairs old.variables)) s.waiting
-          ∙ ap (λ (ps : List Pair). drafts_at env earlier ++ drafted (head_at env earlier) t ps) (pairs_are s)
-          ∙ ap (λ (ds : List Draft). drafts_at env earlier ++ ds) (draft_is (head_at env earlier) t)
-          ∙ ap (λ (r : Result (List ℕ) MakeFault). drafts_at env earlier ++ draft_of env (head_at env earlier) (or_text r) earlier) (sym is);
+            ∙ ap (λ (ds : List Draft). ds ++ drafted old.waiting t (table_pairs old.variables)) s.drafts
+            ∙ ap (λ (h : Option Head). drafts_at env earlier ++ drafted h t (table_pairs old.variables)) s.waiting
+            ∙ ap (λ (ps : List Pair). drafts_at env earlier ++ drafted (head_at env earlier) t ps) (pairs_are s)
+            ∙ ap (λ (ds : List Draft). drafts_at env earlier ++ ds) (draft_is (head_at env earlier) t)
+            ∙ ap (λ (r : Result (List ℕ) MakeFault). drafts_at env earlier ++ draft_of env (head_at env earlier) (or_text r) earlier) (sym is);
         bounds = s.bounds ∙ sym (append-nil _);
       })

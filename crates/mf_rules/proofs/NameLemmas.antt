@@ -133,3 +133,12 @@ pub small : (all : List Pair) → environment_size all ≤ 1048576 → limited_p
 small all h =
     let short : ltb 1048576 (environment_size all) ≡ false = le-ltb 1048576 (environment_size all) h in
     rw short refl
+
+-- ---- no name
+
+-- the empty set has no entries
+pub no_entries : finite.entries (finite.empty {X = Unit {0}} {R = slice_cmp nat_cmp}) ≡ []
+no_entries =
+    let none : finite.entries (finite.from_sorted {R = slice_cmp nat_cmp} []) ≡ [] = finite.entries-from_sorted order [] tt in
+    let is : finite.from_sorted {R = slice_cmp nat_cmp} [] ≡ finite.empty = finite.empty_of_len (finite.from_sorted []) (finite.len-entries (finite.from_sorted []) ∙ ap length none) in
+    ap (λ (m : NameSet). finite.entries m) (sym is) ∙ none

@@ -108,9 +108,9 @@ module _ (env : List (List ℕ × List ℕ)) (earlier : List Formed) (old : Read
     variables = record { values = s.variables.values; of_text = s.variables.of_text; marked = s.variables.marked };
     categories = record { current = s.categories.current; amounts = s.categories.amounts };
     waiting =
-      ap (λ (c : List ℕ). Some (record { place = n; files = files; category = c })) s.categories.current
-      ∙ ap (λ (f : HeadFiles). Some (record { place = n; files = f; category = category_at env earlier }))
-      (sym (ap (λ (r : Result (List ℕ) MakeFault). or_no_files (files_of_head (or_text r))) is ∙ ap or_no_files found));
+        ap (λ (c : List ℕ). Some (record { place = n; files = files; category = c })) s.categories.current
+        ∙ ap (λ (f : HeadFiles). Some (record { place = n; files = f; category = category_at env earlier }))
+        (sym (ap (λ (r : Result (List ℕ) MakeFault). or_no_files (files_of_head (or_text r))) is ∙ ap or_no_files found));
     drafts = s.drafts ∙ sym (append-nil _);
     bounds = s.bounds ∙ sym (append-nil _);
   }

@@ -5,3 +5,4 @@ pub mod Rules
 pub mod Faults
 pub mod Flow
 pub mod Progress
+pub mod Examples

@@ -62,7 +62,7 @@ abbrev pub Goes : {X : Type 0} → Reader → Formed → Bool → Result X MakeF
 Goes old line answered answer new =
     (env : List (List ℕ × List ℕ)) (earlier : List Formed) → Stands env earlier old
     → MatchResult answer (λ _. Stands env (line ∷ earlier) new × (line_fault env earlier line answered ≡ None))
-        (λ fault. Fails fault (refused (line_fault env earlier line answered)))
+    (λ fault. Fails fault (refused (line_fault env earlier line answered)))
 
 -- the amount that a text states was put in for the current category
 pub record SetsAmount (old : Categories) (set : Resource) (text : List ℕ) (new : Categories) : Type 0 where

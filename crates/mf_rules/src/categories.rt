@@ -67,7 +67,8 @@ impl Categories {
         ensures { MatchResult result
             (λ _. SetsAmount self.old resource text.now self.new
             × (least (setting_faults number (Some (resource, text.now))) ≡ None))
-            (λ fault. Fails fault (refused (least (setting_faults number (Some (resource, text.now)))))) }
+            (λ fault. Fails fault
+            (refused (least (setting_faults number (Some (resource, text.now)))))) }
     {
         match amount_in(text) {
             Some(amount) => match self.state(resource, amount) {

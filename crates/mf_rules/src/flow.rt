@@ -11,11 +11,7 @@ use std::alloc::Global;
 
 /// The flow that a Makeflow text says, over these variables of the environment, of which the first
 /// of a name counts; or the fault of its least line, by the order of `MakeFault` on one line.
-pub fn read_make(
-    alloc: Global,
-    text: &[u8],
-    env: &[(String, String)],
-) -> Result<RawFlow, MakeFault>
+pub fn read_make(alloc: Global, text: &[u8], env: &[(String, String)]) -> Result<RawFlow, MakeFault>
     ensures { Gives (λ flow. flow) result (flow_of (given_pairs env.now) text.now) }
 {
     let lines = logical_lines(alloc, text)?;

@@ -3,6 +3,7 @@
 
 mod categories;
 mod drafts;
+mod examples;
 mod faults;
 mod flow;
 mod names;
@@ -11,5 +12,9 @@ mod reader;
 mod steps;
 mod variables;
 
+pub use examples::worked_flows;
 pub use flow::read_make;
 pub use names::MAX_COMMAND;
+
+#[cfg(test)]
+mod tests;

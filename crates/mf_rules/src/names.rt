@@ -69,7 +69,8 @@ impl Names {
     /// environment.
     pub(crate) fn pairs(&self, alloc: Global, values: &Scope) -> Result<Option<Rows<Pair>>, Memory>
         ensures { IfOk result
-            (λ pairs. pairs ≡ limited_pairs (pairs_of (finite.get values.now) (names_in self.now))) }
+            (λ pairs. pairs
+            ≡ limited_pairs (pairs_of (finite.get values.now) (names_in self.now))) }
     {
         let mut pairs = Vec::new(alloc);
         let mut size = 0;
@@ -109,8 +110,8 @@ fn pair_of(alloc: Global, name: &str, value: &str) -> Result<Pair, Memory>
 // The size of an environment with one pair more, none where it passes the limit.
 fn total_size(size: usize, name: &str, value: &str) -> Option<usize>
     requires { size ≤ 1048576 }
-    ensures { result ≡ (if nat_lt 1048576 (size + (length name.now + length value.now + 8)) then None
-        else Some (size + (length name.now + length value.now + 8))) }
+    ensures { result ≡ (if nat_lt 1048576 (size + (length name.now + length value.now + 8))
+        then None else Some (size + (length name.now + length value.now + 8))) }
 {
     let more = name.len().saturating_add(value.len()).saturating_add(8);
     let total = size.saturating_add(more);

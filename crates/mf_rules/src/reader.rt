@@ -187,7 +187,8 @@ impl Reader {
         text: &Text,
     ) -> Result<(), MakeFault>
         ensures { (answered : Bool) → Goes self.old
-            (record { number = number; form = Form.Amount resource text.now }) answered result self.new }
+            (record { number = number; form = Form.Amount resource text.now })
+            answered result self.new }
     {
         match expand(alloc, &self.variables.values, number, text.as_str()) {
             Ok(text) => self.categories.set_amount(number, resource, text.as_str()),
@@ -230,8 +231,13 @@ impl Reader {
     // The head waits for its command.
     fn wait(&mut self, alloc: Global, place: u32, files: HeadFiles) -> Result<(), MakeFault>
         ensures { MatchResult result
-            (λ _. self.new ≡ record self.old { waiting = Some (record { place = place; files = files;
-                category = self.old.categories.current }) })
+            (λ _. self.new ≡ record self.old {
+              waiting = Some (record {
+                place = place;
+                files = files;
+                category = self.old.categories.current;
+              });
+            })
             (λ fault. fault ≡ MakeFault.Memory) }
     {
         match self.categories.current.copy(alloc) {
@@ -250,7 +256,8 @@ impl Reader {
     // One bound more, or the fault of a line without one.
     fn push_bound(&mut self, number: u32, found: Option<SizeBound>) -> Result<(), MakeFault>
         ensures rest { self.new ≡ record self.old { bounds = self.new.bounds } }
-        ensures bounds { MatchOption found (Fails {Y = Unit {0}} (MakeFault.BadNumber number) result)
+        ensures bounds { MatchOption found
+            (Fails {Y = Unit {0}} (MakeFault.BadNumber number) result)
             (λ bound. MatchResult result
             (λ _. self.new.bounds.items ≡ self.old.bounds.items ++ bound ∷ [])
             (λ fault. fault ≡ MakeFault.Memory)) }
@@ -336,7 +343,8 @@ fn check_command(number: u32, text: &str, is_waiting: bool) -> Result<(), MakeFa
     ensures { (is_large : Bool) → MatchResult result
         (λ _. least (all_of_command number text.now is_waiting is_large)
         ≡ least (where_true is_large (MakeFault.TooLarge 1048576)))
-        (λ fault. Fails fault (refused (least (all_of_command number text.now is_waiting is_large)))) }
+        (λ fault. Fails fault
+        (refused (least (all_of_command number text.now is_waiting is_large)))) }
 {
     if is_no_command(text) {
         return Err(MakeFault::NoCommand(number));

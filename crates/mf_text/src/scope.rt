@@ -57,7 +57,7 @@ impl Scope {
         }
     }
 
-    /// Puts a space and this value behind the one that a variable has, or sets it where it has none.
+    /// Puts a space and this value behind the one that a variable has, or sets it if it has none.
     pub fn append(&mut self, name: &str, value: &str) -> Result<(), Memory>
         ensures ok { OnOk result
             (self.new

@@ -119,6 +119,17 @@ fn dollars_are_expanded_once(rt: HostRuntime) -> Result<(), Fail> {
 }
 
 #[test]
+fn a_value_is_put_behind_the_old_one(rt: HostRuntime) -> Result<(), Fail> {
+    let mut scope = Scope::new(rt.alloc());
+    for value in ["x", "", "y z"] {
+        assert!(rt; scope.append("A", value).is_ok());
+    }
+    assert!(rt; scope.get("A") == Some("x  y z"));
+    assert!(rt; scope.get("B").is_none());
+    Ok(())
+}
+
+#[test]
 fn a_text_that_doubles_ends_too_large(rt: HostRuntime) -> Result<(), Fail> {
     let alloc = rt.alloc();
     let mut scope = Scope::new(alloc);

@@ -25,9 +25,9 @@ loop-step-preserved c =
       left = next.1.1.0;
       whole = sym (turned step.line rest inv.earlier) ∙ ap (λ (l : List Formed). reverse l ++ inv.earlier) (sym next.1.0) ∙ inv.whole;
       faults =
-        ap (λ (o : Option MakeFault). or_else o (first_fault env (step.line ∷ inv.earlier) rest))
-        (sym read.1 ∙ ap (λ b. line_fault env inv.earlier step.line b) next.1.1.1)
-        ∙ ap (λ (l : List Formed). first_fault env inv.earlier l) (sym next.1.0) ∙ inv.faults;
+          ap (λ (o : Option MakeFault). or_else o (first_fault env (step.line ∷ inv.earlier) rest))
+          (sym read.1 ∙ ap (λ b. line_fault env inv.earlier step.line b) next.1.1.1)
+          ∙ ap (λ (l : List Formed). first_fault env inv.earlier l) (sym next.1.0) ∙ inv.faults;
       stands = read.0;
     }
 

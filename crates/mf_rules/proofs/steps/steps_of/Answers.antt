@@ -16,12 +16,12 @@ loop-line-preserved c =
     record {
       later = line ∷ inv.later;
       whole =
-        ap (λ (x : Formed). map formed c.pop.new.self.items ++ x ∷ inv.later) is
-        ∙ sym (before_rest formed c.pop.new.self.items c.in-Some.line inv.later)
-        ∙ ap (λ (xs : List Line). map formed xs ++ inv.later) (sym c.in-Some.ensures.items) ∙ inv.whole;
+          ap (λ (x : Formed). map formed c.pop.new.self.items ++ x ∷ inv.later) is
+          ∙ sym (before_rest formed c.pop.new.self.items c.in-Some.line inv.later)
+          ∙ ap (λ (xs : List Line). map formed xs ++ inv.later) (sym c.in-Some.ensures.items) ∙ inv.whole;
       steps =
-        c.in-Ok.ensures.items
-        ∙ ap (λ (xs : List Step). xs ++ record { line = line; is_answered = c.loop-line.is_answered } ∷ []) inv.steps
-        ∙ ap (λ (b : Bool). stack_of inv.later ++ record { line = line; is_answered = b } ∷ []) inv.answered;
+          c.in-Ok.ensures.items
+          ∙ ap (λ (xs : List Step). xs ++ record { line = line; is_answered = c.loop-line.is_answered } ∷ []) inv.steps
+          ∙ ap (λ (b : Bool). stack_of inv.later ++ record { line = line; is_answered = b } ∷ []) inv.answered;
       answered = c.answers_before-before.ensures ∙ ap (λ (b : Bool). is_answered_by line.form b) inv.answered;
     }

@@ -49,14 +49,14 @@ loop-name-preserved c =
     let size : environment_size c.push.new.self.items ≡ environment_size ps + (length pair.name + length pair.value + 8) = ap environment_size more ∙ size-push ps pair in
     record {
       whole =
-        ap (λ (xs : List Pair). xs ++ pairs_of value (map string_bytes c.next.new.self)) more
-        ∙ append_assoc ps (pair ∷ []) (pairs_of value (map string_bytes c.next.new.self))
-        ∙ ap (λ (p : Pair). ps ++ p ∷ pairs_of value (map string_bytes c.next.new.self)) c.in_ok-pair.ensures ∙ whole;
+          ap (λ (xs : List Pair). xs ++ pairs_of value (map string_bytes c.next.new.self)) more
+          ∙ append_assoc ps (pair ∷ []) (pairs_of value (map string_bytes c.next.new.self))
+          ∙ ap (λ (p : Pair). ps ++ p ∷ pairs_of value (map string_bytes c.next.new.self)) c.in_ok-pair.ensures ∙ whole;
       counted =
-        total.1
-        ∙ ap (λ (k : List ℕ). c.loop-name.size + (length k + length c.value_or_empty-value.result.now + 8)) (c.as_str-in-loop-name.ensures.value ∙ sym c.as_str-in-loop-name-2.ensures.value)
-        ∙ ap (λ (m : ℕ). m + (length c.as_str-in-loop-name-2.result.now + length c.value_or_empty-value.result.now + 8)) c.loop-name.invariant.counted
-        ∙ ap (λ (p : Pair). environment_size ps + (length p.name + length p.value + 8)) (sym c.in_ok-pair.ensures) ∙ sym size;
+          total.1
+          ∙ ap (λ (k : List ℕ). c.loop-name.size + (length k + length c.value_or_empty-value.result.now + 8)) (c.as_str-in-loop-name.ensures.value ∙ sym c.as_str-in-loop-name-2.ensures.value)
+          ∙ ap (λ (m : ℕ). m + (length c.as_str-in-loop-name-2.result.now + length c.value_or_empty-value.result.now + 8)) c.loop-name.invariant.counted
+          ∙ ap (λ (p : Pair). environment_size ps + (length p.name + length p.value + 8)) (sym c.in_ok-pair.ensures) ∙ sym size;
       small = let h = ltb-false _ _ total.0 in omega (arith, h, total.1);
     }
 

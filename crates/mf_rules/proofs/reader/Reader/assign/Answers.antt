@@ -39,10 +39,10 @@ returns-in-Ok-assign c = λ answered env earlier s.
     (λ fault. Fails fault (refused (least (setting_faults n (set_by_variable c.as_str-name.result.now shown))))) _ c.heed.ensures
     (λ u h. (
       stands_assigned env earlier n c.args.marks name c.args.appends text v old c.assign.new.self c.heed.new.self shown s is puts shows
-        (subst (λ (k : List ℕ). Heeds old.categories k shown c.heed.new.self) same h.0),
+          (subst (λ (k : List ℕ). Heeds old.categories k shown c.heed.new.self) same h.0),
       ap (λ (r : Result (List ℕ) MakeFault). least (fault_in r ++ setting_faults n (setting_by env (form.Assignment c.args.marks name c.args.appends text) n earlier))) is
-        ∙ ap (λ (o : Option (Resource × List ℕ)). least (setting_faults n o)) (sym settings)
-        ∙ ap (λ (k : List ℕ). least (setting_faults n (set_by_variable k shown))) (sym same) ∙ h.1,
+          ∙ ap (λ (o : Option (Resource × List ℕ)). least (setting_faults n o)) (sym settings)
+          ∙ ap (λ (k : List ℕ). least (setting_faults n (set_by_variable k shown))) (sym same) ∙ h.1,
     ))
     (λ fault h.
     subst (λ (r : Result (List ℕ) MakeFault). Fails fault (refused (least (fault_in r ++ setting_faults n (setting_by env (form.Assignment c.args.marks name c.args.appends text) n earlier))))) (sym is)

@@ -28,7 +28,7 @@ loop-name-preserved c =
       values = c.in-Ok.ensures.values ∙ inv.values;
       of_text = c.in-Ok.ensures.of_text ∙ inv.of_text;
       marked = λ marks h. marked_more names marks i name c.loop-name.self.marked c.mark_one.new.self.marked c.loop-name-test.true c.name-item.is (inv.marked marks h)
-        (c.in-Ok.ensures.marked.0 ∙ ap (λ (k : List ℕ). finite.insert c.loop-name.self.marked k tt) same);
+          (c.in-Ok.ensures.marked.0 ∙ ap (λ (k : List ℕ). finite.insert c.loop-name.self.marked k tt) same);
       faults = sym (ap (λ (l : List (List ℕ)). first_unknown value c.args.number l) (names_from names i name c.loop-name-test.true c.name-item.is) ∙ known_name value c.args.number name (drop (i + 1) names) has) ∙ inv.faults;
     }
 
@@ -55,8 +55,7 @@ returns c =
     let i : ℕ = c.loop-name.name-index in
     let value : List ℕ → Option (List ℕ) = finite.get c.args.self.now.values in
     let clear : first_unknown value c.args.number names ≡ [] =
-    sym inv.faults ∙ at_drop_all (λ (l : List (List ℕ)). first_unknown value c.args.number l) names i c.loop-name-test.false in
-    (
+    sym inv.faults ∙ at_drop_all (λ (l : List (List ℕ)). first_unknown value c.args.number l) names i c.loop-name-test.false in (
       record {
         values = inv.values;
         of_text = inv.of_text;
