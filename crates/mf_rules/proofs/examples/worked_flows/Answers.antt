@@ -7,11 +7,11 @@ use Rattle.mf_rules.proofs.examples.worked_flows.Goals as goal
 
 pub returns-clause-one_rule : goal.returns-clause-one_rule
 unfolding begins_name continues_name joined pieces_from
-returns-clause-one_rule c = rw no_entries refl
+returns-clause-one_rule c = rw (no_entries, no_entries) refl
 
 pub returns-clause-many_forms : goal.returns-clause-many_forms
 unfolding begins_name continues_name joined pieces_from
-returns-clause-many_forms c = rw no_entries refl
+returns-clause-many_forms c = rw (no_entries, no_entries) refl
 
 pub returns-clause-first_faults : goal.returns-clause-first_faults
 unfolding begins_name continues_name joined pieces_from
