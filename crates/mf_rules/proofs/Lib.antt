@@ -7,3 +7,4 @@ pub mod FaultLemmas
 pub mod Standing
 pub mod Assigning
 pub mod Commands
+pub mod Limits

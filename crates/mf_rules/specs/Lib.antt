@@ -4,5 +4,6 @@ pub mod Categories
 pub mod Rules
 pub mod Faults
 pub mod Flow
+pub mod Laws
 pub mod Progress
 pub mod Examples

@@ -6,6 +6,7 @@ mod drafts;
 mod examples;
 mod faults;
 mod flow;
+mod laws;
 mod names;
 mod numbers;
 mod reader;
@@ -14,6 +15,7 @@ mod variables;
 
 pub use examples::worked_flows;
 pub use flow::read_make;
+pub use laws::flows_fit_their_limits;
 pub use names::MAX_COMMAND;
 
 #[cfg(test)]
