@@ -1,3 +1,6 @@
 mod Writing
 mod ReadsBack
 mod Numbers
+mod Complete
+mod Sound
+mod Decided

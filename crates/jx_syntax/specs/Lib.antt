@@ -1,2 +1,6 @@
 pub mod Written
 pub mod Laws
+pub mod Grammar
+pub mod Reading
+pub mod GrammarLaws
+pub mod Examples

@@ -1,5 +1,6 @@
-//! Laws of texts. Nothing runs here.
+//! Laws of texts and of the grammar. Nothing runs here.
 ghost use Rattle.jx_syntax.specs.Laws.{NumbersReadBack, TextsReadBack};
+ghost use Rattle.jx_syntax.specs.GrammarLaws.{IsUnambiguous, IsDecided};
 
 /// What is written for a text is read as that text.
 pub fn texts_read_back()
@@ -9,4 +10,14 @@ pub fn texts_read_back()
 /// What is written for a number is read as that number.
 pub fn numbers_read_back()
     ensures { NumbersReadBack }
+{}
+
+/// Two expressions that are written alike are one.
+pub fn the_grammar_is_unambiguous()
+    ensures { IsUnambiguous }
+{}
+
+/// A text is an expression, or there is a reason why it is none.
+pub fn a_text_is_an_expression_or_refused()
+    ensures { IsDecided }
 {}

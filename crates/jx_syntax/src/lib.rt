@@ -5,11 +5,20 @@
 //! here, and nothing here reads a text as a value.
 #![tactic(auto)]
 
+mod examples;
 mod laws;
+mod operator;
 mod value;
 mod write;
 
-pub use laws::{numbers_read_back, texts_read_back};
+pub use examples::{
+    forms_are_written, operators_group, texts_that_are_unexpected, texts_with_other_faults,
+};
+pub use laws::{
+    a_text_is_an_expression_or_refused, numbers_read_back, texts_read_back,
+    the_grammar_is_unambiguous,
+};
+pub use operator::{Operator, Sign};
 pub use value::{JxPair, JxValue};
 pub use write::value_text;
 
