@@ -6,7 +6,9 @@
 #![tactic(auto)]
 
 mod examples;
+mod expr;
 mod laws;
+mod node;
 mod operator;
 mod value;
 mod write;
@@ -14,10 +16,12 @@ mod write;
 pub use examples::{
     forms_are_written, operators_group, texts_that_are_unexpected, texts_with_other_faults,
 };
+pub use expr::Expr;
 pub use laws::{
     a_text_is_an_expression_or_refused, numbers_read_back, texts_read_back,
     the_grammar_is_unambiguous,
 };
+pub use node::{Condition, Field, Form, Item, Loop, Node};
 pub use operator::{Operator, Sign};
 pub use value::{JxPair, JxValue};
 pub use write::value_text;
