@@ -46,7 +46,7 @@ IsStopped tokens e = ((t : Token) × StopsAt tokens t) × ((len : ℕ) → IsRef
 
 by_wide : (st : State) (t : Token) (ts : List Token) (b : Bool) → IsReached st → is_wide t.kind ≡ b → ((limit : ℕ) → IsViable limit (seen st [] ++ t ∷ []) → ⊥)
     → IsStopped (seen st (t ∷ ts)) (cond b (IntTooWide t.place) (Unexpected t.place))
-by_wide st t ts true h w never = let s = stop_at st t ts h (never 128) in ((t, s), λ len. (t, s, refl, w))
+by_wide st t ts true h w never = let s = stop_at st t ts h (never 128) in ((t, s), λ len. (t, s, refl, w, never))
 by_wide st t ts false h w never = let s = stop_at st t ts h (never 128) in ((t, s), λ len. inl (t, s, refl, w, never))
 
 is_stuck : (st : State) (t : Token) (ts : List Token) → IsReached st → stuck ≡ move st t.place t.kind → IsStopped (seen st (t ∷ ts)) (blamed t.place t.kind)

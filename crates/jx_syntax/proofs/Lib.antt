@@ -4,3 +4,7 @@ mod Numbers
 mod Complete
 mod Sound
 mod Decided
+mod Unique
+mod Nodes
+mod Steps
+mod Applied

@@ -311,7 +311,8 @@ IsRefused len tokens (Unexpected place) =
     ((t : Token) × (s : StopsAt tokens t) × (t.place ≡ place) × (is_wide t.kind ≡ false) × ((limit : ℕ) → IsViable limit (s.before ++ t ∷ []) → ⊥))
     ⊎ ((place ≡ len) × IsViable 128 tokens × ((d : Derivation) → Derives tokens d → ⊥))
 IsRefused len tokens (TooDeep place) = (t : Token) × (s : StopsAt tokens t) × (t.place ≡ place) × (limit : ℕ) × IsViable limit (s.before ++ t ∷ [])
-IsRefused len tokens (IntTooWide place) = (t : Token) × StopsAt tokens t × (t.place ≡ place) × (is_wide t.kind ≡ true)
+IsRefused len tokens (IntTooWide place) =
+    (t : Token) × (s : StopsAt tokens t) × (t.place ≡ place) × (is_wide t.kind ≡ true) × ((limit : ℕ) → IsViable limit (s.before ++ t ∷ []) → ⊥)
 IsRefused len tokens (NotUtf8 place) = ⊥
 IsRefused len tokens (OpenText place) = ⊥
 IsRefused len tokens (FloatUnsupported place) = ⊥

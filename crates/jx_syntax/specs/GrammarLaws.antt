@@ -10,3 +10,11 @@ IsUnambiguous = (limit : ℕ) (d e : Derivation) → IsSentence limit d → IsSe
 -- a text is an expression, or there is a reason why it is none
 abbrev pub IsDecided : Type 0
 IsDecided = (bytes : List ℕ) → ((d : Derivation) × IsWritten bytes d) ⊎ ((e : JxFault) × IsNoExpression bytes e)
+
+-- no text is an expression and refused too
+abbrev pub IsOneOrTheOther : Type 0
+IsOneOrTheOther = (bytes : List ℕ) (d : Derivation) (e : JxFault) → IsWritten bytes d → IsNoExpression bytes e → ⊥
+
+-- there is one reason for which a text is refused
+abbrev pub HasOneReason : Type 0
+HasOneReason = (bytes : List ℕ) (e f : JxFault) → IsNoExpression bytes e → IsNoExpression bytes f → e ≡ f

@@ -3,5 +3,6 @@ pub mod Laws
 pub mod Grammar
 pub mod Reading
 pub mod Tree
+pub mod Shown
 pub mod GrammarLaws
 pub mod Examples

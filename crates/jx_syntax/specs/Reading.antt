@@ -213,6 +213,17 @@ abbrev pub selects : ℕ → List Frame × Derivation → Move
 selects s (listed from is (over i p q n r) ∷ fs, x) = goes (wants (listed from is (only i p q n r x s) ∷ fs))
 selects s (fs, x) = stuck
 
+-- what ends or goes on with an expression whose operators have their operands
+abbrev pub ends : ℕ → Kind → List Frame × Derivation → Move
+ends p kind.CloseGroup r = ends_group p r
+ends p kind.CloseList r = ends_list p r
+ends p kind.CloseObject r = ends_object p r
+ends p kind.Comma r = goes_on p r
+ends p kind.Colon r = slices p r
+ends p kind.For r = loops p r
+ends p kind.If r = selects p r
+ends p k r = stuck
+
 abbrev pub had : List Frame → Derivation → ℕ → Kind → Move
 had fs x p kind.Or = operates fs x p op.Or
 had fs x p kind.And = operates fs x p op.And
@@ -229,14 +240,7 @@ had fs x p kind.Over = operates fs x p op.Divide
 had fs x p kind.Rest = operates fs x p op.Remainder
 had fs x p kind.OpenGroup = begins_call fs x p
 had fs x p kind.OpenList = opens (wants (indexed x p ∷ fs))
-had fs x p kind.CloseGroup = ends_group p (reduce 1 fs x)
-had fs x p kind.CloseList = ends_list p (reduce 1 fs x)
-had fs x p kind.CloseObject = ends_object p (reduce 1 fs x)
-had fs x p kind.Comma = goes_on p (reduce 1 fs x)
-had fs x p kind.Colon = slices p (reduce 1 fs x)
-had fs x p kind.For = loops p (reduce 1 fs x)
-had fs x p kind.If = selects p (reduce 1 fs x)
-had fs x p k = stuck
+had fs x p k = ends p k (reduce 1 fs x)
 
 -- ---- elsewhere
 
@@ -273,11 +277,21 @@ move (wants_in fs from is i q r x) p k = in_wanted fs from is i q r x p k
 abbrev pub blamed : ℕ → Kind → JxFault
 blamed p k = if is_wide k then IntTooWide p else Unexpected p
 
+-- one level more, where so many may be open and so many are
+abbrev pub opened : ℕ → ℕ → ℕ → State → Result State JxFault
+opened limit open_levels p next = if nat_lt open_levels limit then Ok next else Err (TooDeep p)
+
+-- the state behind a token that is no number, where so many levels may be open and so many are
+abbrev pub tried : ℕ → ℕ → ℕ → Move → Result State JxFault
+tried limit open_levels p stuck = Err (Unexpected p)
+tried limit open_levels p (goes next) = Ok next
+tried limit open_levels p (opens next) = opened limit open_levels p next
+
 -- the state behind a token, where so many levels may be open and so many are
 abbrev pub moved : ℕ → ℕ → ℕ → Kind → Move → Result State JxFault
 moved limit open_levels p k stuck = Err (blamed p k)
 moved limit open_levels p k (goes next) = Ok next
-moved limit open_levels p k (opens next) = if nat_lt open_levels limit then Ok next else Err (TooDeep p)
+moved limit open_levels p k (opens next) = opened limit open_levels p next
 
 abbrev pub step : ℕ → State → Token → Result State JxFault
 step limit st t = moved limit (state_depth st) t.place t.kind (move st t.place t.kind)

@@ -1,10 +1,10 @@
 //! Expressions.
+ghost use Rattle.std.specs.Prelude.{◌≡◌, ◌<◌, length};
+ghost use Rattle.jx_syntax.specs.Tree.{IsOrdered};
+
 use crate::node::Node;
 use flow_types::Rows;
 use std::marker::Model;
-
-ghost use Rattle.std.specs.Prelude.{◌≡◌, ◌<◌, length};
-ghost use Rattle.jx_syntax.specs.Tree.{IsOrdered};
 
 /// An expression. Contracts see it as its nodes: operands stand before their operators, and the last node is the
 /// whole expression.

@@ -1,6 +1,6 @@
 //! Laws of texts and of the grammar. Nothing runs here.
 ghost use Rattle.jx_syntax.specs.Laws.{NumbersReadBack, TextsReadBack};
-ghost use Rattle.jx_syntax.specs.GrammarLaws.{IsUnambiguous, IsDecided};
+ghost use Rattle.jx_syntax.specs.GrammarLaws.{IsUnambiguous, IsDecided, IsOneOrTheOther, HasOneReason};
 
 /// What is written for a text is read as that text.
 pub fn texts_read_back()
@@ -20,4 +20,14 @@ pub fn the_grammar_is_unambiguous()
 /// A text is an expression, or there is a reason why it is none.
 pub fn a_text_is_an_expression_or_refused()
     ensures { IsDecided }
+{}
+
+/// No text is an expression and refused too.
+pub fn no_text_is_both()
+    ensures { IsOneOrTheOther }
+{}
+
+/// There is one reason for which a text is refused.
+pub fn a_refusal_has_one_reason()
+    ensures { HasOneReason }
 {}

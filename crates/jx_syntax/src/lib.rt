@@ -5,12 +5,19 @@
 //! here, and nothing here reads a text as a value.
 #![tactic(auto)]
 
+mod behind;
+mod closers;
 mod examples;
 mod expr;
 mod laws;
+mod levels;
 mod node;
 mod operator;
+mod pending;
+mod reader;
+mod states;
 mod value;
+mod wanted;
 mod write;
 
 pub use examples::{
@@ -18,8 +25,8 @@ pub use examples::{
 };
 pub use expr::Expr;
 pub use laws::{
-    a_text_is_an_expression_or_refused, numbers_read_back, texts_read_back,
-    the_grammar_is_unambiguous,
+    a_refusal_has_one_reason, a_text_is_an_expression_or_refused, no_text_is_both,
+    numbers_read_back, texts_read_back, the_grammar_is_unambiguous,
 };
 pub use node::{Condition, Field, Form, Item, Loop, Node};
 pub use operator::{Operator, Sign};

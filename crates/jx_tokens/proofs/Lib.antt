@@ -1,4 +1,4 @@
 mod Held
 mod Quotes
 mod Fronts
-mod Scanned
+pub mod Scanned

@@ -24,7 +24,7 @@ scan-skip zero at bs = let e : at ≡ at + 0 = omega arith in ap (λ n. scan 0 n
 scan-skip (suc k) at [] = refl
 scan-skip (suc k) at (b ∷ bs) = let e : at + 1 + k ≡ at + suc k = omega arith in scan-skip k (at + 1) bs ∙ ap (λ n. scan 0 n (drop k bs)) e
 
-scan-front : (d : List ℕ) (at : ℕ) → at < length d → scan 0 at (drop at d) ≡ onto at (front at (drop at d)) (λ k. scan k (at + 1) (drop (at + 1) d))
+pub scan-front : (d : List ℕ) (at : ℕ) → at < length d → scan 0 at (drop at d) ≡ onto at (front at (drop at d)) (λ k. scan k (at + 1) (drop (at + 1) d))
 unfolding scan
 scan-front d at h = let e = drop_more d at 0 h in ap (scan 0 at) e ∙ ap (λ l. onto at (front at l) (λ k. scan k (at + 1) (drop (at + 1) d))) (sym e)
 
@@ -49,7 +49,7 @@ module _ (d : List ℕ) (at : ℕ) (h : at < length d) (ts : List Token) (all : 
   scan-fault e is =
       ap (λ (s : Scan). result_of s.tokens s.fault) (sym so_far ∙ ap (ahead ts) (scan-front d at h ∙ ap (λ r. onto at r (λ k. scan k (at + 1) (drop (at + 1) d))) is))
 
-scan-nil : (at : ℕ) → scan 0 at [] ≡ record { tokens = []; fault = None }
+pub scan-nil : (at : ℕ) → scan 0 at [] ≡ record { tokens = []; fault = None }
 unfolding scan
 scan-nil at = refl
 

@@ -5,16 +5,17 @@ mod bytes;
 mod content;
 mod escape;
 mod fault;
-mod front;
 mod number;
+mod pieces;
 mod symbol;
 mod token;
 mod tokens;
 mod word;
 
 pub use fault::JxFault;
-pub use token::{Kind, Token};
-pub use tokens::tokens_of;
+pub use pieces::front;
+pub use token::{Kind, Piece, Token};
+pub use tokens::{cut_off, tokens_of};
 
 #[cfg(test)]
 mod tests;

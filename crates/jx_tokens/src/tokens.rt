@@ -6,7 +6,7 @@ ghost use Rattle.jx_tokens.specs.Tokens as spec;
 ghost use Rattle.jx_tokens.specs.Tokens.{tokens_of, result_of, cut_fault};
 
 use crate::fault::JxFault;
-use crate::front::front;
+use crate::pieces::front;
 use crate::token::{Piece, Token};
 use flow_types::Rows;
 use std::alloc::Global;
@@ -36,7 +36,7 @@ fn scan(alloc: Global, text: &str) -> Result<Vec<Token>, JxFault>
 }
 
 /// The fault that stands where the text stops being UTF-8 at this place.
-fn cut_off(fault: JxFault, at: usize) -> JxFault
+pub fn cut_off(fault: JxFault, at: usize) -> JxFault
     ensures { result ≡ spec.cut_off at fault }
 {
     match fault {
