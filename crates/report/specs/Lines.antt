@@ -1,13 +1,20 @@
 -- The printed line of each cause.
 use Rattle.std.specs.Prelude.{ℕ, List, [], ◌++◌, codes, slice_get, if◌then◌else◌}
+use Rattle.std.specs.List.{flat_map}
 use Rattle.std.specs.Option.{option_map_or}
 use Rattle.std.specs.Fmt.{decimal, signed_decimal}
 use Rattle.flow_types.specs.declared.plan.Plan.{Plan}
 use Rattle.flow_types.specs.declared.plan.Rule.{Rule}
 use Rattle.flow_types.specs.declared.job.Failure.{Failure}
 use Rattle.flow_types.specs.declared.job.Failure.TheVariants.{Status, MissingOutput, TooLong}
+use Rattle.mf_text.specs.declared.fault.MakeFault.{MakeFault}
+use Rattle.mf_text.specs.declared.fault.MakeFault.TheVariants as make
+use Rattle.rule_graph.specs.declared.faults.GraphFault.{GraphFault}
+use Rattle.rule_graph.specs.declared.faults.GraphFault.TheVariants as graph
+use Rattle.report.specs.declared.cause.FlowFault.{FlowFault}
+use Rattle.report.specs.declared.cause.FlowFault.TheVariants.{Make, Graph}
 use Rattle.report.specs.declared.cause.Cause.{Cause}
-use Rattle.report.specs.declared.cause.Cause.TheVariants.{Complete, CommandFailed, Usage, FlowMissing, Unbuilt, SourceMissing, SiteFault, RunnerFault, SinkFault, Memory}
+use Rattle.report.specs.declared.cause.Cause.TheVariants.{Complete, CommandFailed, Usage, FlowMissing, FlowRefused, Unbuilt, NeedsTooMuch, SourceMissing, SourceTooLarge, InputsTooLarge, SiteFault, RunnerFault, SinkFault, Memory}
 use Rattle.report.specs.Causes.{kind_of, is_printed}
 
 -- the plan's name of a file; no bytes where the plan has no such file
@@ -33,6 +40,52 @@ failure_text plan rule (TooLong index size) =
 abbrev pub rule_text : Plan → ℕ → Failure → List ℕ
 rule_text plan rule why = codes "rule " ++ decimal rule ++ codes " failed: " ++ failure_text plan rule why
 
+-- what is said of a line of a flow
+abbrev pub line_text : ℕ → List ℕ → List ℕ
+line_text line what = codes "line " ++ decimal line ++ codes ": " ++ what
+
+-- why a text is no Makeflow text
+abbrev pub make_text : MakeFault → List ℕ
+make_text (make.NotUtf8 at) = codes "not UTF-8 at " ++ decimal at
+make_text (make.OpenQuote line) = line_text line (codes "open quote")
+make_text (make.UnknownName line name) = line_text line (codes "unknown name " ++ name)
+make_text (make.OpenParen line) = line_text line (codes "open parenthesis")
+make_text (make.NoColon line) = line_text line (codes "no colon")
+make_text (make.NoCommand line) = line_text line (codes "no command")
+make_text (make.StrayCommand line) = line_text line (codes "stray command")
+make_text (make.BadNumber line) = line_text line (codes "bad number")
+make_text (make.TooLarge limit) = codes "too large"
+make_text make.Memory = codes "out of memory"
+
+-- what is said of a rule of a flow
+abbrev pub of_rule : ℕ → List ℕ → List ℕ
+of_rule rule what = codes "rule " ++ decimal rule ++ codes ": " ++ what
+
+-- why the rules of a flow are no plan
+abbrev pub graph_text : GraphFault → List ℕ
+graph_text (graph.TooMany limit) = codes "too many"
+graph_text (graph.BadName rule text) = of_rule rule.0 (codes "bad name " ++ text)
+graph_text (graph.NoOutput rule) = of_rule rule.0 (codes "no output")
+graph_text (graph.SameName rule name) = of_rule rule.0 (codes "same name " ++ name)
+graph_text (graph.NestedName folder name) = codes "nested names " ++ folder ++ codes " and " ++ name
+graph_text (graph.TwoMakers name rule other) =
+    codes "two rules make " ++ name ++ (codes ": " ++ decimal rule.0 ++ codes " and " ++ decimal other.0)
+graph_text (graph.Cycle rules) = codes "cycle of rules" ++ flat_map (λ rule. codes " " ++ decimal rule.0) rules
+graph_text graph.Memory = codes "out of memory"
+
+-- why a flow is refused
+abbrev pub fault_text : FlowFault → List ℕ
+fault_text (Make fault) = make_text fault
+fault_text (Graph fault) = graph_text fault
+
+-- what a rule needs more than there is
+abbrev pub needs_text : ℕ → ℕ → ℕ → List ℕ
+needs_text rule need total = codes "rule " ++ decimal rule ++ (codes " needs " ++ decimal need ++ (codes ", there is " ++ decimal total))
+
+-- how much the inputs of a rule have together
+abbrev pub inputs_text : ℕ → ℕ → List ℕ
+inputs_text rule total = codes "inputs of rule " ++ decimal rule ++ (codes " too large: " ++ decimal total)
+
 -- what is said of a cause
 abbrev pub text_of : Plan → Cause → List ℕ
 text_of plan (Complete rules collected) =
@@ -41,6 +94,10 @@ text_of plan (CommandFailed rule why) = rule_text plan rule.0 why
 text_of plan Usage = codes "usage: makeflow [options] FILE"
 text_of plan (FlowMissing name) = codes "no flow file " ++ name
 text_of plan (Unbuilt line) = codes "line " ++ decimal line ++ codes ": not built yet"
+text_of plan (FlowRefused flow fault) = flow ++ codes ": " ++ fault_text fault
+text_of plan (NeedsTooMuch rule need total) = needs_text rule.0 need total
+text_of plan (SourceTooLarge file size) = codes "source " ++ file_name plan file.0 ++ codes " too large"
+text_of plan (InputsTooLarge rule total) = inputs_text rule.0 total
 text_of plan (SourceMissing file) = codes "source " ++ file_name plan file.0 ++ codes " missing"
 text_of plan (SiteFault before after) = codes "folder fault"
 text_of plan (RunnerFault before after) = codes "runner fault"

@@ -6,7 +6,18 @@ ghost use Rattle.report.specs.Lines.{line_of};
 
 use crate::text::{around, text_of};
 use flow_types::{Bytes, Failure, FileNo, Memory, Name, Plan, RuleNo};
+use mf_text::MakeFault;
+use rule_graph::GraphFault;
 use std::alloc::Global;
+
+/// Why a flow is refused.
+#[derive(Drop)]
+pub enum FlowFault {
+    /// Its text is no Makeflow text.
+    Make(MakeFault),
+    /// Its rules are no plan.
+    Graph(GraphFault),
+}
 
 /// Why a call ended.
 #[derive(Drop)]
@@ -19,10 +30,18 @@ pub enum Cause {
     Usage,
     /// There is no flow file of this name.
     FlowMissing { name: Name },
-    /// This line of the flow has a form that can't be run yet; 0 where it is the whole flow.
+    /// The flow of this name is refused.
+    FlowRefused { flow: Name, fault: FlowFault },
+    /// Something that isn't built yet is asked for: at this line of the flow, or, where it is 0, by the words.
     Unbuilt { line: u32 },
+    /// A rule needs more of a resource than there is in all. Cores are counted, memory and disk are in megabytes.
+    NeedsTooMuch { rule: RuleNo, need: u64, total: u64 },
     /// A file that no rule makes isn't there.
     SourceMissing { file: FileNo },
+    /// A file that no rule makes has more than 67,108,864 bytes: so many.
+    SourceTooLarge { file: FileNo, size: u64 },
+    /// The inputs of a ready rule have more than 134,217,728 bytes together: so many.
+    InputsTooLarge { rule: RuleNo, total: u64 },
     /// The folder failed: its count of faults before the call and now.
     SiteFault { before: u64, after: u64 },
     /// What runs the commands failed: its count of faults before the call and now.
@@ -42,10 +61,12 @@ pub enum Kind {
     RuleFailed,
     /// Refused by the words alone.
     WrongWords,
-    /// Refused before there is a plan.
-    NoPlan,
+    /// Refused by the flow.
+    WrongFlow,
     /// Refused by a source of the plan.
     WrongSource,
+    /// Stopped since the next rules would pass a limit.
+    PastLimit,
     /// The folder failed.
     SiteBroke,
     /// What runs the commands failed.
@@ -65,9 +86,10 @@ impl Kind {
             Kind::Completed => 0,
             Kind::RuleFailed => 1,
             Kind::WrongWords => 2,
-            Kind::NoPlan => 3,
+            Kind::WrongFlow => 3,
             Kind::WrongSource => 4,
             Kind::SiteBroke | Kind::RunnerBroke | Kind::SinkBroke => 5,
+            Kind::PastLimit => 6,
             Kind::NoMemory => 8,
         }
     }
@@ -89,8 +111,12 @@ impl Cause {
             Cause::Complete { .. } => Kind::Completed,
             Cause::CommandFailed { .. } => Kind::RuleFailed,
             Cause::Usage => Kind::WrongWords,
-            Cause::FlowMissing { .. } | Cause::Unbuilt { .. } => Kind::NoPlan,
-            Cause::SourceMissing { .. } => Kind::WrongSource,
+            Cause::FlowMissing { .. }
+            | Cause::FlowRefused { .. }
+            | Cause::Unbuilt { .. }
+            | Cause::NeedsTooMuch { .. } => Kind::WrongFlow,
+            Cause::SourceMissing { .. } | Cause::SourceTooLarge { .. } => Kind::WrongSource,
+            Cause::InputsTooLarge { .. } => Kind::PastLimit,
             Cause::SiteFault { .. } => Kind::SiteBroke,
             Cause::RunnerFault { .. } => Kind::RunnerBroke,
             Cause::SinkFault { .. } => Kind::SinkBroke,

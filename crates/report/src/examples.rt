@@ -1,9 +1,11 @@
 //! Worked printed lines, each proved by computing. Nothing calls these functions.
-ghost use Rattle.std.specs.Prelude.{◌≡◌, [], codes, pos, negsuc};
+ghost use Rattle.std.specs.Prelude.{◌≡◌, [], ◌∷◌, codes, pos, negsuc};
 ghost use Rattle.flow_types.specs.declared.job.Failure.TheVariants.{Status, MissingOutput, TooLong};
-ghost use Rattle.report.specs.declared.cause.Cause.TheVariants.{Complete, Usage, FlowMissing, Unbuilt, SiteFault, RunnerFault, SinkFault, Memory};
+ghost use Rattle.mf_text.specs.declared.fault.MakeFault.TheVariants.{NotUtf8, UnknownName, NoColon, TooLarge};
+ghost use Rattle.rule_graph.specs.declared.faults.GraphFault.TheVariants.{BadName, NestedName, TwoMakers, Cycle};
+ghost use Rattle.report.specs.declared.cause.Cause.TheVariants.{Complete, Usage, FlowMissing, Unbuilt, NeedsTooMuch, SourceTooLarge, InputsTooLarge, SiteFault, RunnerFault, SinkFault, Memory};
 ghost use Rattle.report.specs.Lines.{line_of};
-ghost use Rattle.report.specs.Examples.{one_rule, rule_failed, source_missing};
+ghost use Rattle.report.specs.Examples.{one_rule, rule_failed, source_missing, refused_text, refused_rules};
 
 /// What is printed of a run of one rule.
 pub fn lines_of_a_run()
@@ -17,6 +19,8 @@ pub fn lines_of_a_run()
         ≡ codes "makeflow: rule 0 failed: status -1\n" }
     ensures missing { line_of one_rule (rule_failed 0 (MissingOutput 0))
         ≡ codes "makeflow: rule 0 failed: output out missing\n" }
+    ensures too_large { line_of one_rule (InputsTooLarge (record { 0 = 0 }) 134217729)
+        ≡ codes "makeflow: inputs of rule 0 too large: 134217729\n" }
     ensures too_long { line_of one_rule (rule_failed 0 (TooLong 0 4))
         ≡ codes "makeflow: rule 0 failed: output out too long, 4 bytes\n" }
 {}
@@ -27,7 +31,32 @@ pub fn lines_of_refusals()
     ensures flow { line_of one_rule (FlowMissing (codes "flow"))
         ≡ codes "makeflow: no flow file flow\n" }
     ensures unbuilt { line_of one_rule (Unbuilt 1) ≡ codes "makeflow: line 1: not built yet\n" }
+    ensures needs { line_of one_rule (NeedsTooMuch (record { 0 = 0 }) 65 64)
+        ≡ codes "makeflow: rule 0 needs 65, there is 64\n" }
     ensures source { line_of one_rule (source_missing 0) ≡ codes "makeflow: source in missing\n" }
+    ensures large_source { line_of one_rule (SourceTooLarge (record { 0 = 0 }) 67108865)
+        ≡ codes "makeflow: source in too large\n" }
+{}
+
+/// What is printed where the text of a flow is refused.
+pub fn lines_of_texts()
+    ensures utf8 { line_of one_rule (refused_text (NotUtf8 7)) ≡ codes "makeflow: flow: not UTF-8 at 7\n" }
+    ensures name { line_of one_rule (refused_text (UnknownName 2 (codes "X")))
+        ≡ codes "makeflow: flow: line 2: unknown name X\n" }
+    ensures colon { line_of one_rule (refused_text (NoColon 12)) ≡ codes "makeflow: flow: line 12: no colon\n" }
+    ensures large { line_of one_rule (refused_text (TooLarge 16777216)) ≡ codes "makeflow: flow: too large\n" }
+{}
+
+/// What is printed where the rules of a flow are no plan.
+pub fn lines_of_rules()
+    ensures name { line_of one_rule (refused_rules (BadName (record { 0 = 0 }) (codes "/etc/passwd")))
+        ≡ codes "makeflow: flow: rule 0: bad name /etc/passwd\n" }
+    ensures nested { line_of one_rule (refused_rules (NestedName (codes "a") (codes "a/b")))
+        ≡ codes "makeflow: flow: nested names a and a/b\n" }
+    ensures makers { line_of one_rule (refused_rules (TwoMakers (codes "x") (record { 0 = 0 }) (record { 0 = 1 })))
+        ≡ codes "makeflow: flow: two rules make x: 0 and 1\n" }
+    ensures cycle { line_of one_rule (refused_rules (Cycle (record { 0 = 0 } ∷ record { 0 = 1 } ∷ [])))
+        ≡ codes "makeflow: flow: cycle of rules 0 1\n" }
 {}
 
 /// What is printed where something failed that the run stands on.

@@ -3,10 +3,13 @@
 
 mod cause;
 mod examples;
+mod flow_text;
 mod text;
 
-pub use cause::{Cause, Kind};
-pub use examples::{lines_of_a_run, lines_of_faults, lines_of_refusals};
+pub use cause::{Cause, FlowFault, Kind};
+pub use examples::{
+    lines_of_a_run, lines_of_faults, lines_of_refusals, lines_of_rules, lines_of_texts,
+};
 
 #[cfg(test)]
 mod tests;

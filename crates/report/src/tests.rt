@@ -1,5 +1,7 @@
 use super::*;
 use flow_types::{Failure, FileNo, FileRow, Name, Needs, Plan, Port, Rows, Rule, RuleNo, Text};
+use mf_text::MakeFault;
+use rule_graph::GraphFault;
 use std::alloc::Global;
 use std::test::Fail;
 
@@ -82,6 +84,152 @@ fn each_cause_has_its_status_and_line(rt: HostRuntime) -> Result<(), Fail> {
         (Cause::SiteFault { before, after }, 5, "folder fault"),
         (Cause::RunnerFault { before, after }, 5, "runner fault"),
         (Cause::Memory, 8, "out of memory"),
+    ];
+    for (cause, status, text) in cases.iter() {
+        let line = format!(in alloc; "makeflow: {text}\n")?;
+        assert_eq!(rt; cause.status(), *status);
+        assert_eq!(rt; cause.line(alloc, &plan)?.as_slice(), line.as_bytes());
+    }
+    Ok(())
+}
+
+fn refused_text(alloc: Global, fault: MakeFault) -> Result<Cause, Fail> {
+    Ok(Cause::FlowRefused {
+        flow: named(alloc, "f.mf")?,
+        fault: FlowFault::Make(fault),
+    })
+}
+
+fn refused_rules(alloc: Global, fault: GraphFault) -> Result<Cause, Fail> {
+    Ok(Cause::FlowRefused {
+        flow: named(alloc, "f.mf")?,
+        fault: FlowFault::Graph(fault),
+    })
+}
+
+#[test]
+fn a_refused_flow_has_its_place(rt: HostRuntime) -> Result<(), Fail> {
+    let alloc = rt.alloc();
+    let plan = one_rule(alloc)?;
+    let (a, b) = (named(alloc, "a")?, named(alloc, "a/b")?);
+    let (x, again) = (named(alloc, "x")?, named(alloc, "x")?);
+    let unknown = Text::of(alloc, "X Y")?;
+    let bad = Text::of(alloc, "/etc/passwd")?;
+    let rules = Rows::of(vec![in alloc; RuleNo(1), RuleNo(20), RuleNo(3)]?);
+    let (rule, need, total) = (RuleNo(0), 65, 64);
+    let file = FileNo(0);
+    let cases: [(Cause, u8, &str); 21] = [
+        (
+            refused_text(alloc, MakeFault::NotUtf8(7))?,
+            3,
+            "f.mf: not UTF-8 at 7",
+        ),
+        (
+            refused_text(alloc, MakeFault::OpenQuote(1))?,
+            3,
+            "f.mf: line 1: open quote",
+        ),
+        (
+            refused_text(alloc, MakeFault::UnknownName(2, unknown))?,
+            3,
+            "f.mf: line 2: unknown name X Y",
+        ),
+        (
+            refused_text(alloc, MakeFault::OpenParen(3))?,
+            3,
+            "f.mf: line 3: open parenthesis",
+        ),
+        (
+            refused_text(alloc, MakeFault::NoColon(4))?,
+            3,
+            "f.mf: line 4: no colon",
+        ),
+        (
+            refused_text(alloc, MakeFault::NoCommand(5))?,
+            3,
+            "f.mf: line 5: no command",
+        ),
+        (
+            refused_text(alloc, MakeFault::StrayCommand(6))?,
+            3,
+            "f.mf: line 6: stray command",
+        ),
+        (
+            refused_text(alloc, MakeFault::BadNumber(70))?,
+            3,
+            "f.mf: line 70: bad number",
+        ),
+        (
+            refused_text(alloc, MakeFault::TooLarge(1048576))?,
+            3,
+            "f.mf: too large",
+        ),
+        (
+            refused_rules(alloc, GraphFault::TooMany(20000))?,
+            3,
+            "f.mf: too many",
+        ),
+        (
+            refused_rules(alloc, GraphFault::BadName(RuleNo(2), bad))?,
+            3,
+            "f.mf: rule 2: bad name /etc/passwd",
+        ),
+        (
+            refused_rules(alloc, GraphFault::NoOutput(RuleNo(0)))?,
+            3,
+            "f.mf: rule 0: no output",
+        ),
+        (
+            refused_rules(alloc, GraphFault::SameName(RuleNo(0), x))?,
+            3,
+            "f.mf: rule 0: same name x",
+        ),
+        (
+            refused_rules(alloc, GraphFault::NestedName(a, b))?,
+            3,
+            "f.mf: nested names a and a/b",
+        ),
+        (
+            refused_rules(alloc, GraphFault::TwoMakers(again, RuleNo(0), RuleNo(1)))?,
+            3,
+            "f.mf: two rules make x: 0 and 1",
+        ),
+        (
+            refused_rules(alloc, GraphFault::Cycle(rules))?,
+            3,
+            "f.mf: cycle of rules 1 20 3",
+        ),
+        (
+            refused_text(alloc, MakeFault::Memory)?,
+            3,
+            "f.mf: out of memory",
+        ),
+        (
+            refused_rules(alloc, GraphFault::Memory)?,
+            3,
+            "f.mf: out of memory",
+        ),
+        (
+            Cause::NeedsTooMuch { rule, need, total },
+            3,
+            "rule 0 needs 65, there is 64",
+        ),
+        (
+            Cause::SourceTooLarge {
+                file,
+                size: 67108865,
+            },
+            4,
+            "source in too large",
+        ),
+        (
+            Cause::InputsTooLarge {
+                rule,
+                total: 134217729,
+            },
+            6,
+            "inputs of rule 0 too large: 134217729",
+        ),
     ];
     for (cause, status, text) in cases.iter() {
         let line = format!(in alloc; "makeflow: {text}\n")?;

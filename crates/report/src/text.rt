@@ -1,9 +1,11 @@
 //! What a line says of each cause.
 ghost use Rattle.std.specs.Prelude.{◌≡◌, ◌++◌, IfOk};
-ghost use Rattle.report.specs.Lines.{failure_text, file_name, output_name, output_name_in, rule_text, text_of};
+ghost use Rattle.report.specs.Lines.{failure_text, file_name, output_name, output_name_in, rule_text, text_of, fault_text, needs_text, inputs_text};
+ghost use Rattle.std.specs.Prelude.{codes};
 
-use crate::cause::Cause;
-use flow_types::{Failure, FileNo, Plan, Rule, RuleNo};
+use crate::cause::{Cause, FlowFault};
+use crate::flow_text::{graph_text, make_text};
+use flow_types::{Failure, FileNo, Name, Plan, Rule, RuleNo};
 use std::alloc::{AllocError, Global};
 
 // What is said of a cause.
@@ -28,11 +30,49 @@ pub(crate) fn text_of(alloc: Global, plan: &Plan, cause: &Cause) -> Result<Vec<u
             file_name(plan, *file),
             b" missing",
         ),
+        Cause::FlowRefused { flow, fault } => refusal_text(alloc, flow, fault),
+        Cause::NeedsTooMuch { rule, need, total } => needs_text(alloc, *rule, *need, *total),
+        Cause::SourceTooLarge { file, .. } => around(
+            alloc,
+            b"source ",
+            file_name(plan, *file),
+            b" too large",
+        ),
+        Cause::InputsTooLarge { rule, total } => inputs_text(alloc, *rule, *total),
         Cause::SiteFault { .. } => Vec::from_slice(alloc, b"folder fault"),
         Cause::RunnerFault { .. } => Vec::from_slice(alloc, b"runner fault"),
         Cause::SinkFault { .. } => Ok(Vec::new(alloc)),
         Cause::Memory => Vec::from_slice(alloc, b"out of memory"),
     }
+}
+
+// What a rule needs more than there is.
+fn needs_text(alloc: Global, rule: RuleNo, need: u64, total: u64) -> Result<Vec<u8>, AllocError>
+    ensures { IfOk result (λ text. text.items ≡ needs_text rule.0 need total) }
+{
+    let number = rule.0;
+    let text = format!(in alloc; "rule {number} needs {need}, there is {total}")?;
+    Ok(text.into_bytes())
+}
+
+// How much the inputs of a rule have together.
+fn inputs_text(alloc: Global, rule: RuleNo, total: u64) -> Result<Vec<u8>, AllocError>
+    ensures { IfOk result (λ text. text.items ≡ inputs_text rule.0 total) }
+{
+    let number = rule.0;
+    let text = format!(in alloc; "inputs of rule {number} too large: {total}")?;
+    Ok(text.into_bytes())
+}
+
+// Why the flow of this name is refused.
+fn refusal_text(alloc: Global, flow: &Name, fault: &FlowFault) -> Result<Vec<u8>, AllocError>
+    ensures { IfOk result (λ text. text.items ≡ flow.now ++ codes ": " ++ fault_text fault.now) }
+{
+    let why = match fault {
+        FlowFault::Make(fault) => make_text(alloc, fault)?,
+        FlowFault::Graph(fault) => graph_text(alloc, fault)?,
+    };
+    around(alloc, flow.as_bytes(), b": ", &why)
 }
 
 // What is said of a failed rule.

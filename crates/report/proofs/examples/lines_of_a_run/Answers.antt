@@ -26,3 +26,7 @@ returns-clause-missing c = refl
 pub returns-clause-too_long : goal.returns-clause-too_long
 unfolding digits
 returns-clause-too_long c = refl
+
+pub returns-clause-too_large : goal.returns-clause-too_large
+unfolding digits
+returns-clause-too_large c = refl

@@ -6,3 +6,7 @@ use Rattle.report.proofs.examples.lines_of_refusals.Goals as goal
 pub returns-clause-unbuilt : goal.returns-clause-unbuilt
 unfolding digits
 returns-clause-unbuilt c = refl
+
+pub returns-clause-needs : goal.returns-clause-needs
+unfolding digits
+returns-clause-needs c = refl
