@@ -20,7 +20,7 @@ use Rattle.flow_types.proofs.Orders.{serial-is_fixed}
 use Rattle.outside.specs.Files.{Files}
 use Rattle.outside.specs.Jobs.{NamesOutput}
 use Rattle.plan_run.specs.declared.halt.Halt.{Halt}
-use Rattle.plan_run.specs.declared.halt.Halt.TheVariants.{CommandFailed, InputMissing, Site, Runner, Memory}
+use Rattle.plan_run.specs.declared.halt.Halt.TheVariants.{CommandFailed, InputMissing, SourceTooLarge, Site, Runner, Memory}
 use Rattle.plan_run.specs.Placed.{file_name, contents_in, place_outputs}
 use Rattle.plan_run.specs.Course.{due_contents, HasSources, TellsJobs, IsMadeName, HasRun, IsStopped, IsCutShort, RunEnds}
 use Rattle.plan_run.specs.Steps.{job_now, RuleRan, RuleFailed, TurnEnds}
@@ -361,6 +361,7 @@ stopped P gives may_fail tells now k r rule before mid after (CommandFailed fail
           let job : job_now P rule mid ≡ job_of P rule due = job_due P gives told k r rule before mid valid sources ran is at_rule tell in
           subst (λ j. may_fail j why) job (turn.1.told (subst now (sym job) (still (job_of P rule due) (tell r rule at_rule))));
     }
+stopped P gives may_fail tells now k r rule before mid after (SourceTooLarge file size) valid sources still ran is at_rule others turn = absurd turn
 stopped P gives may_fail tells now k r rule before mid after (InputMissing file) valid sources still ran is at_rule others turn =
     let told : Type 0 = TellsJobs P (due_contents P gives before) tells in
     let there : is_some (mid (file_name P file.0)) ≡ true =

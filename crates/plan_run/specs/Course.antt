@@ -9,7 +9,7 @@ use Rattle.flow_types.specs.Serial.{Contents, Function, serial, serial_order, jo
 use Rattle.outside.specs.Files.{Files}
 use Rattle.outside.specs.Jobs.{NamesOutput}
 use Rattle.plan_run.specs.declared.halt.Halt.{Halt}
-use Rattle.plan_run.specs.declared.halt.Halt.TheVariants.{CommandFailed, InputMissing, Site, Runner, Memory}
+use Rattle.plan_run.specs.declared.halt.Halt.TheVariants.{CommandFailed, InputMissing, SourceTooLarge, Site, Runner, Memory}
 use Rattle.plan_run.specs.Placed.{file_name, contents_in}
 
 -- the contents of the serial run from what these files hold under the sources' names
@@ -67,6 +67,7 @@ RunEnds P gives may_fail tells before after (Ok done) =
 RunEnds P gives may_fail tells before after (Err (CommandFailed r why)) =
     IsStopped P (due_contents P gives before) may_fail (TellsJobs P (due_contents P gives before) tells) r.0 why before after
 RunEnds P gives may_fail tells before after (Err (InputMissing file)) = ⊥
+RunEnds P gives may_fail tells before after (Err (SourceTooLarge file size)) = ⊥
 RunEnds P gives may_fail tells before after (Err Runner) = RanBefore P (due_contents P gives before) (TellsJobs P (due_contents P gives before) tells) before after
 RunEnds P gives may_fail tells before after (Err Site) = IsCutShort P (due_contents P gives before) (TellsJobs P (due_contents P gives before) tells) before after
 RunEnds P gives may_fail tells before after (Err Memory) = IsCutShort P (due_contents P gives before) (TellsJobs P (due_contents P gives before) tells) before after

@@ -10,7 +10,7 @@ use Rattle.flow_types.specs.Serial.{Function, job_of, given_by}
 use Rattle.outside.specs.Files.{Files}
 use Rattle.outside.specs.Jobs.{NamesOutput}
 use Rattle.plan_run.specs.declared.halt.Halt.{Halt}
-use Rattle.plan_run.specs.declared.halt.Halt.TheVariants.{CommandFailed, InputMissing, Site, Runner, Memory}
+use Rattle.plan_run.specs.declared.halt.Halt.TheVariants.{CommandFailed, InputMissing, SourceTooLarge, Site, Runner, Memory}
 use Rattle.plan_run.specs.Placed.{file_name, contents_in, place_outputs}
 
 -- the job of a rule over what the files hold
@@ -37,6 +37,7 @@ abbrev pub TurnEnds : Plan → ℕ → Rule → Function → (Job → Failure �
 TurnEnds P r rule gives may_fail tells before after (Ok done) = RuleRan P rule gives tells before after
 TurnEnds P r rule gives may_fail tells before after (Err (CommandFailed failed why)) = (failed.0 ≡ r) × RuleFailed P rule may_fail tells why before after
 TurnEnds P r rule gives may_fail tells before after (Err (InputMissing file)) = (before (file_name P file.0) ≡ None) × IsTrue (contains_number file.0 (files_of rule.inputs))
+TurnEnds P r rule gives may_fail tells before after (Err (SourceTooLarge file size)) = ⊥
 TurnEnds P r rule gives may_fail tells before after (Err Site) = Unit {0}
 TurnEnds P r rule gives may_fail tells before after (Err Runner) = after ≡ before
 TurnEnds P r rule gives may_fail tells before after (Err Memory) = Unit {0}
@@ -53,6 +54,7 @@ abbrev pub is_failure : Result (Unit {0}) Halt → Bool
 is_failure (Ok done) = false
 is_failure (Err (CommandFailed r why)) = true
 is_failure (Err (InputMissing file)) = false
+is_failure (Err (SourceTooLarge file size)) = false
 is_failure (Err Site) = false
 is_failure (Err Runner) = false
 is_failure (Err Memory) = false
@@ -67,6 +69,7 @@ abbrev pub is_by_runner : Result (Unit {0}) Halt → Bool
 is_by_runner (Ok done) = false
 is_by_runner (Err (CommandFailed r why)) = true
 is_by_runner (Err (InputMissing file)) = false
+is_by_runner (Err (SourceTooLarge file size)) = false
 is_by_runner (Err Site) = false
 is_by_runner (Err Runner) = true
 is_by_runner (Err Memory) = false

@@ -8,6 +8,8 @@ pub enum Halt {
     CommandFailed { rule: RuleNo, why: Failure },
     /// A file that the next rule takes in wasn't there.
     InputMissing(FileNo),
+    /// A source has more than 67,108,864 bytes: so many.
+    SourceTooLarge { file: FileNo, size: u64 },
     /// The site's count of faults rose.
     Site,
     /// The runner's count of faults rose.

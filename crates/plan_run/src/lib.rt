@@ -10,4 +10,4 @@ mod sources;
 pub use files::{read_file, write_file};
 pub use halt::Halt;
 pub use rules::run_rules;
-pub use sources::missing_source;
+pub use sources::{SourceFault, source_fault};
