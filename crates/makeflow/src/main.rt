@@ -6,6 +6,7 @@ mod real;
 use crate::real::{FolderSite, ShellRunner, StdoutSink, System};
 use master_run::makeflow_top;
 use std::alloc::AllocError;
+use std::env::VarError;
 use std::io::ErrorKind;
 use std::process::ExitCode;
 use std::rt::Env;
@@ -23,8 +24,20 @@ fn words_of<R: Env + AllocGlobal>(rt: &R) -> Result<Vec<String>, AllocError> {
     }
 }
 
+// The variables of the environment. Where one isn't text there are none: a flow that asks for one is refused by its name.
+fn variables_of<R: Env + AllocGlobal>(rt: &R) -> Result<Vec<(String, String)>, AllocError> {
+    match env::vars(rt) {
+        Ok(variables) => variables.collect(rt.alloc()),
+        Err(VarError::OutOfMemory) => Err(AllocError),
+        Err(VarError::NotPresent | VarError::NotUnicode) => Ok(Vec::new(rt.alloc())),
+    }
+}
+
 fn main(rt: HostRuntime) -> ExitCode {
     let Ok(words) = words_of(&rt) else {
+        return ExitCode::from(OUT_OF_MEMORY);
+    };
+    let Ok(variables) = variables_of(&rt) else {
         return ExitCode::from(OUT_OF_MEMORY);
     };
     let site = FolderSite::new(&rt);
@@ -33,6 +46,7 @@ fn main(rt: HostRuntime) -> ExitCode {
     let ended = makeflow_top::<System, _, _, _>(
         rt.alloc(),
         words.as_slice(),
+        variables.as_slice(),
         site,
         &mut runner,
         &mut out,

@@ -11,6 +11,7 @@ use Rattle.flow_types.specs.declared.job.Job.{Job}
 use Rattle.flow_types.specs.declared.job.Failure.{Failure}
 use Rattle.flow_types.specs.Serial.{Function}
 use Rattle.plan_run.specs.declared.halt.Halt.TheVariants as halts
+use Rattle.plan_run.specs.declared.sources.SourceFault.{SourceFault}
 use Rattle.plan_run.specs.Course.{HasRun, IsCutShort, due_contents, TellsJobs}
 use Rattle.master_run.specs.Runs.{PerformEnds}
 
@@ -64,12 +65,12 @@ before_cut P due told place files after ran = record {
 }
 
 -- nothing was written where the site failed before the run, or memory was wanting
-pub site_perform : (P : Plan) (gives : Function) (may_fail : Job → Failure → Type 0) (tells : Job → Type 0) (missing : Option ℕ) (files after : Files) → after ≡ files
-    → PerformEnds P gives may_fail tells missing files after (Err halts.Site)
+pub site_perform : (P : Plan) (gives : Function) (may_fail : Job → Failure → Type 0) (tells : Job → Type 0) (wrong : Option SourceFault) (files after : Files) → after ≡ files
+    → PerformEnds P gives may_fail tells wrong files after (Err halts.Site)
 site_perform P gives may_fail tells None files after same = unchanged_cut P (due_contents P gives files) (TellsJobs P (due_contents P gives files) tells) files after same
-site_perform P gives may_fail tells (Some file) files after same = same
+site_perform P gives may_fail tells (Some fault) files after same = same
 
-pub memory_perform : (P : Plan) (gives : Function) (may_fail : Job → Failure → Type 0) (tells : Job → Type 0) (missing : Option ℕ) (files after : Files) → after ≡ files
-    → PerformEnds P gives may_fail tells missing files after (Err halts.Memory)
+pub memory_perform : (P : Plan) (gives : Function) (may_fail : Job → Failure → Type 0) (tells : Job → Type 0) (wrong : Option SourceFault) (files after : Files) → after ≡ files
+    → PerformEnds P gives may_fail tells wrong files after (Err halts.Memory)
 memory_perform P gives may_fail tells None files after same = unchanged_cut P (due_contents P gives files) (TellsJobs P (due_contents P gives files) tells) files after same
-memory_perform P gives may_fail tells (Some file) files after same = same
+memory_perform P gives may_fail tells (Some fault) files after same = same

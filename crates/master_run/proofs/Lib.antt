@@ -1,6 +1,4 @@
-pub mod Commands
-pub mod PlainNames
-pub mod PairPlans
 pub mod StageSteps
 pub mod Cuts
 pub mod Endings
+pub mod Printed

@@ -7,13 +7,22 @@ use Rattle.flow_types.specs.declared.plan.FileRow.{FileRow}
 use Rattle.flow_types.specs.Plans.{is_source}
 use Rattle.outside.specs.Files.{Files}
 use Rattle.plan_run.specs.Placed.{file_name}
-use Rattle.plan_run.specs.Sources.{is_missing, missing_from, missing_source}
+use Rattle.plan_run.specs.Sources.{first_some, fault_in, fault_at, fault_among, source_fault}
 use Rattle.plan_run.specs.Course.{HasSources}
 use Rattle.report.specs.declared.cause.Cause.{Cause}
 use Rattle.master_run.specs.declared.asking.Refusal.{Refusal}
 use Rattle.master_run.specs.declared.asking.Refusal.TheVariants.{Said, Site, Memory}
-use Rattle.master_run.specs.Asked.{and_then, named_flow, flow_text, flow_plan, planned}
-use Rattle.master_run.specs.Stages.{Stage, WordsStage}
+use Rattle.flow_types.specs.declared.flow.RawFlow.{RawFlow}
+use Rattle.command_words.specs.declared.options.Options.{Options}
+use Rattle.mf_text.specs.declared.fault.MakeFault.{MakeFault}
+use Rattle.mf_text.specs.declared.fault.MakeFault.TheVariants as make
+use Rattle.mf_text.specs.Answers.{Fails as FailsText}
+use Rattle.rule_graph.specs.declared.faults.GraphFault.{GraphFault}
+use Rattle.rule_graph.specs.declared.faults.GraphFault.TheVariants as graph
+use Rattle.rule_graph.specs.Answers.{Fails as FailsRules}
+use Rattle.master_run.specs.Words.{and_then, flow_name}
+use Rattle.master_run.specs.Asked.{read_flow, read_rules}
+use Rattle.master_run.specs.Stages.{Stage, WordsStage, OfFlow, SaysRefusal, make_refusal, graph_refusal}
 
 true_is_false : true ≡ false → ⊥
 true_is_false wrong = cc
@@ -21,57 +30,100 @@ true_is_false wrong = cc
 none_is_some : {A : Type 0} (x : A) → (let none : Option A = None in none ≡ Some x) → ⊥
 none_is_some x wrong = cc
 
-pub named : (o : Option (List ℕ)) (cause : Cause) (name : List ℕ) → ok_or o cause ≡ Ok name → o ≡ Some name
-named None cause name is = absurd (let wrong : ◌≡◌ {A = Result (List ℕ) Cause} (Err cause) (Ok name) = is in cc)
-named (Some found) cause name is = let same : ◌≡◌ {A = Result (List ℕ) Cause} (Ok found) (Ok name) = is in cc
+-- a stage behind one that was passed
+pub passed : {T U : Type 0} (first : Result T Cause) (next : T → Result U Cause) (value : T) (result : Result U Refusal) → first ≡ Ok value → Stage (next value) result → Stage (and_then first next) result
+passed first next value result is stage = let P : Result _ Cause → Type 0 = λ r. Stage (and_then r next) result in subst P (sym is) stage
 
--- a refusal behind the words
-pub words_err : (T U : Type 0) (o : Option (List ℕ)) (name : List ℕ) (refusal : Refusal) → o ≡ Some name → WordsStage {T = T} (Some name) (Err refusal) → WordsStage {T = U} o (Err refusal)
-words_err T U o name (Said cause) is stage = rw is stage
-words_err T U o name Site is stage = λ none. none_is_some name (sym none ∙ is)
-words_err T U o name Memory is stage = tt
+-- a stage that refuses ends those behind it too
+pub stopped : (T U : Type 0) (first : Result T Cause) (next : T → Result U Cause) (refusal : Refusal) → Stage {T = T} first (Err refusal) → Stage {T = U} (and_then first next) (Err refusal)
+stopped T U first next (Said cause) is = ap (λ r. and_then r next) is
+stopped T U first next Site is = tt
+stopped T U first next Memory is = tt
 
-pub words_at : {T : Type 0} (o : Option (List ℕ)) (name : List ℕ) (result : Result T Refusal) → o ≡ Some name → WordsStage (Some name) result → WordsStage o result
-words_at o name result is stage = let P : Option (List ℕ) → Type 0 = λ w. WordsStage w result in subst P (sym is) stage
+-- a text that is refused
+pub refused_text : (name : List ℕ) (fault : MakeFault) (given : Result RawFlow MakeFault) (next : RawFlow → Result Plan Cause) → FailsText fault given
+    → Stage {T = Plan} (and_then (read_flow name given) next) (Err (make_refusal name fault))
+refused_text name (make.NotUtf8 at) given next is = ap (λ g. and_then (read_flow name g) next) is
+refused_text name (make.OpenQuote line) given next is = ap (λ g. and_then (read_flow name g) next) is
+refused_text name (make.UnknownName line text) given next is = ap (λ g. and_then (read_flow name g) next) is
+refused_text name (make.OpenParen line) given next is = ap (λ g. and_then (read_flow name g) next) is
+refused_text name (make.NoColon line) given next is = ap (λ g. and_then (read_flow name g) next) is
+refused_text name (make.NoCommand line) given next is = ap (λ g. and_then (read_flow name g) next) is
+refused_text name (make.StrayCommand line) given next is = ap (λ g. and_then (read_flow name g) next) is
+refused_text name (make.BadNumber line) given next is = ap (λ g. and_then (read_flow name g) next) is
+refused_text name (make.TooLarge limit) given next is = ap (λ g. and_then (read_flow name g) next) is
+refused_text name make.Memory given next is = tt
 
-pub planned_stage : (words : List (List ℕ)) (files : Files) (name text : List ℕ) (result : Result Plan Refusal) → named_flow words ≡ Ok name → flow_text files name ≡ Ok text
-    → Stage (flow_plan text) result → Stage (planned words files) result
-planned_stage words files name text result one two stage =
-    let same : planned words files ≡ flow_plan text =
-    ap (λ r. and_then r (λ n. and_then (flow_text files n) flow_plan)) one ∙ ap (λ r. and_then r flow_plan) two in
-    let P : Result Plan Cause → Type 0 = λ e. Stage e result in subst P (sym same) stage
+-- rules that are refused
+pub refused_rules : (name : List ℕ) (fault : GraphFault) (given : Result Plan GraphFault) → FailsRules fault given → Stage {T = Plan} (read_rules name given) (Err (graph_refusal name fault))
+refused_rules name (graph.TooMany limit) given is = ap (read_rules name) is
+refused_rules name (graph.BadName rule text) given is = ap (read_rules name) is
+refused_rules name (graph.NoOutput rule) given is = ap (read_rules name) is
+refused_rules name (graph.SameName rule other) given is = ap (read_rules name) is
+refused_rules name (graph.NestedName folder other) given is = ap (read_rules name) is
+refused_rules name (graph.TwoMakers made rule other) given is = ap (read_rules name) is
+refused_rules name (graph.Cycle rules) given is = ap (read_rules name) is
+refused_rules name graph.Memory given is = tt
 
-some_is_none : (x : ℕ) → (let none : Option ℕ = None in Some x ≡ none) → ⊥
+-- what a refused text says
+pub text_says : (name : List ℕ) (fault : MakeFault) → (let answer : Result Plan Refusal = Err (make_refusal name fault) in OfFlow name answer × (SaysRefusal answer × ((make_refusal name fault ≡ Site) → ⊥)))
+text_says name (make.NotUtf8 at) = (refl, (refl, λ wrong. cc))
+text_says name (make.OpenQuote line) = (refl, (refl, λ wrong. cc))
+text_says name (make.UnknownName line text) = (refl, (refl, λ wrong. cc))
+text_says name (make.OpenParen line) = (refl, (refl, λ wrong. cc))
+text_says name (make.NoColon line) = (refl, (refl, λ wrong. cc))
+text_says name (make.NoCommand line) = (refl, (refl, λ wrong. cc))
+text_says name (make.StrayCommand line) = (refl, (refl, λ wrong. cc))
+text_says name (make.BadNumber line) = (refl, (refl, λ wrong. cc))
+text_says name (make.TooLarge limit) = (refl, (refl, λ wrong. cc))
+text_says name make.Memory = (tt, (tt, λ wrong. cc))
+
+-- what refused rules say
+pub rules_say : (name : List ℕ) (fault : GraphFault) → (let answer : Result Plan Refusal = Err (graph_refusal name fault) in OfFlow name answer × (SaysRefusal answer × ((graph_refusal name fault ≡ Site) → ⊥)))
+rules_say name (graph.TooMany limit) = (refl, (refl, λ wrong. cc))
+rules_say name (graph.BadName rule text) = (refl, (refl, λ wrong. cc))
+rules_say name (graph.NoOutput rule) = (refl, (refl, λ wrong. cc))
+rules_say name (graph.SameName rule other) = (refl, (refl, λ wrong. cc))
+rules_say name (graph.NestedName folder other) = (refl, (refl, λ wrong. cc))
+rules_say name (graph.TwoMakers made rule other) = (refl, (refl, λ wrong. cc))
+rules_say name (graph.Cycle rules) = (refl, (refl, λ wrong. cc))
+rules_say name graph.Memory = (tt, (tt, λ wrong. cc))
+
+-- the words, behind a stage that speaks of their flow
+pub words_of_flow : (words : Result Options Cause) (options : Options) (name : List ℕ) (result : Result Plan Refusal) → words ≡ Ok options → name ≡ flow_name options.flow → OfFlow name result → WordsStage words result
+words_of_flow words options name result is named says = let P : Result Options Cause → Type 0 = λ w. WordsStage w result in subst P (sym is) (by_result result (let Q : List ℕ → Type 0 = λ n. OfFlow n result in subst Q named says))
+  where
+    by_result : (r : Result Plan Refusal) → OfFlow (flow_name options.flow) r → WordsStage (let chosen : Result Options Cause = Ok options in chosen) r
+    by_result (Ok plan) says = refl
+    by_result (Err (Said cause)) says = says
+    by_result (Err Site) says = refl
+    by_result (Err Memory) says = tt
+
+some_is_none : {A : Type 0} (x : A) → (let none : Option A = None in Some x ≡ none) → ⊥
 some_is_none x wrong = cc
 
-at_place : (files : Files) (first row : FileRow) (rows : List FileRow) (f : ℕ) → is_missing files first ≡ false → slice_get (first ∷ rows) f ≡ Some row
-    → ((g : ℕ) → slice_get rows g ≡ Some row → is_missing files row ≡ false) → is_missing files row ≡ false
-at_place files first row rows zero here is later = let same : first ≡ row = cc in ap (is_missing files) (sym same) ∙ here
-at_place files first row rows (suc f) here is later = later f is
+first_none : {A : Type 0} (first : Option A) (rest : List (Option A)) → first_some (first ∷ rest) ≡ None → (first ≡ None) × (first_some rest ≡ None)
+first_none None rest none = (refl, none)
+first_none (Some x) rest none = absurd (some_is_none x none)
 
-first_there : (files : Files) (n : ℕ) (first : FileRow) (rows : List FileRow) (b : Bool) → is_missing files first ≡ b → (if b then Some n else missing_from files (n + 1) rows) ≡ None
-    → (is_missing files first ≡ false) × (missing_from files (n + 1) rows ≡ None)
-first_there files n first rows true here none = absurd (some_is_none n none)
-first_there files n first rows false here none = (here, none)
+none_wrong : (files : Files) (n f : ℕ) (rows : List FileRow) (row : FileRow) → fault_among files n rows ≡ None → slice_get rows f ≡ Some row → (m : ℕ) × (fault_at files m row ≡ None)
+none_wrong files n f [] row none is = absurd (none_is_some row is)
+none_wrong files n zero (first ∷ rows) row none is =
+    let parts = first_none (fault_at files n first) _ none in
+    let same : first ≡ row = cc in (n, ap (fault_at files n) (sym same) ∙ parts.0)
+none_wrong files n (suc f) (first ∷ rows) row none is = none_wrong files (n + 1) f rows row (first_none (fault_at files n first) _ none).1 is
 
--- where no source is missing, none of the rows is
-none_missing : (files : Files) (n f : ℕ) (rows : List FileRow) (row : FileRow) → missing_from files n rows ≡ None → slice_get rows f ≡ Some row → is_missing files row ≡ false
-none_missing files n f [] row none is = absurd (none_is_some row is)
-none_missing files n f (first ∷ rows) row none is =
-    let parts = first_there files n first rows (is_missing files first) refl none in
-    at_place files first row rows f parts.0 is (λ g at. none_missing files (n + 1) g rows row parts.1 at)
+there : (f : ℕ) (o : Option (List ℕ)) → fault_in f o ≡ None → is_some o ≡ true
+there f None wrong = absurd (some_is_none _ wrong)
+there f (Some bytes) right = refl
 
-there : (o : Option (List ℕ)) → is_none o ≡ false → is_some o ≡ true
-there None wrong = absurd (true_is_false wrong)
-there (Some bytes) right = refl
-
--- the sources are there where none is missing
-pub has_sources : (P : Plan) (files : Files) → missing_source P files ≡ None → HasSources P files
+-- the sources are there where nothing is wrong with any
+pub has_sources : (P : Plan) (files : Files) → source_fault P files ≡ None → HasSources P files
 has_sources P files none f source = by_row (slice_get P.files f) refl source
   where
-    in_row : (row : FileRow) → is_none row.maker ≡ true → (is_none row.maker && is_none (files row.name)) ≡ false → is_some (files row.name) ≡ true
-    in_row row made missing = there (files row.name) (ap (λ b. b && is_none (files row.name)) (sym made) ∙ missing)
+    in_row : (m : ℕ) (row : FileRow) → is_none row.maker ≡ true → fault_at files m row ≡ None → is_some (files row.name) ≡ true
+    in_row m row made right = there m (files row.name) (ap (λ b. if b then fault_in m (files row.name) else None) (sym made) ∙ right)
 
     by_row : (found : Option FileRow) → slice_get P.files f ≡ found → option_map_or (λ row. is_none row.maker) found false ≡ true → is_some (files (option_map_or (λ row. row.name) found [])) ≡ true
     by_row None at source = absurd (true_is_false (sym source))
-    by_row (Some row) at source = in_row row source (none_missing files 0 f P.files row none at)
+    by_row (Some row) at source = let right = none_wrong files 0 f P.files row none at in in_row right.0 row source right.1

@@ -1,44 +1,60 @@
--- What words and files ask for: a plan to run, or the first refusal. Each stage is asked once the ones before it let pass.
-use Rattle.std.specs.Prelude.{ℕ, List, Option, Some, None, Result, Ok, Err, ok_or, option_map}
+-- What words, environment and files ask for: a plan to run, or the first refusal. Each stage is asked once the ones before it let
+-- pass.
+use Rattle.std.specs.Prelude.{ℕ, List, Option, Some, None, Result, Ok, Err, ok_or}
+use Rattle.flow_types.specs.declared.numbers.Amounts.{Amounts}
+use Rattle.flow_types.specs.declared.flow.RawFlow.{RawFlow}
 use Rattle.flow_types.specs.declared.plan.Plan.{Plan}
+use Rattle.mf_text.specs.declared.fault.MakeFault.{MakeFault}
+use Rattle.mf_rules.specs.Flow.{flow_of}
+use Rattle.rule_graph.specs.declared.faults.GraphFault.{GraphFault}
+use Rattle.rule_graph.specs.Faults.{plan_of}
 use Rattle.outside.specs.Files.{Files}
-use Rattle.plan_run.specs.Sources.{missing_source}
+use Rattle.plan_run.specs.declared.sources.SourceFault.{SourceFault}
+use Rattle.plan_run.specs.declared.sources.SourceFault.TheVariants.{Missing, TooLarge}
+use Rattle.plan_run.specs.Sources.{source_fault}
+use Rattle.command_words.specs.declared.options.Options.{Options}
+use Rattle.report.specs.declared.cause.FlowFault.TheVariants.{Make, Graph}
 use Rattle.report.specs.declared.cause.Cause.{Cause}
-use Rattle.report.specs.declared.cause.Cause.TheVariants.{Usage, FlowMissing, Unbuilt, SourceMissing}
-use Rattle.master_run.specs.Words.{flow_name_of}
-use Rattle.master_run.specs.PlainFlow.{pair_of}
-use Rattle.master_run.specs.PlainPlan.{plan_of_pair}
-
--- one stage after another
-abbrev pub and_then : {T U : Type 0} → Result T Cause → (T → Result U Cause) → Result U Cause
-and_then (Ok value) next = next value
-and_then (Err cause) next = Err cause
-
--- the name of the flow file, by the words
-abbrev pub named_flow : List (List ℕ) → Result (List ℕ) Cause
-named_flow words = ok_or (flow_name_of words) Usage
+use Rattle.report.specs.declared.cause.Cause.TheVariants.{FlowMissing, FlowRefused, SourceMissing, SourceTooLarge}
+use Rattle.master_run.specs.Words.{and_then, chosen, flow_name}
+use Rattle.master_run.specs.Needs.{with_needs}
 
 -- the text of the flow file
 abbrev pub flow_text : Files → List ℕ → Result (List ℕ) Cause
 flow_text files name = ok_or (files name) (FlowMissing name)
 
--- the plan of the text
-abbrev pub flow_plan : List ℕ → Result Plan Cause
-flow_plan text = ok_or (option_map plan_of_pair (pair_of text)) (Unbuilt 0)
+-- the flow of a text, or its refusal
+abbrev pub read_flow : List ℕ → Result RawFlow MakeFault → Result RawFlow Cause
+read_flow name (Ok flow) = Ok flow
+read_flow name (Err fault) = Err (FlowRefused name (Make fault))
 
--- the plan, or its missing source
-abbrev pub sources_checked : Plan → Option ℕ → Result Plan Cause
+-- the plan of a flow, or its refusal
+abbrev pub read_rules : List ℕ → Result Plan GraphFault → Result Plan Cause
+read_rules name (Ok plan) = Ok plan
+read_rules name (Err fault) = Err (FlowRefused name (Graph fault))
+
+-- the plan of the text of the flow of this name
+abbrev pub flow_plan : List (List ℕ × List ℕ) → List ℕ → List ℕ → Result Plan Cause
+flow_plan env name text = and_then (read_flow name (flow_of env text)) (λ flow. read_rules name (plan_of flow))
+
+-- the plan of the flow file of this name, if its rules need no more than these amounts
+abbrev pub file_plan : List (List ℕ × List ℕ) → Files → List ℕ → Amounts → Result Plan Cause
+file_plan env files name total = and_then (and_then (flow_text files name) (flow_plan env name)) (with_needs total)
+
+-- the plan that words, environment and files give, or the first refusal
+abbrev pub planned : List (List ℕ) → List (List ℕ × List ℕ) → Files → Result Plan Cause
+planned words env files = and_then (chosen words) (λ options. file_plan env files (flow_name options.flow) options.local)
+
+-- the plan, or what is wrong with its sources
+abbrev pub sources_checked : Plan → Option SourceFault → Result Plan Cause
 sources_checked P None = Ok P
-sources_checked P (Some file) = Err (SourceMissing (record { 0 = file }))
+sources_checked P (Some (Missing file)) = Err (SourceMissing file)
+sources_checked P (Some (TooLarge file size)) = Err (SourceTooLarge file size)
 
--- the plan, where its sources are there
+-- the plan, where nothing is wrong with its sources
 abbrev pub with_sources : Files → Plan → Result Plan Cause
-with_sources files P = sources_checked P (missing_source P files)
+with_sources files P = sources_checked P (source_fault P files)
 
--- the plan that words and files give, or the first refusal
-abbrev pub planned : List (List ℕ) → Files → Result Plan Cause
-planned words files = and_then (named_flow words) (λ name. and_then (flow_text files name) flow_plan)
-
--- what words and files ask for
-abbrev pub asked : List (List ℕ) → Files → Result Plan Cause
-asked words files = and_then (planned words files) (with_sources files)
+-- what words, environment and files ask for
+abbrev pub asked : List (List ℕ) → List (List ℕ × List ℕ) → Files → Result Plan Cause
+asked words env files = and_then (planned words env files) (with_sources files)

@@ -9,9 +9,11 @@ use Rattle.plan_run.specs.declared.halt.Halt.{Halt}
 use Rattle.plan_run.specs.declared.halt.Halt.TheVariants as halts
 use Rattle.plan_run.specs.Course.{RunEnds, IsMadeName}
 use Rattle.report.specs.declared.cause.Cause.{Cause}
-use Rattle.report.specs.declared.cause.Cause.TheVariants.{Complete, CommandFailed, FlowMissing, SiteFault, RunnerFault, SinkFault, Memory}
+use Rattle.report.specs.declared.cause.Cause.TheVariants.{Complete, CommandFailed, Usage, FlowMissing, FlowRefused, Unbuilt, SiteFault, RunnerFault, SinkFault, Memory}
+use Rattle.command_words.specs.declared.options.Options.{Options}
+use Rattle.master_run.specs.Words.{flow_name}
 use Rattle.report.specs.declared.cause.Kind.{Kind}
-use Rattle.report.specs.declared.cause.Kind.TheVariants.{Completed, RuleFailed, WrongWords, WrongSource, SiteBroke, RunnerBroke, SinkBroke, NoMemory}
+use Rattle.report.specs.declared.cause.Kind.TheVariants.{Completed, RuleFailed, WrongSource, PastLimit, SiteBroke, RunnerBroke, SinkBroke, NoMemory}
 use Rattle.report.specs.Causes.{kind_of}
 use Rattle.report.specs.Lines.{line_of}
 use Rattle.master_run.specs.declared.counts.Counts.{Counts}
@@ -60,24 +62,30 @@ OthersStay (Err refusal) before after = (name : List ℕ) → after name ≡ bef
 abbrev pub is_run_end : Kind → Bool
 is_run_end Completed = true
 is_run_end RuleFailed = true
+is_run_end PastLimit = true
 is_run_end _ = false
 
--- how wrong words end
-abbrev pub is_words_end : Kind → Bool
-is_words_end WrongWords = true
-is_words_end NoMemory = true
-is_words_end _ = false
+-- whether memory was wanting
+abbrev pub is_no_memory : Kind → Bool
+is_no_memory NoMemory = true
+is_no_memory _ = false
 
--- whether words were wrong
-abbrev pub is_wrong_words : Kind → Bool
-is_wrong_words WrongWords = true
-is_wrong_words _ = false
+-- refused by the words alone
+abbrev pub is_words_refusal : Cause → Bool
+is_words_refusal Usage = true
+is_words_refusal (Unbuilt line) = true
+is_words_refusal _ = false
 
--- Wrong words are refused whatever the objects do, and no others are. A missing flow has the name that the words give.
-abbrev pub WordsEnd : Option (List ℕ) → Cause → Type 0
-WordsEnd None cause = IsTrue (is_words_end (kind_of cause))
-WordsEnd (Some name) (FlowMissing missing) = missing ≡ name
-WordsEnd (Some name) cause = IsFalse (is_wrong_words (kind_of cause))
+-- What is said of a flow has its name, and nothing is said of the words.
+abbrev pub SaysOfFlow : List ℕ → Cause → Type 0
+SaysOfFlow name (FlowMissing missing) = missing ≡ name
+SaysOfFlow name (FlowRefused refused fault) = refused ≡ name
+SaysOfFlow name cause = IsFalse (is_words_refusal cause)
+
+-- Words that are refused are refused whatever the objects do, and no others are.
+abbrev pub WordsEnd : Result Options Cause → Cause → Type 0
+WordsEnd (Err refusal) cause = IsFalse (is_no_memory (kind_of cause)) → cause ≡ refusal
+WordsEnd (Ok options) cause = SaysOfFlow (flow_name options.flow) cause
 
 -- The two counts are those of before and after, and the second is greater.
 abbrev pub Rose : ℕ → ℕ → ℕ → ℕ → Type 0
@@ -113,11 +121,6 @@ abbrev pub is_of_plan : Kind → Bool
 is_of_plan RuleFailed = true
 is_of_plan WrongSource = true
 is_of_plan _ = false
-
--- whether memory was wanting
-abbrev pub is_no_memory : Kind → Bool
-is_no_memory NoMemory = true
-is_no_memory _ = false
 
 -- how a call ends whose own line may not have been printed
 abbrev pub is_unprinted : Kind → Bool

@@ -1,6 +1,5 @@
 pub mod Words
-pub mod PlainFlow
-pub mod PlainPlan
+pub mod Needs
 pub mod Asked
 pub mod Ends
 pub mod Stages

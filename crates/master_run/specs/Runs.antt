@@ -9,33 +9,42 @@ use Rattle.outside.specs.declared.fault.Fault.{Fault}
 use Rattle.outside.specs.declared.fault.Fault.TheVariants as faults
 use Rattle.plan_run.specs.declared.halt.Halt.{Halt}
 use Rattle.plan_run.specs.declared.halt.Halt.TheVariants as halts
+use Rattle.plan_run.specs.declared.sources.SourceFault.{SourceFault}
+use Rattle.plan_run.specs.declared.sources.SourceFault.TheVariants.{Missing, TooLarge}
 use Rattle.plan_run.specs.Course.{RunEnds}
 use Rattle.report.specs.declared.cause.Cause.{Cause}
-use Rattle.report.specs.declared.cause.Cause.TheVariants.{Complete, CommandFailed, SourceMissing, SiteFault, RunnerFault, SinkFault, Memory}
+use Rattle.report.specs.declared.cause.Cause.TheVariants.{Complete, CommandFailed, SourceMissing, SourceTooLarge, SiteFault, RunnerFault, SinkFault, Memory}
 use Rattle.report.specs.Causes.{kind_of}
 use Rattle.master_run.specs.declared.asking.Refusal.{Refusal}
 use Rattle.master_run.specs.declared.asking.Refusal.TheVariants as refusals
 use Rattle.master_run.specs.declared.counts.Counts.{Counts}
 use Rattle.master_run.specs.Ends.{is_run_end}
 
--- Where a source is missing it is named and nothing is done.
-abbrev pub MissingEnds : ℕ → Files → Files → Result (Unit {0}) Halt → Type 0
-MissingEnds file before after (Ok done) = ⊥
-MissingEnds file before after (Err (halts.InputMissing missing)) = (missing.0 ≡ file) × (after ≡ before)
-MissingEnds file before after (Err (halts.CommandFailed rule why)) = ⊥
-MissingEnds file before after (Err halts.Site) = after ≡ before
-MissingEnds file before after (Err halts.Runner) = ⊥
-MissingEnds file before after (Err halts.Memory) = after ≡ before
+-- the halt by a source
+abbrev pub source_halt : SourceFault → Halt
+source_halt (Missing file) = halts.InputMissing file
+source_halt (TooLarge file size) = halts.SourceTooLarge file size
 
--- the run of a plan of which this source is missing, or none
-abbrev pub PerformEnds : Plan → Function → (Job → Failure → Type 0) → (Job → Type 0) → Option ℕ → Files → Files → Result (Unit {0}) Halt → Type 0
+-- Where something is wrong with a source it is named, and nothing is done.
+abbrev pub SourceEnds : SourceFault → Files → Files → Result (Unit {0}) Halt → Type 0
+SourceEnds fault before after (Ok done) = ⊥
+SourceEnds fault before after (Err (halts.InputMissing file)) = (halts.InputMissing file ≡ source_halt fault) × (after ≡ before)
+SourceEnds fault before after (Err (halts.SourceTooLarge file size)) = (halts.SourceTooLarge file size ≡ source_halt fault) × (after ≡ before)
+SourceEnds fault before after (Err (halts.CommandFailed rule why)) = ⊥
+SourceEnds fault before after (Err halts.Site) = after ≡ before
+SourceEnds fault before after (Err halts.Runner) = ⊥
+SourceEnds fault before after (Err halts.Memory) = after ≡ before
+
+-- the run of a plan with one of whose sources this is wrong, or nothing
+abbrev pub PerformEnds : Plan → Function → (Job → Failure → Type 0) → (Job → Type 0) → Option SourceFault → Files → Files → Result (Unit {0}) Halt → Type 0
 PerformEnds P gives may_fail tells None before after result = RunEnds P gives may_fail tells before after result
-PerformEnds P gives may_fail tells (Some file) before after result = MissingEnds file before after result
+PerformEnds P gives may_fail tells (Some fault) before after result = SourceEnds fault before after result
 
 -- the cause of a halt
 abbrev pub halt_cause : Counts → Counts → Halt → Cause
 halt_cause before after (halts.CommandFailed rule why) = CommandFailed rule why
 halt_cause before after (halts.InputMissing file) = SourceMissing file
+halt_cause before after (halts.SourceTooLarge file size) = SourceTooLarge file size
 halt_cause before after halts.Site = SiteFault before.site after.site
 halt_cause before after halts.Runner = RunnerFault before.runner after.runner
 halt_cause before after halts.Memory = Memory

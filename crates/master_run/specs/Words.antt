@@ -1,33 +1,26 @@
--- The words of the command line.
-use Rattle.std.specs.Prelude.{ℕ, Bool, true, false, List, [], ◌∷◌, length, Option, Some, None, ◌&&◌, ◌||◌, not, nat_le, ◌==◌, codes, if◌then◌else◌}
-use Rattle.std.specs.List.{list_all}
-use Rattle.std.specs.Str.{bytes_eq}
-use Rattle.flow_types.specs.Names.{name_of}
+-- What the words of a command line choose.
+use Rattle.std.specs.Prelude.{ℕ, List, Result, Ok, Err, ok_or, codes, if◌then◌else◌}
+use Rattle.command_words.specs.declared.options.Options.{Options}
+use Rattle.command_words.specs.declared.options.Flow.{Flow}
+use Rattle.command_words.specs.declared.options.Flow.TheVariants.{File, Generated}
+use Rattle.command_words.specs.Choices.{options_of}
+use Rattle.report.specs.declared.cause.Cause.{Cause}
+use Rattle.report.specs.declared.cause.Cause.TheVariants.{Usage, Unbuilt}
 
--- an ASCII letter
-abbrev pub is_letter : ℕ → Bool
-is_letter c = (nat_le 65 c && nat_le c 90) || (nat_le 97 c && nat_le c 122)
+-- one stage after another
+abbrev pub and_then : {T U : Type 0} → Result T Cause → (T → Result U Cause) → Result U Cause
+and_then (Ok value) next = next value
+and_then (Err cause) next = Err cause
 
--- a letter, a digit, a full stop, an underscore or a dash
-abbrev pub is_plain_byte : ℕ → Bool
-is_plain_byte c = is_letter c || (nat_le 48 c && nat_le c 57) || (c == 46) || (c == 95) || (c == 45)
+-- what can be run of what the words choose
+abbrev pub built : Options → Result Options Cause
+built options = if options.unbuilt then Err (Unbuilt 0) else Ok options
 
--- whether a text begins with a letter
-abbrev pub begins_with_letter : List ℕ → Bool
-begins_with_letter [] = false
-begins_with_letter (c ∷ rest) = is_letter c
+-- what the words choose, where they are a command line and all of it is built
+abbrev pub chosen : List (List ℕ) → Result Options Cause
+chosen words = and_then (ok_or (options_of words) Usage) built
 
--- 1 to 64 such characters, a letter first, and not the word `export`
-abbrev pub is_plain : List ℕ → Bool
-is_plain text = nat_le (length text) 64 && begins_with_letter text && list_all is_plain_byte text && not (bytes_eq text (codes "export"))
-
--- the name that a plain text gives
-abbrev pub plain_name : List ℕ → Option (List ℕ)
-plain_name text = if is_plain text then name_of text else None
-
--- the name of the flow file: the words are two, and the second is a plain name
-abbrev pub flow_name_of : List (List ℕ) → Option (List ℕ)
-flow_name_of [] = None
-flow_name_of (program ∷ []) = None
-flow_name_of (program ∷ name ∷ []) = plain_name name
-flow_name_of (program ∷ name ∷ more ∷ rest) = None
+-- the name of the flow
+abbrev pub flow_name : Flow → List ℕ
+flow_name (File name language) = name
+flow_name (Generated rules) = codes "generated"

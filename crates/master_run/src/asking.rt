@@ -1,17 +1,22 @@
 //! From the words and the flow file to the plan.
-ghost use Rattle.std.specs.Prelude.{◌≡◌, ◌≤◌, ◌<◌, List, ℕ, Some, map, string_bytes, IfOk, IsErrOf};
+ghost use Rattle.std.specs.Prelude.{◌≡◌, ◌≤◌, ◌<◌, ℕ, List, map, string_bytes, IfOk, IsErrOf, Err};
 ghost use Rattle.flow_types.specs.Plans.{IsValid};
-ghost use Rattle.master_run.specs.Asked.{named_flow, flow_text, flow_plan, planned};
-ghost use Rattle.master_run.specs.Stages.{Stage, WordsStage, SaysRefusal, SiteTrace};
-ghost use Rattle.master_run.specs.Words.{flow_name_of};
+ghost use Rattle.mf_rules.specs.Flow.{given_pairs};
+ghost use Rattle.master_run.specs.declared.asking.Refusal.{Refusal as RefusalValue};
+ghost use Rattle.master_run.specs.Asked.{flow_plan, file_plan, planned};
+ghost use Rattle.master_run.specs.Needs.{with_needs};
+ghost use Rattle.master_run.specs.Stages.{Stage, WordsStage, OfFlow, SaysRefusal, SiteTrace, make_refusal, graph_refusal};
+ghost use Rattle.master_run.specs.Words.{chosen, flow_name};
 
-use crate::plain_flow::read_flow;
-use crate::plain_plan::plan_of_pair;
-use crate::words::{NoName, flow_name};
-use flow_types::{Bytes, Memory, Name, Plan};
+use crate::needs::{Excess, least_excess};
+use command_words::{Flow, Options, WordsFault, read_words};
+use flow_types::{Amounts, Name, Plan};
+use mf_rules::read_make;
+use mf_text::MakeFault;
 use outside::{Fault, Site};
 use plan_run::read_file;
-use report::Cause;
+use report::{Cause, FlowFault};
+use rule_graph::{GraphFault, plan_of};
 use std::alloc::Global;
 
 /// Why there is no plan.
@@ -25,68 +30,151 @@ pub enum Refusal {
     Memory,
 }
 
-fn named_flow(alloc: Global, words: &[String]) -> Result<Name, Refusal>
-    ensures stage { Stage (named_flow (map string_bytes words.now)) result }
-    ensures words { WordsStage (flow_name_of (map string_bytes words.now)) result }
+// What the words choose, if all of it is built.
+fn chosen(alloc: Global, words: &[String]) -> Result<Options, Refusal>
+    ensures stage { Stage (chosen (map string_bytes words.now)) result }
+    ensures words { WordsStage (chosen (map string_bytes words.now)) result }
     ensures kind { SaysRefusal result }
     ensures no_site { IsErrOf result Refusal.Site → ⊥ }
 {
-    match flow_name(alloc, words) {
-        Ok(name) => Ok(name),
-        Err(NoName::Wrong) => Err(Refusal::Said(Cause::Usage)),
-        Err(NoName::Memory) => Err(Refusal::Memory),
+    match read_words(alloc, words) {
+        Ok(options) => {
+            if options.unbuilt {
+                Err(Refusal::Said(Cause::Unbuilt { line: 0 }))
+            } else {
+                Ok(options)
+            }
+        }
+        Err(WordsFault::Usage) => Err(Refusal::Said(Cause::Usage)),
+        Err(WordsFault::Memory) => Err(Refusal::Memory),
     }
 }
 
-fn flow_plan(alloc: Global, text: &[u8]) -> Result<Plan, Refusal>
-    ensures stage { Stage (flow_plan text.now) result }
-    ensures words { (name : List ℕ) → WordsStage (Some name) result }
+fn name_of_flow(alloc: Global, flow: Flow) -> Result<Name, Refusal>
+    ensures name { IfOk result (λ name. name ≡ flow_name flow) }
+    ensures memory { (refusal : RefusalValue) → result ≡ Err refusal → refusal ≡ Refusal.Memory }
+{
+    match flow {
+        Flow::File { name, language: _ } => Ok(name),
+        Flow::Generated { rules: _ } => match Name::of(alloc, b"generated") {
+            Ok(name) => Ok(name),
+            Err(_) => Err(Refusal::Memory),
+        },
+    }
+}
+
+fn make_refusal(name: Name, fault: MakeFault) -> Refusal
+    ensures { result ≡ make_refusal name fault }
+{
+    match fault {
+        MakeFault::Memory => Refusal::Memory,
+        fault => Refusal::Said(Cause::FlowRefused {
+            flow: name,
+            fault: FlowFault::Make(fault),
+        }),
+    }
+}
+
+fn graph_refusal(name: Name, fault: GraphFault) -> Refusal
+    ensures { result ≡ graph_refusal name fault }
+{
+    match fault {
+        GraphFault::Memory => Refusal::Memory,
+        fault => Refusal::Said(Cause::FlowRefused {
+            flow: name,
+            fault: FlowFault::Graph(fault),
+        }),
+    }
+}
+
+// The plan of the text of the flow of this name.
+fn flow_plan(
+    alloc: Global,
+    name: Name,
+    text: &[u8],
+    env: &[(String, String)],
+) -> Result<Plan, Refusal>
+    ensures stage { Stage (flow_plan (given_pairs env.now) name text.now) result }
+    ensures flow { OfFlow name result }
     ensures kind { SaysRefusal result }
     ensures valid { IfOk result IsValid }
     ensures no_site { IsErrOf result Refusal.Site → ⊥ }
 {
-    let pair = match read_flow(alloc, text) {
-        Ok(pair) => pair,
-        Err(NoName::Wrong) => return Err(Refusal::Said(Cause::Unbuilt { line: 0 })),
-        Err(NoName::Memory) => return Err(Refusal::Memory),
+    let flow = match read_make(alloc, text, env) {
+        Ok(flow) => flow,
+        Err(fault) => return Err(make_refusal(name, fault)),
     };
-    match plan_of_pair(alloc, pair) {
+    match plan_of(alloc, flow) {
         Ok(plan) => Ok(plan),
-        Err(Memory) => Err(Refusal::Memory),
+        Err(fault) => Err(graph_refusal(name, fault)),
     }
 }
 
-fn flow_text<S: Site>(alloc: Global, name: Name, site: &mut S) -> Result<Bytes, Refusal>
-    ensures stage { S.tells → Stage (flow_text (S.files site.old) name) result }
-    ensures words { WordsStage (Some name) result }
+// The plan, if its rules need no more than these amounts.
+fn with_needs(plan: Plan, total: Amounts) -> Result<Plan, Refusal>
+    requires { IsValid plan }
+    ensures stage { Stage (with_needs total plan) result }
+    ensures flow { (name : List ℕ) → OfFlow name result }
     ensures kind { SaysRefusal result }
-    ensures files { S.tells → S.files site.new ≡ S.files site.old }
-    ensures trace { SiteTrace (S.count site.old) (S.count site.new) result }
+    ensures valid { IfOk result IsValid }
+    ensures no_site { IsErrOf result Refusal.Site → ⊥ }
 {
-    match read_file(alloc, site, &name) {
-        Ok(Some(text)) => Ok(text),
-        Ok(None) => Err(Refusal::Said(Cause::FlowMissing { name })),
-        Err(Fault::Failed) => Err(Refusal::Site),
-        Err(Fault::Memory) => Err(Refusal::Memory),
+    match least_excess(total, plan.rules.as_slice()) {
+        Some(Excess { rule, need, total }) => {
+            Err(Refusal::Said(Cause::NeedsTooMuch { rule, need, total }))
+        }
+        None => Ok(plan),
     }
 }
 
-/// The plan that words and files give.
-pub fn read_plan<S: Site>(alloc: Global, words: &[String], site: &mut S) -> Result<Plan, Refusal>
-    ensures stage { S.tells → Stage (planned (map string_bytes words.now) (S.files site.old)) result }
-    ensures words { WordsStage (flow_name_of (map string_bytes words.now)) result }
+// The plan of the flow file of this name, if its rules need no more than these amounts.
+fn file_plan<S: Site>(
+    alloc: Global,
+    name: Name,
+    total: Amounts,
+    env: &[(String, String)],
+    site: &mut S,
+) -> Result<Plan, Refusal>
+    ensures stage { S.tells → Stage (file_plan (given_pairs env.now) (S.files site.old) name total) result }
+    ensures flow { OfFlow name result }
     ensures kind { SaysRefusal result }
     ensures valid { IfOk result IsValid }
     ensures files { S.tells → S.files site.new ≡ S.files site.old }
     ensures trace { SiteTrace (S.count site.old) (S.count site.new) result }
 {
-    let name = match named_flow(alloc, words) {
-        Ok(name) => name,
+    let text = match read_file(alloc, site, &name) {
+        Ok(Some(text)) => text,
+        Ok(None) => return Err(Refusal::Said(Cause::FlowMissing { name })),
+        Err(Fault::Failed) => return Err(Refusal::Site),
+        Err(Fault::Memory) => return Err(Refusal::Memory),
+    };
+    match flow_plan(alloc, name, text.as_slice(), env) {
+        Ok(plan) => with_needs(plan, total),
+        Err(refusal) => Err(refusal),
+    }
+}
+
+/// The plan that words, environment and files give.
+pub fn read_plan<S: Site>(
+    alloc: Global,
+    words: &[String],
+    env: &[(String, String)],
+    site: &mut S,
+) -> Result<Plan, Refusal>
+    ensures stage { S.tells → Stage (planned (map string_bytes words.now) (given_pairs env.now) (S.files site.old)) result }
+    ensures words { WordsStage (chosen (map string_bytes words.now)) result }
+    ensures kind { SaysRefusal result }
+    ensures valid { IfOk result IsValid }
+    ensures files { S.tells → S.files site.new ≡ S.files site.old }
+    ensures trace { SiteTrace (S.count site.old) (S.count site.new) result }
+{
+    let options = match chosen(alloc, words) {
+        Ok(options) => options,
         Err(refusal) => return Err(refusal),
     };
-    let text = match flow_text(alloc, name, site) {
-        Ok(text) => text,
-        Err(refusal) => return Err(refusal),
-    };
-    flow_plan(alloc, text.as_slice())
+    let total = options.local;
+    match name_of_flow(alloc, options.flow) {
+        Ok(name) => file_plan(alloc, name, total, env, site),
+        Err(refusal) => Err(refusal),
+    }
 }

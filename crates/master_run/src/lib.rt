@@ -3,11 +3,9 @@
 
 mod asking;
 mod counts;
-mod plain_flow;
-mod plain_plan;
+mod needs;
 mod printing;
 mod running;
 mod top;
-mod words;
 
 pub use top::{Ended, makeflow_top};

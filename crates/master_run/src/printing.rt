@@ -11,7 +11,7 @@ use std::alloc::Global;
 fn is_run_end(kind: Kind) -> bool
     ensures { result ≡ is_run_end kind }
 {
-    matches!(kind, Kind::Completed | Kind::RuleFailed)
+    matches!(kind, Kind::Completed | Kind::RuleFailed | Kind::PastLimit)
 }
 
 fn printed_cause(cause: Cause, before: u64, after: u64, printed: Result<(), Fault>) -> Cause

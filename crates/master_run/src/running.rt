@@ -3,7 +3,7 @@ ghost use Rattle.std.specs.Prelude.{◌≡◌, false, List, ℕ};
 ghost use Rattle.flow_types.specs.Plans.{IsValid};
 ghost use Rattle.flow_types.specs.Serial.{serial_order};
 ghost use Rattle.plan_run.specs.Course.{IsMadeName};
-ghost use Rattle.plan_run.specs.Sources.{missing_source};
+ghost use Rattle.plan_run.specs.Sources.{source_fault};
 ghost use Rattle.plan_run.specs.Steps.{HasCauses, CountsFailures, is_by_runner};
 ghost use Rattle.master_run.specs.Runs.{PerformEnds, halt_cause, run_cause, refusal_cause};
 
@@ -11,12 +11,12 @@ use crate::asking::Refusal;
 use crate::counts::Counts;
 use flow_types::{Memory, Plan};
 use outside::{Commands, Fault, Runner, Site};
-use plan_run::{Halt, missing_source, run_rules};
+use plan_run::{Halt, SourceFault, run_rules, source_fault};
 use report::Cause;
 use rule_graph::serial_order;
 use std::alloc::Global;
 
-/// Runs a plan whose sources are all there.
+/// Runs a plan, if its sources are all there and within their limit.
 pub fn perform<F: Commands, S: Site, R: Runner<F>>(
     alloc: Global,
     plan: &Plan,
@@ -24,7 +24,7 @@ pub fn perform<F: Commands, S: Site, R: Runner<F>>(
     runner: &mut R,
 ) -> Result<(), Halt>
     requires { IsValid plan.now }
-    ensures told { S.tells → PerformEnds plan.now F.gives F.may_fail (R.tells runner.old) (missing_source plan.now (S.files site.old))
+    ensures told { S.tells → PerformEnds plan.now F.gives F.may_fail (R.tells runner.old) (source_fault plan.now (S.files site.old))
         (S.files site.old) (S.files site.new) result }
     ensures others { S.tells → (name : List ℕ) → (IsMadeName plan.now (serial_order plan.now) name → ⊥) → S.files site.new name ≡ S.files site.old name }
     ensures sure { R.sure runner.old → is_by_runner result ≡ false }
@@ -35,9 +35,10 @@ pub fn perform<F: Commands, S: Site, R: Runner<F>>(
         Ok(order) => order,
         Err(Memory) => return Err(Halt::Memory),
     };
-    match missing_source(site, plan.files.as_slice()) {
+    match source_fault(site, plan.files.as_slice()) {
         Ok(None) => run_rules(alloc, plan, order.as_slice(), site, runner),
-        Ok(Some(file)) => Err(Halt::InputMissing(file)),
+        Ok(Some(SourceFault::Missing(file))) => Err(Halt::InputMissing(file)),
+        Ok(Some(SourceFault::TooLarge { file, size })) => Err(Halt::SourceTooLarge { file, size }),
         Err(Fault::Failed) => Err(Halt::Site),
         Err(Fault::Memory) => Err(Halt::Memory),
     }
@@ -49,6 +50,7 @@ fn halt_cause(halt: Halt, before: Counts, after: Counts) -> Cause
     match halt {
         Halt::CommandFailed { rule, why } => Cause::CommandFailed { rule, why },
         Halt::InputMissing(file) => Cause::SourceMissing { file },
+        Halt::SourceTooLarge { file, size } => Cause::SourceTooLarge { file, size },
         Halt::Site => Cause::SiteFault {
             before: before.site,
             after: after.site,

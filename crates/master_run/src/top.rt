@@ -4,7 +4,8 @@ ghost use Rattle.flow_types.specs.declared.plan.Plan.{Plan as PlanValue};
 ghost use Rattle.report.specs.Causes.{kind_of, status_of};
 ghost use Rattle.master_run.specs.Asked.{asked, planned};
 ghost use Rattle.master_run.specs.Ends.{CallEnds, OthersStay, WordsEnd, FaultEnd, FailureEnd, Prints, NoneRose, is_of_plan, is_completed_or_no_memory, is_rule_failed, counts};
-ghost use Rattle.master_run.specs.Words.{flow_name_of};
+ghost use Rattle.mf_rules.specs.Flow.{given_pairs};
+ghost use Rattle.master_run.specs.Words.{chosen};
 ghost use Rattle.std.specs.Prelude.{IsFalse};
 
 use crate::asking::read_plan;
@@ -59,13 +60,14 @@ fn no_plan(alloc: Global) -> Plan
 fn follow<F: Commands, S: Site, R: Runner<F>>(
     alloc: Global,
     words: &[String],
+    env: &[(String, String)],
     site: &mut S,
     runner: &mut R,
 ) -> Course
-    ensures ends { S.tells → CallEnds F.gives F.may_fail (R.tells runner.old) (asked (map string_bytes words.now) (S.files site.old)) (S.files site.old) (S.files site.new) result.cause }
-    ensures others { S.tells → OthersStay (asked (map string_bytes words.now) (S.files site.old)) (S.files site.old) (S.files site.new) }
-    ensures plan { S.tells → IsTrue (is_of_plan (kind_of result.cause)) → planned (map string_bytes words.now) (S.files site.old) ≡ Ok result.plan }
-    ensures words { WordsEnd (flow_name_of (map string_bytes words.now)) result.cause }
+    ensures ends { S.tells → CallEnds F.gives F.may_fail (R.tells runner.old) (asked (map string_bytes words.now) (given_pairs env.now) (S.files site.old)) (S.files site.old) (S.files site.new) result.cause }
+    ensures others { S.tells → OthersStay (asked (map string_bytes words.now) (given_pairs env.now) (S.files site.old)) (S.files site.old) (S.files site.new) }
+    ensures plan { S.tells → IsTrue (is_of_plan (kind_of result.cause)) → planned (map string_bytes words.now) (given_pairs env.now) (S.files site.old) ≡ Ok result.plan }
+    ensures words { WordsEnd (chosen (map string_bytes words.now)) result.cause }
     ensures faults { FaultEnd (counts (S.count site.old) (R.count runner.old) 0) (counts (S.count site.new) (R.count runner.new) 0) result.cause }
     ensures failures { FailureEnd (R.failures runner.old) (R.failures runner.new) result.cause }
     ensures sure { R.sure runner.old → IsFalse (is_rule_failed (kind_of result.cause)) }
@@ -73,7 +75,7 @@ fn follow<F: Commands, S: Site, R: Runner<F>>(
     ensures runner_later { R.count runner.old ≤ R.count runner.new }
 {
     let before = counts_of::<F, _, _>(site, runner);
-    match read_plan(alloc, words, site) {
+    match read_plan(alloc, words, env, site) {
         Ok(plan) => {
             let done = perform(alloc, &plan, site, runner);
             let after = counts_of::<F, _, _>(site, runner);
@@ -94,6 +96,7 @@ fn follow<F: Commands, S: Site, R: Runner<F>>(
 pub fn makeflow_top<F: Commands, S: Site, R: Runner<F>, O: Sink>(
     alloc: Global,
     words: &[String],
+    env: &[(String, String)],
     site: S,
     runner: &mut R,
     out: &mut O,
@@ -103,14 +106,14 @@ pub fn makeflow_top<F: Commands, S: Site, R: Runner<F>, O: Sink>(
 
     // Where the site tells its files: the refusals that are asked for, in their order; else the end of the plan's run, with
     // the serial run's contents.
-    ensures ends { S.tells → CallEnds F.gives F.may_fail (R.tells runner.old) (asked (map string_bytes words.now) (S.files site))
+    ensures ends { S.tells → CallEnds F.gives F.may_fail (R.tells runner.old) (asked (map string_bytes words.now) (given_pairs env.now) (S.files site))
         (S.files site) (S.files result.site) result.cause }
 
     // However it ends, only files that the plan's rules make were written.
-    ensures others { S.tells → OthersStay (asked (map string_bytes words.now) (S.files site)) (S.files site) (S.files result.site) }
+    ensures others { S.tells → OthersStay (asked (map string_bytes words.now) (given_pairs env.now) (S.files site)) (S.files site) (S.files result.site) }
 
-    // Over every site: Usage exactly where the words are wrong.
-    ensures words { WordsEnd (flow_name_of (map string_bytes words.now)) result.cause }
+    // Over every site: words that are no command line, or that ask for what isn't built, are refused, and no others.
+    ensures words { WordsEnd (chosen (map string_bytes words.now)) result.cause }
 
     // Each fault only where that object's count rose in this call.
     ensures faults { FaultEnd (counts (S.count site) (R.count runner.old) (O.count out.old))
@@ -121,16 +124,16 @@ pub fn makeflow_top<F: Commands, S: Site, R: Runner<F>, O: Sink>(
 
     // Where the sink tells its bytes, they grew by the cause's line, whole unless the sink's count rose or memory was wanting, and
     // then by a first part of a line. Complete and CommandFailed are answered only where their line was printed whole.
-    ensures text { O.tells → Prints (λ plan. S.tells → planned (map string_bytes words.now) (S.files site) ≡ Ok plan)
+    ensures text { O.tells → Prints (λ plan. S.tells → planned (map string_bytes words.now) (given_pairs env.now) (S.files site) ≡ Ok plan)
         (O.count out.old) (O.count out.new) (O.bytes out.old) (O.bytes out.new) result.cause }
 
     // What can be run is run: over a sure runner and with no count rising it ends Complete or wants memory.
-    ensures completes { S.tells → R.sure runner.old → IsOk (asked (map string_bytes words.now) (S.files site))
+    ensures completes { S.tells → R.sure runner.old → IsOk (asked (map string_bytes words.now) (given_pairs env.now) (S.files site))
         → NoneRose (counts (S.count site) (R.count runner.old) (O.count out.old)) (counts (S.count result.site) (R.count runner.new) (O.count out.new))
         → IsTrue (is_completed_or_no_memory (kind_of result.cause)) }
 {
     let mut site = site;
-    let course = follow(alloc, words, &mut site, runner);
+    let course = follow(alloc, words, env, &mut site, runner);
     let Course { cause, plan } = course;
     let cause = tell(alloc, &plan, cause, out);
     Ended {

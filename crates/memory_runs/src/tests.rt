@@ -30,27 +30,50 @@ fn one_output(alloc: Global, content: &[u8]) -> Result<Rows<Bytes>, Fail> {
     Ok(Rows::of(vec![in alloc; Bytes::of(alloc, content)?]?))
 }
 
-// A runner that knows three commands.
+fn succeeds(alloc: Global, content: &[u8]) -> Result<Outcome, Fail> {
+    Ok(Outcome::Success(one_output(alloc, content)?))
+}
+
+// A runner that knows these commands.
 fn runner_of(alloc: Global) -> Result<TableRunner<Blank>, Fail> {
     let mut runner = TableRunner::new(alloc);
-    runner.put("cat in > out", Outcome::Success(one_output(alloc, b"abc")?))?;
+    runner.put("cat in > out", succeeds(alloc, b"abc")?)?;
+    runner.put("cat in > made", succeeds(alloc, b"abc")?)?;
+    runner.put("echo hi > out", succeeds(alloc, b"hi\n")?)?;
+    runner.put("echo x y > out", succeeds(alloc, b"x y\n")?)?;
+    runner.put("cp a b", succeeds(alloc, b"A")?)?;
+    runner.put("cp b c", succeeds(alloc, b"B")?)?;
     runner.put("exit 3", Outcome::Failed(Failure::Status(3)))?;
     runner.put("true", Outcome::Failed(Failure::MissingOutput(0)))?;
     Ok(runner)
+}
+
+fn pairs_of(alloc: Global, pairs: &[(&str, &str)]) -> Result<Vec<(String, String)>, Fail> {
+    let mut list = Vec::new(alloc);
+    for (name, value) in pairs.iter() {
+        list.push((
+            String::from_str(alloc, name)?,
+            String::from_str(alloc, value)?,
+        ))?;
+    }
+    Ok(list)
 }
 
 // What a call over these files ends with, and what it prints.
 fn run(
     alloc: Global,
     words: &[&str],
+    env: &[(&str, &str)],
     files: &[(&str, &[u8])],
 ) -> Result<(Ended<MemSite>, MemSink), Fail> {
     let words = words_of(alloc, words)?;
+    let env = pairs_of(alloc, env)?;
     let mut runner = runner_of(alloc)?;
     let mut out = MemSink::new(alloc);
     let ended = makeflow_top(
         alloc,
         words.as_slice(),
+        env.as_slice(),
         site_of(alloc, files)?,
         &mut runner,
         &mut out,
@@ -63,6 +86,7 @@ fn one_rule_makes_its_file(rt: HostRuntime) -> Result<(), Fail> {
     let (ended, out) = run(
         rt.alloc(),
         &["makeflow", "flow"],
+        &[],
         &[("flow", FLOW), ("in", b"abc")],
     )?;
     assert_eq!(rt; ended.status, 0);
@@ -85,43 +109,69 @@ fn one_rule_makes_its_file(rt: HostRuntime) -> Result<(), Fail> {
 
 #[test]
 fn what_is_refused_is_named_and_writes_nothing(rt: HostRuntime) -> Result<(), Fail> {
-    let cases: [(&[u8], u8, &[u8]); 7] = [
-        (
-            b"out: in\n\texit 3\n",
-            1,
-            b"makeflow: rule 0 failed: status 3\n",
-        ),
+    let cases: [(&[u8], u8, &[u8]); 20] = [
+        (b"out: in\n\texit 3\n", 1, b"rule 0 failed: status 3"),
         (
             b"out: in\n\ttrue\n",
             1,
-            b"makeflow: rule 0 failed: output out missing\n",
+            b"rule 0 failed: output out missing",
         ),
+        (b"out: gone\n\tcat in > out\n", 4, b"source gone missing"),
+        (b"out: \xff\n\tcat in > out\n", 3, b"flow: not UTF-8 at 5"),
+        (b"A='x\n", 3, b"flow: line 1: open quote"),
         (
-            b"out: gone\n\tcat in > out\n",
-            4,
-            b"makeflow: source gone missing\n",
-        ),
-        (b"X=1\n", 3, b"makeflow: line 0: not built yet\n"),
-        (b"", 3, b"makeflow: line 0: not built yet\n"),
-        (
-            b"out: in\n\tcat in > out",
+            b"out:\n\techo $(X) > out\n",
             3,
-            b"makeflow: line 0: not built yet\n",
+            b"flow: line 2: unknown name X",
+        ),
+        (b"# one\nA=$(A\n", 3, b"flow: line 2: open parenthesis"),
+        (b"out in\n\tcat in > out\n", 3, b"flow: line 1: no colon"),
+        (
+            b"out: in\n\tcat in > out\nmore: in",
+            3,
+            b"flow: line 3: no command",
+        ),
+        (b"\tcat in > out\n", 3, b"flow: line 1: stray command"),
+        (b".MAKEFLOW CORES many\n", 3, b"flow: line 1: bad number"),
+        (
+            b"x: a\n\ttrue\nx: b\n\ttrue\n",
+            3,
+            b"flow: two rules make x: 0 and 1",
         ),
         (
-            b"out: \xff\n\tcat in > out\n",
+            b"a: b\n\ttrue\nb: a\n\ttrue\n",
             3,
-            b"makeflow: line 0: not built yet\n",
+            b"flow: cycle of rules 0 1",
         ),
+        (b"a->x: a\n\ttrue\n", 3, b"flow: cycle of rules 0"),
+        (b"a: a\n\ttrue\n", 3, b"flow: rule 0: same name a"),
+        (
+            b"a: s\n\ttrue\na/b: s\n\ttrue\n",
+            3,
+            b"flow: nested names a and a/b",
+        ),
+        (
+            b"a: /etc/passwd\n\ttrue\n",
+            3,
+            b"flow: rule 0: bad name /etc/passwd",
+        ),
+        (b": in\n\ttrue\n", 3, b"flow: rule 0: no output"),
+        (
+            b".MAKEFLOW CORES 65\nout: in\n\tcat in > out\n",
+            3,
+            b"rule 0 needs 65, there is 64",
+        ),
+        (b"b: a\n\tcp a b\nc: gone\n\ttrue\n", 4, b"source a missing"),
     ];
     for (flow, status, line) in cases.iter() {
-        let (ended, out) = run(
-            rt.alloc(),
-            &["makeflow", "flow"],
-            &[("flow", flow), ("in", b"abc")],
-        )?;
+        let alloc = rt.alloc();
+        let files: [(&str, &[u8]); 2] = [("flow", flow), ("in", b"abc")];
+        let (ended, out) = run(alloc, &["makeflow", "flow"], &[], &files)?;
+        let mut wanted = Vec::from_slice(alloc, b"makeflow: ")?;
+        wanted.extend_from_slice(line)?;
+        wanted.push(b'\n')?;
+        assert_eq!(rt; out.bytes(), wanted.as_slice());
         assert_eq!(rt; ended.status, *status);
-        assert_eq!(rt; out.bytes(), *line);
         assert_eq!(rt; ended.site.get(b"out"), None);
         assert_eq!(rt; ended.site.get(b"in"), Some(b"abc".as_slice()));
         assert_eq!(rt; ended.site.get(b"flow"), Some(*flow));
@@ -130,13 +180,68 @@ fn what_is_refused_is_named_and_writes_nothing(rt: HostRuntime) -> Result<(), Fa
 }
 
 #[test]
+fn flows_that_run_make_their_files(rt: HostRuntime) -> Result<(), Fail> {
+    let alloc = rt.alloc();
+    let complete: &[u8] = COMPLETE;
+    let two: &[u8] = b"makeflow: complete, 2 rules, 0 files collected\n";
+    let none: &[u8] = b"makeflow: complete, 0 rules, 0 files collected\n";
+    let cases: [(&[u8], &[u8], &[u8], &[u8]); 9] = [
+        (b"", none, b"flow", b""),
+        (b"out: in\n\tcat in > out", complete, b"out", b"abc"),
+        (b"out:\n\techo $(X) > out\n", complete, b"out", b"hi\n"),
+        (
+            b"A=x\nA+=y\nout:\n\techo $(A) > out\n",
+            complete,
+            b"out",
+            b"x y\n",
+        ),
+        (b"c: b\n\tcp b c\nb: a\n\tcp a b\n", two, b"c", b"B"),
+        (
+            b"./out->made: in\n\tLOCAL cat in > made\n",
+            complete,
+            b"out",
+            b"abc",
+        ),
+        (b"out: in\r\n\tcat in > out\r\n", complete, b"out", b"abc"),
+        (
+            b"out: \\\n  in # a copy\n\n\tcat in > out\n",
+            complete,
+            b"out",
+            b"abc",
+        ),
+        (
+            b".SIZE out 3\nout: in\n\tcat in > out\n",
+            complete,
+            b"out",
+            b"abc",
+        ),
+    ];
+    for (flow, line, name, content) in cases.iter() {
+        let files: [(&str, &[u8]); 3] = [("flow", flow), ("in", b"abc"), ("a", b"A")];
+        let (ended, out) = run(alloc, &["makeflow", "flow"], &[("X", "hi")], &files)?;
+        assert_eq!(rt; out.bytes(), *line);
+        assert_eq!(rt; ended.status, 0);
+        assert_eq!(rt; ended.site.get(name), Some(*content));
+    }
+    Ok(())
+}
+
+#[test]
 fn words_that_name_no_flow(rt: HostRuntime) -> Result<(), Fail> {
     let usage: &[u8] = b"makeflow: usage: makeflow [options] FILE\n";
-    let cases: [(&[&str], u8, &[u8]); 5] = [
+    let unbuilt: &[u8] = b"makeflow: line 0: not built yet\n";
+    let cases: [(&[&str], u8, &[u8]); 12] = [
         (&["makeflow"], 2, usage),
         (&["makeflow", "flow", "flow"], 2, usage),
         (&["makeflow", "--help"], 2, usage),
         (&[], 2, usage),
+        (&["makeflow", "-j", "17", "flow"], 2, usage),
+        (&["makeflow", "-T", "condor", "flow"], 2, usage),
+        (&["makeflow", "-j", "1", "-j", "1", "flow"], 2, usage),
+        (&["makeflow", "--jx", "flow"], 3, unbuilt),
+        (&["makeflow", "-T", "wq", "flow"], 3, unbuilt),
+        (&["makeflow", "--generate", "6"], 3, unbuilt),
+        (&["makeflow", "-r", "1", "absent"], 3, unbuilt),
         (
             &["makeflow", "absent"],
             3,
@@ -144,7 +249,7 @@ fn words_that_name_no_flow(rt: HostRuntime) -> Result<(), Fail> {
         ),
     ];
     for (words, status, line) in cases.iter() {
-        let (ended, out) = run(rt.alloc(), words, &[("flow", FLOW), ("in", b"abc")])?;
+        let (ended, out) = run(rt.alloc(), words, &[], &[("flow", FLOW), ("in", b"abc")])?;
         assert_eq!(rt; ended.status, *status);
         assert_eq!(rt; out.bytes(), *line);
         assert_eq!(rt; ended.site.get(b"out"), None);
@@ -164,7 +269,7 @@ fn each_call_of_the_site_may_fail(rt: HostRuntime) -> Result<(), Fail> {
         site.fail_at(call)?;
         let mut runner = runner_of(alloc)?;
         let mut out = MemSink::new(alloc);
-        let ended = makeflow_top(alloc, words.as_slice(), site, &mut runner, &mut out);
+        let ended = makeflow_top(alloc, words.as_slice(), &[], site, &mut runner, &mut out);
         assert_eq!(rt; ended.status, 5);
         assert!(rt;
             matches!(
@@ -193,6 +298,7 @@ fn a_runner_and_a_sink_may_fail(rt: HostRuntime) -> Result<(), Fail> {
     let ended = makeflow_top(
         alloc,
         words.as_slice(),
+        &[],
         site_of(alloc, &files)?,
         &mut runner,
         &mut out,
@@ -215,6 +321,7 @@ fn a_runner_and_a_sink_may_fail(rt: HostRuntime) -> Result<(), Fail> {
     let ended = makeflow_top(
         alloc,
         words.as_slice(),
+        &[],
         site_of(alloc, &files)?,
         &mut runner,
         &mut out,
@@ -238,6 +345,7 @@ fn a_runner_and_a_sink_may_fail(rt: HostRuntime) -> Result<(), Fail> {
     let ended = makeflow_top(
         alloc,
         words.as_slice(),
+        &[],
         site_of(alloc, &files)?,
         &mut runner,
         &mut out,

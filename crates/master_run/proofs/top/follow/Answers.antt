@@ -1,12 +1,13 @@
 use Rattle.std.proofs.Common.{◌≡◌, ◌∙◌, ◌<◌, ◌≤◌, ℕ, List, Ok, Err, Result, map, string_bytes, length, true, false, arith, ap, sym, refl, subst, IsTrue, IsFalse, IsErrOf}
 use Rattle.flow_types.specs.declared.plan.Plan.{Plan}
 use Rattle.outside.specs.Files.{Files}
-use Rattle.plan_run.specs.Sources.{missing_source}
+use Rattle.plan_run.specs.Sources.{source_fault}
 use Rattle.report.specs.declared.cause.Cause.{Cause}
 use Rattle.report.specs.Causes.{kind_of}
 use Rattle.master_run.specs.declared.asking.Refusal.{Refusal}
 use Rattle.master_run.specs.declared.counts.Counts.{Counts}
-use Rattle.master_run.specs.Words.{flow_name_of}
+use Rattle.mf_rules.specs.Flow.{given_pairs}
+use Rattle.master_run.specs.Words.{chosen}
 use Rattle.master_run.specs.Asked.{asked}
 use Rattle.master_run.specs.Ends.{CallEnds, WordsEnd, FaultEnd, counts}
 use Rattle.master_run.specs.Runs.{PerformEnds, refusal_cause}
@@ -16,43 +17,47 @@ use Rattle.master_run.proofs.top.follow.Goals as goal
 pub returns-in-Ok-clause-ends : goal.returns-in-Ok-clause-ends
 returns-in-Ok-clause-ends g c = λ tells.
     let words : List (List ℕ) = map string_bytes c.args.words.now in
+    let env : List (List ℕ × List ℕ) = given_pairs c.args.env.now in
     let files = g.S.Site.files c.args.site.now in
     let after = g.S.Site.files c.perform-done.new.site in
     let same : g.S.Site.files c.read_plan.new.site ≡ files = c.in-Ok.ensures.files tells in
-    let run : PerformEnds c.in-Ok.plan g.F.Commands.gives g.F.Commands.may_fail (g.R.Runner.tells c.args.runner.now) (missing_source c.in-Ok.plan files) files after c.perform-done.result =
-    subst (λ (before : Files). PerformEnds c.in-Ok.plan g.F.Commands.gives g.F.Commands.may_fail (g.R.Runner.tells c.args.runner.now) (missing_source c.in-Ok.plan before) before after c.perform-done.result) same (c.perform-done.ensures.told tells) in
-    subst (λ (cause : Cause). CallEnds g.F.Commands.gives g.F.Commands.may_fail (g.R.Runner.tells c.args.runner.now) (asked words files) files after cause) (sym c.run_cause-cause.ensures)
-    (performed g.F.Commands.gives g.F.Commands.may_fail (g.R.Runner.tells c.args.runner.now) words c.in-Ok.plan files after _ c.counts_of-before.result c.counts_of-after.result c.perform-done.result
+    let run : PerformEnds c.in-Ok.plan g.F.Commands.gives g.F.Commands.may_fail (g.R.Runner.tells c.args.runner.now) (source_fault c.in-Ok.plan files) files after c.perform-done.result =
+    subst (λ (before : Files). PerformEnds c.in-Ok.plan g.F.Commands.gives g.F.Commands.may_fail (g.R.Runner.tells c.args.runner.now) (source_fault c.in-Ok.plan before) before after c.perform-done.result) same (c.perform-done.ensures.told tells) in
+    subst (λ (cause : Cause). CallEnds g.F.Commands.gives g.F.Commands.may_fail (g.R.Runner.tells c.args.runner.now) (asked words env files) files after cause) (sym c.run_cause-cause.ensures)
+    (performed g.F.Commands.gives g.F.Commands.may_fail (g.R.Runner.tells c.args.runner.now) words env c.in-Ok.plan files after _ c.counts_of-before.result c.counts_of-after.result c.perform-done.result
     (c.in-Ok.ensures.stage tells) c.len.ensures run)
 
 pub returns-in-Ok-clause-others : goal.returns-in-Ok-clause-others
 returns-in-Ok-clause-others g c = λ tells.
     let words : List (List ℕ) = map string_bytes c.args.words.now in
+    let env : List (List ℕ × List ℕ) = given_pairs c.args.env.now in
     let files = g.S.Site.files c.args.site.now in
     let after = g.S.Site.files c.perform-done.new.site in
     let same : g.S.Site.files c.read_plan.new.site ≡ files = c.in-Ok.ensures.files tells in
-    let run : PerformEnds c.in-Ok.plan g.F.Commands.gives g.F.Commands.may_fail (g.R.Runner.tells c.args.runner.now) (missing_source c.in-Ok.plan files) files after c.perform-done.result =
-    subst (λ (before : Files). PerformEnds c.in-Ok.plan g.F.Commands.gives g.F.Commands.may_fail (g.R.Runner.tells c.args.runner.now) (missing_source c.in-Ok.plan before) before after c.perform-done.result) same (c.perform-done.ensures.told tells) in
-    others_stay g.F.Commands.gives g.F.Commands.may_fail (g.R.Runner.tells c.args.runner.now) words c.in-Ok.plan files after c.perform-done.result (c.in-Ok.ensures.stage tells) run
+    let run : PerformEnds c.in-Ok.plan g.F.Commands.gives g.F.Commands.may_fail (g.R.Runner.tells c.args.runner.now) (source_fault c.in-Ok.plan files) files after c.perform-done.result =
+    subst (λ (before : Files). PerformEnds c.in-Ok.plan g.F.Commands.gives g.F.Commands.may_fail (g.R.Runner.tells c.args.runner.now) (source_fault c.in-Ok.plan before) before after c.perform-done.result) same (c.perform-done.ensures.told tells) in
+    others_stay g.F.Commands.gives g.F.Commands.may_fail (g.R.Runner.tells c.args.runner.now) words env c.in-Ok.plan files after c.perform-done.result (c.in-Ok.ensures.stage tells) run
     (λ name none. c.perform-done.ensures.others tells name none ∙ ap (λ (fs : Files). fs name) same)
 
 pub returns-in-Ok-clause-words : goal.returns-in-Ok-clause-words
 returns-in-Ok-clause-words g c =
     let words : List (List ℕ) = map string_bytes c.args.words.now in
-    subst (λ (cause : Cause). WordsEnd (flow_name_of words) cause) (sym c.run_cause-cause.ensures)
-    (words_after (flow_name_of words) _ c.counts_of-before.result c.counts_of-after.result c.perform-done.result c.in-Ok.ensures.words)
+    let env : List (List ℕ × List ℕ) = given_pairs c.args.env.now in
+    subst (λ (cause : Cause). WordsEnd (chosen words) cause) (sym c.run_cause-cause.ensures)
+    (words_after (chosen words) _ c.counts_of-before.result c.counts_of-after.result c.perform-done.result c.in-Ok.ensures.words)
 
 pub returns-in-Err-clause-ends : goal.returns-in-Err-clause-ends
 returns-in-Err-clause-ends g c = λ tells.
     let words : List (List ℕ) = map string_bytes c.args.words.now in
+    let env : List (List ℕ × List ℕ) = given_pairs c.args.env.now in
     let files = g.S.Site.files c.args.site.now in
-    subst (λ (cause : Cause). CallEnds g.F.Commands.gives g.F.Commands.may_fail (g.R.Runner.tells c.args.runner.now) (asked words files) files (g.S.Site.files c.read_plan.new.site) cause) (sym c.refusal_cause.ensures)
-    (refused g.F.Commands.gives g.F.Commands.may_fail (g.R.Runner.tells c.args.runner.now) words files (g.S.Site.files c.read_plan.new.site) c.counts_of-before.result c.counts_of-after-in-Err.result c.in-Err.refusal
+    subst (λ (cause : Cause). CallEnds g.F.Commands.gives g.F.Commands.may_fail (g.R.Runner.tells c.args.runner.now) (asked words env files) files (g.S.Site.files c.read_plan.new.site) cause) (sym c.refusal_cause.ensures)
+    (refused g.F.Commands.gives g.F.Commands.may_fail (g.R.Runner.tells c.args.runner.now) words env files (g.S.Site.files c.read_plan.new.site) c.counts_of-before.result c.counts_of-after-in-Err.result c.in-Err.refusal
     (c.in-Err.ensures.stage tells) (c.in-Err.ensures.files tells))
 
 pub returns-in-Err-clause-others : goal.returns-in-Err-clause-others
 returns-in-Err-clause-others g c = λ tells.
-    all_stay (asked (map string_bytes c.args.words.now) (g.S.Site.files c.args.site.now)) (g.S.Site.files c.args.site.now) (g.S.Site.files c.read_plan.new.site) (c.in-Err.ensures.files tells)
+    all_stay (asked (map string_bytes c.args.words.now) (given_pairs c.args.env.now) (g.S.Site.files c.args.site.now)) (g.S.Site.files c.args.site.now) (g.S.Site.files c.read_plan.new.site) (c.in-Err.ensures.files tells)
 
 pub returns-in-Err-clause-plan : goal.returns-in-Err-clause-plan
 returns-in-Err-clause-plan g c = λ tells own.
@@ -62,8 +67,9 @@ returns-in-Err-clause-plan g c = λ tells own.
 pub returns-in-Err-clause-words : goal.returns-in-Err-clause-words
 returns-in-Err-clause-words g c =
     let words : List (List ℕ) = map string_bytes c.args.words.now in
-    subst (λ (cause : Cause). WordsEnd (flow_name_of words) cause) (sym c.refusal_cause.ensures)
-    (words_refused (flow_name_of words) c.counts_of-before.result c.counts_of-after-in-Err.result c.in-Err.refusal c.in-Err.ensures.words)
+    let env : List (List ℕ × List ℕ) = given_pairs c.args.env.now in
+    subst (λ (cause : Cause). WordsEnd (chosen words) cause) (sym c.refusal_cause.ensures)
+    (words_refused (chosen words) c.counts_of-before.result c.counts_of-after-in-Err.result c.in-Err.refusal c.in-Err.ensures.words)
 
 pub returns-in-Err-clause-faults : goal.returns-in-Err-clause-faults
 returns-in-Err-clause-faults g c =

@@ -1,0 +1,46 @@
+-- What rules need, against what there is on this machine.
+use Rattle.std.specs.Prelude.{ℕ, List, nat_lt, Option, Some, None, Result, Ok, Err, if◌then◌else◌}
+use Rattle.std.specs.List.{enumerate_from}
+use Rattle.flow_types.specs.declared.numbers.Amounts.{Amounts}
+use Rattle.flow_types.specs.declared.numbers.Needs.{Needs}
+use Rattle.flow_types.specs.declared.numbers.Needs.TheVariants.{Whole, Stated}
+use Rattle.flow_types.specs.declared.plan.Plan.{Plan}
+use Rattle.flow_types.specs.declared.plan.Rule.{Rule}
+use Rattle.rule_graph.specs.Faults.{first_said}
+use Rattle.report.specs.declared.cause.Cause.{Cause}
+use Rattle.report.specs.declared.cause.Cause.TheVariants.{NeedsTooMuch}
+use Rattle.master_run.specs.declared.needs.Excess.{Excess}
+
+-- what a rule takes of this machine: one core where it states nothing
+abbrev pub taken_here : Needs → Amounts
+taken_here Whole = record { cores = 1; memory = 0; disk = 0 }
+taken_here (Stated amounts) = amounts
+
+-- this rule needs so much of a resource, of which there is so much
+abbrev pub exceeds : ℕ → ℕ → ℕ → Option Excess
+exceeds r need total = Some (record { rule = record { 0 = r }; need = need; total = total })
+
+-- the first resource of which the rule needs more than there is: cores, then memory, then disk
+abbrev pub rule_excess : ℕ → Amounts → Amounts → Option Excess
+rule_excess r need total =
+    if nat_lt total.cores need.cores then exceeds r need.cores total.cores
+    else if nat_lt total.memory need.memory then exceeds r need.memory total.memory
+    else if nat_lt total.disk need.disk then exceeds r need.disk total.disk
+    else None
+
+-- the same of a rule of the plan
+abbrev pub excess_of : Amounts → ℕ → Rule → Option Excess
+excess_of total r rule = rule_excess r (taken_here rule.needs) total
+
+-- the first of these rules, numbered from here, that needs more than there is
+abbrev pub excess_among : Amounts → ℕ → List Rule → Option Excess
+excess_among total first rules = first_said (λ numbered. excess_of total numbered.0 numbered.1) (enumerate_from first rules)
+
+-- the plan, or its rule that needs too much
+abbrev pub needs_checked : Plan → Option Excess → Result Plan Cause
+needs_checked P None = Ok P
+needs_checked P (Some over) = Err (NeedsTooMuch over.rule over.need over.total)
+
+-- the plan, where no rule needs more than these amounts
+abbrev pub with_needs : Amounts → Plan → Result Plan Cause
+with_needs total P = needs_checked P (excess_among total 0 P.rules)
