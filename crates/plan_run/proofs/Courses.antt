@@ -1,30 +1,31 @@
 -- From one rule's turn to the run of all rules.
-use Rattle.std.proofs.Common.{◌≡◌, ◌≢◌, ℕ, zero, suc, ◌+◌, ◌<◌, ◌≤◌, Bool, true, false, not, ◌&&◌, ◌||◌, List, [], ◌∷◌, ◌++◌, length, map, get_or, take, Option, Some, None, Result, Ok, Err, IsTrue, refl, ap, sym, ◌∙◌, arith, slice_get, subst, if◌then◌else◌, append-nil, append_assoc, add-one}
-use Rattle.std.specs.Prelude.{◌==◌, nat_lt, is_some, is_none, find, unwrap_or}
+use Rattle.std.proofs.Common.{◌≡◌, ℕ, zero, suc, ◌+◌, ◌<◌, Bool, true, false, not, ◌||◌, List, [], ◌∷◌, ◌++◌, length, map, get_or, take, Option, Some, None, option_map, Err, refl, ap, sym, ◌∙◌, arith, slice_get, subst, if◌then◌else◌, append-nil, append_assoc, add-one}
+use Rattle.std.specs.Prelude.{◌==◌, is_some, find, unwrap_or}
 use Rattle.std.specs.List.{list_any, list_all, range_with_len}
 use Rattle.std.specs.Option.{option_map_or}
 use Rattle.std.proofs.lemmas.Bool.{and_parts, or_left, or_right, eqb-true, not_from_true, eq-eqb}
-use Rattle.std.proofs.lemmas.List.Folds.{list_any-append, list_all-append}
-use Rattle.std.proofs.lemmas.Option.{slice_get_within, get_or_from_slice_get}
+use Rattle.std.proofs.lemmas.List.Folds.{list_any-append}
+use Rattle.std.proofs.lemmas.Option.{slice_get_within, get_or_from_slice_get, slice_get-map, slice_get-get_or}
 use Rattle.std.proofs.Math.Seq.{take-suc}
+use Rattle.std.proofs.lemmas.List.{length-map}
 use Rattle.flow_types.specs.declared.plan.Plan.{Plan}
 use Rattle.flow_types.specs.declared.plan.Rule.{Rule}
 use Rattle.flow_types.specs.declared.plan.Port.{Port}
+use Rattle.flow_types.specs.declared.numbers.RuleNo.{RuleNo}
 use Rattle.flow_types.specs.declared.job.Given.{Given}
 use Rattle.flow_types.specs.declared.job.Job.{Job}
 use Rattle.flow_types.specs.declared.job.Failure.{Failure}
-use Rattle.flow_types.specs.Plans.{IsValid, all_pairs, contains_number, files_of, takes, makes, maker_of, is_source, rule_numbers}
-use Rattle.flow_types.specs.Serial.{Contents, Function, content_of, given_by, job_of, serial, serial_order, is_made, can_take, next_rule, order_from}
-use Rattle.flow_types.proofs.SerialRun.{IsRun, order-run, has-makers, serial-source, all_in_range}
+use Rattle.flow_types.specs.Plans.{IsValid, all_pairs, contains_number, files_of, takes, makes, maker_of, is_source}
+use Rattle.flow_types.specs.Serial.{Contents, Function, content_of, given_by, job_of, serial_order, is_made, can_take, next_rule, order_from}
+use Rattle.flow_types.proofs.SerialRun.{IsRun, order-run, has-makers, serial-source}
 use Rattle.flow_types.proofs.Orders.{serial-is_fixed}
 use Rattle.outside.specs.Files.{Files}
-use Rattle.outside.specs.Jobs.{NamesOutput}
 use Rattle.plan_run.specs.declared.halt.Halt.{Halt}
-use Rattle.plan_run.specs.declared.halt.Halt.TheVariants.{CommandFailed, InputMissing, SourceTooLarge, Site, Runner, Memory}
+use Rattle.plan_run.specs.declared.halt.Halt.TheVariants.{CommandFailed, InputMissing, SourceTooLarge, InputsTooLarge, Site, Runner, Memory}
 use Rattle.plan_run.specs.Placed.{file_name, contents_in, place_outputs}
-use Rattle.plan_run.specs.Course.{due_contents, HasSources, TellsJobs, IsMadeName, HasRun, IsStopped, IsCutShort, RunEnds}
-use Rattle.plan_run.specs.Steps.{job_now, RuleRan, RuleFailed, TurnEnds}
-use Rattle.plan_run.proofs.Names.{HasRow, all_at, same_file, made_row, source_row, source_not_made}
+use Rattle.plan_run.specs.Course.{due_contents, HasSources, TellsJobs, IsMadeName, HasRun, NoneOverfull, IsCutShort, RunEnds}
+use Rattle.plan_run.specs.Steps.{job_now, RuleRan, TurnEnds}
+use Rattle.plan_run.proofs.Names.{all_at, same_file, made_row, source_row, source_not_made}
 use Rattle.plan_run.proofs.Placed.{HaveRows, untouched, placed_at, content_there}
 
 true_is_false : true ≡ false → ⊥
@@ -43,7 +44,7 @@ all_listed p (y ∷ ys) x all listed = by_test (y == x) refl listed (all_listed 
     by_test false is some later = later some
 
 -- a number of the list that passes, where one does
-some_listed : (p : ℕ → Bool) (xs : List ℕ) → list_any p xs ≡ true → (x : ℕ) × (contains_number x xs ≡ true) × (p x ≡ true)
+pub some_listed : (p : ℕ → Bool) (xs : List ℕ) → list_any p xs ≡ true → (x : ℕ) × (contains_number x xs ≡ true) × (p x ≡ true)
 some_listed p [] some = absurd (true_is_false (sym some))
 some_listed p (y ∷ ys) some = by_test (p y) refl some (some_listed p ys)
   where
@@ -70,7 +71,7 @@ listed_more x y xs listed fresh =
     by_test false is some = absurd (true_is_false (sym some))
 
 -- each rule of the order can be taken after those before it
-run_at : (P : Plan) (before rs : List ℕ) (k r : ℕ) → IsRun P before rs → slice_get rs k ≡ Some r → can_take P (before ++ take k rs) r ≡ true
+pub run_at : (P : Plan) (before rs : List ℕ) (k r : ℕ) → IsRun P before rs → slice_get rs k ≡ Some r → can_take P (before ++ take k rs) r ≡ true
 run_at P before [] k r run is = absurd (none_is_some r is)
 run_at P before (x ∷ rs) zero r run is =
     let same : x ≡ r = cc in ap (λ taken. can_take P taken r) (append-nil before) ∙ ap (can_take P before) (sym same) ∙ run.0
@@ -112,6 +113,16 @@ order_inside P (suc rounds) taken all =
         → AreRules P (option_map_or (λ r. order_from P rounds (taken ++ r ∷ [])) next taken)
     by_next None is later = all
     by_next (Some r) is later = later r (omega (arith, inside_below (can_take P taken) 0 (length P.rules) r is))
+
+-- the number at this place of the order
+pub order_at : (P : Plan) (order : List RuleNo) (i : ℕ) (d : RuleNo) → i < length order → map (λ number. number.0) order ≡ serial_order P
+    → slice_get (serial_order P) i ≡ Some (get_or order i d).0
+order_at P order i d lt is =
+    ap (λ xs. slice_get xs i) (sym is) ∙ slice_get-map (λ (number : RuleNo). number.0) order i ∙ ap (option_map (λ (number : RuleNo). number.0)) (slice_get-get_or order i d lt)
+
+-- the order has as many rules as the list of their numbers
+pub order_long : (P : Plan) (order : List RuleNo) → map (λ number. number.0) order ≡ serial_order P → length order ≡ length (serial_order P)
+order_long P order is = sym (length-map order (λ (number : RuleNo). number.0)) ∙ ap length is
 
 -- each number of the order is that of a rule
 pub ordered_rule : (P : Plan) (k r : ℕ) → slice_get (serial_order P) k ≡ Some r → r < length P.rules
@@ -225,7 +236,7 @@ not_last P r t f rule done at_rule listed made other = by_test (contains_number 
         let one : r ≡ t = listed_more t r done listed fresh in
         absurd (true_is_false (sym made ∙ ap (λ q. contains_number f (makes P q)) (sym one) ∙ ap (contains_number f) (makes_is P r rule at_rule) ∙ other))
 
-listed_last : (r : ℕ) (done : List ℕ) → contains_number r (done ++ r ∷ []) ≡ true
+pub listed_last : (r : ℕ) (done : List ℕ) → contains_number r (done ++ r ∷ []) ≡ true
 listed_last r done = list_any-append (λ x. x == r) done (r ∷ []) ∙ or_right (list_any (λ x. x == r) done) ((r == r) || false) (or_left (r == r) false (eq-eqb r r refl))
 
 listed_earlier : (t r : ℕ) (done : List ℕ) → contains_number t done ≡ true → contains_number t (done ++ r ∷ []) ≡ true
@@ -300,7 +311,7 @@ one_more P gives tells now k r rule before mid after valid sources still ran is 
     ∙ ap (λ fs. content_of f fs (given_by gives (job_of P rule due))) (sym (makes_is P r rule at_rule))
     ∙ sym (serial-is_fixed P gives (contents_in P before) r f rule valid at_rule made)))
 
-only_rule : (r q : ℕ) → contains_number q (r ∷ []) ≡ true → r ≡ q
+pub only_rule : (r q : ℕ) → contains_number q (r ∷ []) ≡ true → r ≡ q
 only_rule r q listed = by_test (r == q) refl listed
   where
     by_test : (b : Bool) → (r == q) ≡ b → (b || false) ≡ true → r ≡ q
@@ -308,7 +319,7 @@ only_rule r q listed = by_test (r == q) refl listed
     by_test false same some = absurd (true_is_false (sym some))
 
 -- no rule stands in the order before itself
-not_before : (P : Plan) (k r : ℕ) → slice_get (serial_order P) k ≡ Some r → contains_number r (take k (serial_order P)) ≡ true → ⊥
+pub not_before : (P : Plan) (k r : ℕ) → slice_get (serial_order P) k ≡ Some r → contains_number r (take k (serial_order P)) ≡ true → ⊥
 not_before P k r is listed =
     let run = order-run P (length P.rules) [] in
     let Claim : List ℕ → Type 0 = λ order. slice_get order k ≡ Some r → can_take P (take k order) r ≡ true in
@@ -316,7 +327,7 @@ not_before P k r is listed =
     true_is_false (sym (and_parts _ _ can).0 ∙ not_from_true (contains_number r (take k (serial_order P))) listed)
 
 -- the files of rules before this one aren't its outputs
-not_its : (P : Plan) (k r t f : ℕ) → IsValid P → slice_get (serial_order P) k ≡ Some r → contains_number t (take k (serial_order P)) ≡ true → contains_number f (makes P t) ≡ true
+pub not_its : (P : Plan) (k r t f : ℕ) → IsValid P → slice_get (serial_order P) k ≡ Some r → contains_number t (take k (serial_order P)) ≡ true → contains_number f (makes P t) ≡ true
     → IsMadeName P (r ∷ []) (file_name P f) → ⊥
 not_its P k r t f valid is before_it made its =
     let maker : maker_of P its.file ≡ Some its.rule = has-makers P valid its.rule its.file its.is_output in
@@ -345,9 +356,10 @@ pub stopped : (P : Plan) (gives : Function) (may_fail : Job → Failure → Type
     → ((job : Job) → tells job → now job)
     → HasRun P (due_contents P gives before) (TellsJobs P (due_contents P gives before) tells) (take k (serial_order P)) before mid
     → slice_get (serial_order P) k ≡ Some r → slice_get P.rules r ≡ Some rule → ((name : List ℕ) → (IsMadeName P (r ∷ []) name → ⊥) → after name ≡ mid name)
+    → NoneOverfull P mid (k + 1)
     → TurnEnds P r rule gives may_fail now mid after (Err halt)
     → RunEnds P gives may_fail tells before after (Err halt)
-stopped P gives may_fail tells now k r rule before mid after (CommandFailed failed why) valid sources still ran is at_rule others turn =
+stopped P gives may_fail tells now k r rule before mid after (CommandFailed failed why) valid sources still ran is at_rule others none turn =
     let due : Contents = due_contents P gives before in
     let told : Type 0 = TellsJobs P due tells in
     record {
@@ -357,17 +369,19 @@ stopped P gives may_fail tells now k r rule before mid after (CommandFailed fail
       is_rule = ap (slice_get P.rules) turn.0 ∙ at_rule;
       ran = subst (λ files. HasRun P due told (take k (serial_order P)) before files) (sym turn.1.unchanged) ran;
       names_output = turn.1.names_output;
+      none_overfull = subst (λ (files : Files). NoneOverfull P files (k + 1)) (sym turn.1.unchanged) none;
       may_fail_so = λ tell.
           let job : job_now P rule mid ≡ job_of P rule due = job_due P gives told k r rule before mid valid sources ran is at_rule tell in
           subst (λ j. may_fail j why) job (turn.1.told (subst now (sym job) (still (job_of P rule due) (tell r rule at_rule))));
     }
-stopped P gives may_fail tells now k r rule before mid after (SourceTooLarge file size) valid sources still ran is at_rule others turn = absurd turn
-stopped P gives may_fail tells now k r rule before mid after (InputMissing file) valid sources still ran is at_rule others turn =
+stopped P gives may_fail tells now k r rule before mid after (SourceTooLarge file size) valid sources still ran is at_rule others none turn = absurd turn
+stopped P gives may_fail tells now k r rule before mid after (InputsTooLarge over total) valid sources still ran is at_rule others none turn = absurd turn
+stopped P gives may_fail tells now k r rule before mid after (InputMissing file) valid sources still ran is at_rule others none turn =
     let told : Type 0 = TellsJobs P (due_contents P gives before) tells in
     let there : is_some (mid (file_name P file.0)) ≡ true =
     (input_due P gives told k r file.0 before mid valid sources ran is (ap (contains_number file.0) (takes_is P r rule at_rule) ∙ turn.1)).there in
     true_is_false (sym there ∙ ap is_some turn.0)
-stopped P gives may_fail tells now k r rule before mid after Site valid sources still ran is at_rule others turn = cut_short P (due_contents P gives before) (TellsJobs P (due_contents P gives before) tells) k r before mid after valid ran is others
-stopped P gives may_fail tells now k r rule before mid after Runner valid sources still ran is at_rule others turn =
+stopped P gives may_fail tells now k r rule before mid after Site valid sources still ran is at_rule others none turn = cut_short P (due_contents P gives before) (TellsJobs P (due_contents P gives before) tells) k r before mid after valid ran is others
+stopped P gives may_fail tells now k r rule before mid after Runner valid sources still ran is at_rule others none turn =
     (k, subst (λ files. HasRun P (due_contents P gives before) (TellsJobs P (due_contents P gives before) tells) (take k (serial_order P)) before files) (sym turn) ran)
-stopped P gives may_fail tells now k r rule before mid after Memory valid sources still ran is at_rule others turn = cut_short P (due_contents P gives before) (TellsJobs P (due_contents P gives before) tells) k r before mid after valid ran is others
+stopped P gives may_fail tells now k r rule before mid after Memory valid sources still ran is at_rule others none turn = cut_short P (due_contents P gives before) (TellsJobs P (due_contents P gives before) tells) k r before mid after valid ran is others

@@ -1,6 +1,5 @@
 -- What follows for the inputs of a rule from those of its ports.
-use Rattle.std.proofs.Common.{◌≡◌, ℕ, zero, suc, ◌<◌, List, [], ◌∷◌, length, get_or, None, Result, Ok, Err, IsTrue, true, false, ◌==◌, refl, ap, sym, ◌∙◌, arith, subst}
-use Rattle.std.specs.List.{list_any}
+use Rattle.std.proofs.Common.{◌≡◌, ℕ, zero, suc, ◌<◌, List, [], ◌∷◌, length, get_or, Result, Err, true, ◌==◌, ap, sym, ◌∙◌, arith, subst}
 use Rattle.std.proofs.lemmas.Bool.{or_left, or_right, eq-eqb}
 use Rattle.flow_types.specs.declared.plan.Plan.{Plan}
 use Rattle.flow_types.specs.declared.plan.Port.{Port}
@@ -8,7 +7,6 @@ use Rattle.flow_types.specs.declared.job.Given.{Given}
 use Rattle.flow_types.specs.declared.numbers.FileNo.{FileNo}
 use Rattle.flow_types.specs.Plans.{contains_number, files_of}
 use Rattle.outside.specs.Files.{Files}
-use Rattle.plan_run.specs.Placed.{file_name}
 use Rattle.plan_run.specs.Jobs.{InputIs, InputsAre}
 
 -- the file of a port is among those of the ports

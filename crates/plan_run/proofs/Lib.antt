@@ -5,3 +5,6 @@ pub mod Turns
 pub mod Names
 pub mod Placed
 pub mod Courses
+pub mod Places
+pub mod ReadyRules
+pub mod Sums

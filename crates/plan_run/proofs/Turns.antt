@@ -1,5 +1,5 @@
 -- What follows for a rule's turn from its inputs, its job and its outputs.
-use Rattle.std.proofs.Common.{◌≡◌, ◌≢◌, ⊎_elim, Bool, ℕ, suc, ◌<◌, List, [], ◌∷◌, length, map, get_or, Option, Some, None, Result, Ok, Err, IsTrue, true, false, ◌++◌, ◌==◌, ◌||◌, refl, ap, sym, ◌∙◌, subst, slice_get}
+use Rattle.std.proofs.Common.{◌≡◌, ◌≢◌, ⊎_elim, Bool, ℕ, suc, ◌<◌, List, [], ◌∷◌, length, map, get_or, Option, Some, Ok, IsTrue, true, false, ◌++◌, ◌==◌, refl, ap, sym, ◌∙◌, subst, slice_get}
 use Rattle.std.specs.Option.{option_map_or}
 use Rattle.std.specs.Prelude.{nat_lt}
 use Rattle.std.proofs.lemmas.Bool.{or_left, eq-eqb, and_parts, ltb-true, cases_Bool}
@@ -14,9 +14,8 @@ use Rattle.flow_types.specs.declared.job.Given.{Given}
 use Rattle.flow_types.specs.declared.job.Want.{Want}
 use Rattle.flow_types.specs.declared.job.Job.{Job}
 use Rattle.flow_types.specs.declared.job.Failure.{Failure}
-use Rattle.flow_types.specs.declared.job.Outcome.{Outcome}
 use Rattle.flow_types.specs.declared.job.Outcome.TheVariants.{Success, Failed}
-use Rattle.flow_types.specs.Plans.{files_of, contains_number, makes}
+use Rattle.flow_types.specs.Plans.{files_of, contains_number}
 use Rattle.flow_types.specs.Serial.{Function, given_by}
 use Rattle.outside.specs.Files.{Files}
 use Rattle.outside.specs.Jobs.{AllFit, IsShaped, IsHonest, NamesOutput}

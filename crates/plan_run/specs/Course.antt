@@ -1,5 +1,5 @@
 -- How the run of a plan goes, and how it may end.
-use Rattle.std.specs.Prelude.{◌≡◌, ℕ, ◌+◌, List, take, length, Some, Option, Result, Ok, Err, IsTrue, slice_get, is_some}
+use Rattle.std.specs.Prelude.{◌≡◌, ℕ, ◌+◌, ◌<◌, List, take, length, Some, None, Result, Ok, Err, IsTrue, slice_get, is_some}
 use Rattle.flow_types.specs.declared.plan.Plan.{Plan}
 use Rattle.flow_types.specs.declared.plan.Rule.{Rule}
 use Rattle.flow_types.specs.declared.job.Job.{Job}
@@ -9,8 +9,9 @@ use Rattle.flow_types.specs.Serial.{Contents, Function, serial, serial_order, jo
 use Rattle.outside.specs.Files.{Files}
 use Rattle.outside.specs.Jobs.{NamesOutput}
 use Rattle.plan_run.specs.declared.halt.Halt.{Halt}
-use Rattle.plan_run.specs.declared.halt.Halt.TheVariants.{CommandFailed, InputMissing, SourceTooLarge, Site, Runner, Memory}
+use Rattle.plan_run.specs.declared.halt.Halt.TheVariants.{CommandFailed, InputMissing, SourceTooLarge, InputsTooLarge, Site, Runner, Memory}
 use Rattle.plan_run.specs.Placed.{file_name, contents_in}
+use Rattle.plan_run.specs.Ready.{input_bytes, overfull_rule, told_bytes}
 
 -- the contents of the serial run from what these files hold under the sources' names
 abbrev pub due_contents : Plan → Function → Files → Contents
@@ -39,7 +40,13 @@ pub record HasRun (P : Plan) (due : Contents) (told : Type 0) (done : List ℕ) 
   pub there : (r f : ℕ) → IsTrue (contains_number r done) → IsTrue (contains_number f (makes P r)) → IsTrue (is_some (after (file_name P f)))
   pub others : (name : List ℕ) → (IsMadeName P done name → ⊥) → after name ≡ before name
 
--- The rules before this one in the serial order ran, its command failed, and nothing was written after that.
+-- At no place of the order below this one had a ready rule inputs of too many bytes. (What a ready rule takes in isn't written any
+-- more, so these files tell it of each place.)
+abbrev pub NoneOverfull : Plan → Files → ℕ → Type 0
+NoneOverfull P files below = (k : ℕ) → k < below → overfull_rule P files (take k (serial_order P)) ≡ None
+
+-- The rules before this one in the serial order ran, its command failed, and nothing was written after that. No ready rule had
+-- inputs of too many bytes, at its place too.
 pub record IsStopped (P : Plan) (due : Contents) (may_fail : Job → Failure → Type 0) (told : Type 0) (r : ℕ) (why : Failure) (before after : Files) : Type 0 where
   pub place : ℕ
   pub rule : Rule
@@ -48,6 +55,16 @@ pub record IsStopped (P : Plan) (due : Contents) (may_fail : Job → Failure →
   pub ran : HasRun P due told (take place (serial_order P)) before after
   pub names_output : NamesOutput why (length rule.outputs)
   pub may_fail_so : told → may_fail (job_of P rule due) why
+  pub none_overfull : NoneOverfull P after (place + 1)
+
+-- The rules before some place of the serial order ran. Then, before the next was chosen, this was the least ready rule whose inputs
+-- had too many bytes together, for the first time, and nothing was written after that.
+pub record IsOverfull (P : Plan) (due : Contents) (told : Type 0) (r total : ℕ) (before after : Files) : Type 0 where
+  pub place : ℕ
+  pub ran : HasRun P due told (take place (serial_order P)) before after
+  pub is_least : overfull_rule P after (take place (serial_order P)) ≡ Some r
+  pub is_total : total ≡ told_bytes (input_bytes P after r)
+  pub none_before : NoneOverfull P after place
 
 -- The run was cut short within the turn of one rule: the rules before it ran, and of the other files only its outputs may
 -- have changed.
@@ -64,10 +81,13 @@ RanBefore P due told before after = (place : ℕ) × HasRun P due told (take pla
 abbrev pub RunEnds : Plan → Function → (Job → Failure → Type 0) → (Job → Type 0) → Files → Files → Result (Unit {0}) Halt → Type 0
 RunEnds P gives may_fail tells before after (Ok done) =
     HasRun P (due_contents P gives before) (TellsJobs P (due_contents P gives before) tells) (serial_order P) before after
+    × ((k : ℕ) → overfull_rule P after (take k (serial_order P)) ≡ None)
 RunEnds P gives may_fail tells before after (Err (CommandFailed r why)) =
     IsStopped P (due_contents P gives before) may_fail (TellsJobs P (due_contents P gives before) tells) r.0 why before after
 RunEnds P gives may_fail tells before after (Err (InputMissing file)) = ⊥
 RunEnds P gives may_fail tells before after (Err (SourceTooLarge file size)) = ⊥
+RunEnds P gives may_fail tells before after (Err (InputsTooLarge r total)) =
+    IsOverfull P (due_contents P gives before) (TellsJobs P (due_contents P gives before) tells) r.0 total before after
 RunEnds P gives may_fail tells before after (Err Runner) = RanBefore P (due_contents P gives before) (TellsJobs P (due_contents P gives before) tells) before after
 RunEnds P gives may_fail tells before after (Err Site) = IsCutShort P (due_contents P gives before) (TellsJobs P (due_contents P gives before) tells) before after
 RunEnds P gives may_fail tells before after (Err Memory) = IsCutShort P (due_contents P gives before) (TellsJobs P (due_contents P gives before) tells) before after

@@ -1,5 +1,5 @@
 -- The inputs and the job of a rule, as the code meets them.
-use Rattle.std.specs.Prelude.{◌≡◌, ℕ, ◌<◌, List, [], map, unwrap_or, Option, Some, None, Result, Ok, Err, All, Contains, IsTrue, is_some}
+use Rattle.std.specs.Prelude.{◌≡◌, ℕ, ◌<◌, List, [], map, unwrap_or, None, Result, Ok, Err, All, IsTrue, is_some}
 use Rattle.std.specs.List.{list_all}
 use Rattle.flow_types.specs.declared.plan.Plan.{Plan}
 use Rattle.flow_types.specs.declared.plan.Rule.{Rule}
@@ -9,9 +9,8 @@ use Rattle.flow_types.specs.declared.job.Want.{Want}
 use Rattle.flow_types.specs.declared.job.Job.{Job}
 use Rattle.flow_types.specs.declared.numbers.FileNo.{FileNo}
 use Rattle.flow_types.specs.Plans.{bound_of, files_of, contains_number}
-use Rattle.flow_types.specs.Serial.{Contents, job_of}
 use Rattle.outside.specs.Files.{Files}
-use Rattle.plan_run.specs.Placed.{file_name, contents_in}
+use Rattle.plan_run.specs.Placed.{file_name}
 
 -- the ports name files of the plan
 abbrev pub PortsIn : ℕ → List Port → Type 0

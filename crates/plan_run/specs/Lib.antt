@@ -3,3 +3,5 @@ pub mod Sources
 pub mod Jobs
 pub mod Course
 pub mod Steps
+pub mod Ready
+pub mod Agenda

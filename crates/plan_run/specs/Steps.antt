@@ -1,8 +1,9 @@
 -- What one rule's turn does, and why a run stops.
-use Rattle.std.specs.Prelude.{◌≡◌, ℕ, ◌+◌, ◌≤◌, ◌<◌, Bool, true, false, List, length, None, Option, Some, Result, Ok, Err, IsErrOf, IsTrue, is_some, slice_get}
+use Rattle.std.specs.Prelude.{◌≡◌, ℕ, ◌+◌, ◌≤◌, ◌<◌, Bool, true, false, List, length, None, Some, Result, Ok, Err, IsErrOf, IsTrue, is_some}
 use Rattle.std.specs.List.{list_all}
 use Rattle.flow_types.specs.declared.plan.Plan.{Plan}
 use Rattle.flow_types.specs.declared.plan.Rule.{Rule}
+use Rattle.flow_types.specs.declared.numbers.RuleNo.{RuleNo}
 use Rattle.flow_types.specs.declared.job.Job.{Job}
 use Rattle.flow_types.specs.declared.job.Failure.{Failure}
 use Rattle.flow_types.specs.Plans.{files_of, contains_number}
@@ -10,7 +11,8 @@ use Rattle.flow_types.specs.Serial.{Function, job_of, given_by}
 use Rattle.outside.specs.Files.{Files}
 use Rattle.outside.specs.Jobs.{NamesOutput}
 use Rattle.plan_run.specs.declared.halt.Halt.{Halt}
-use Rattle.plan_run.specs.declared.halt.Halt.TheVariants.{CommandFailed, InputMissing, SourceTooLarge, Site, Runner, Memory}
+use Rattle.plan_run.specs.declared.halt.Halt.TheVariants.{CommandFailed, InputMissing, SourceTooLarge, InputsTooLarge, Site, Runner, Memory}
+use Rattle.plan_run.specs.Ready.{IsFound}
 use Rattle.plan_run.specs.Placed.{file_name, contents_in, place_outputs}
 
 -- the job of a rule over what the files hold
@@ -38,9 +40,21 @@ TurnEnds P r rule gives may_fail tells before after (Ok done) = RuleRan P rule g
 TurnEnds P r rule gives may_fail tells before after (Err (CommandFailed failed why)) = (failed.0 ≡ r) × RuleFailed P rule may_fail tells why before after
 TurnEnds P r rule gives may_fail tells before after (Err (InputMissing file)) = (before (file_name P file.0) ≡ None) × IsTrue (contains_number file.0 (files_of rule.inputs))
 TurnEnds P r rule gives may_fail tells before after (Err (SourceTooLarge file size)) = ⊥
+TurnEnds P r rule gives may_fail tells before after (Err (InputsTooLarge over total)) = ⊥
 TurnEnds P r rule gives may_fail tells before after (Err Site) = Unit {0}
 TurnEnds P r rule gives may_fail tells before after (Err Runner) = after ≡ before
 TurnEnds P r rule gives may_fail tells before after (Err Memory) = Unit {0}
+
+-- How the check of ready rules may end: none of them has too many bytes, or the first that has is named with its total.
+abbrev pub CheckEnds : Plan → Files → List RuleNo → Result (Unit {0}) Halt → Type 0
+CheckEnds P files rules (Ok done) = IsFound P files rules None
+CheckEnds P files rules (Err (InputsTooLarge over total)) = IsFound P files rules (Some (record { rule = over; total = total }))
+CheckEnds P files rules (Err (CommandFailed r why)) = ⊥
+CheckEnds P files rules (Err (InputMissing file)) = ⊥
+CheckEnds P files rules (Err (SourceTooLarge file size)) = ⊥
+CheckEnds P files rules (Err Site) = Unit {0}
+CheckEnds P files rules (Err Runner) = ⊥
+CheckEnds P files rules (Err Memory) = Unit {0}
 
 -- The counts don't fall, and a run stops by an object only where that object's count rose.
 pub record HasCauses (site_before site_now runner_before runner_now : ℕ) (result : Result (Unit {0}) Halt) : Type 0 where
@@ -55,6 +69,7 @@ is_failure (Ok done) = false
 is_failure (Err (CommandFailed r why)) = true
 is_failure (Err (InputMissing file)) = false
 is_failure (Err (SourceTooLarge file size)) = false
+is_failure (Err (InputsTooLarge over total)) = false
 is_failure (Err Site) = false
 is_failure (Err Runner) = false
 is_failure (Err Memory) = false
@@ -70,6 +85,7 @@ is_by_runner (Ok done) = false
 is_by_runner (Err (CommandFailed r why)) = true
 is_by_runner (Err (InputMissing file)) = false
 is_by_runner (Err (SourceTooLarge file size)) = false
+is_by_runner (Err (InputsTooLarge over total)) = false
 is_by_runner (Err Site) = false
 is_by_runner (Err Runner) = true
 is_by_runner (Err Memory) = false

@@ -10,6 +10,8 @@ pub enum Halt {
     InputMissing(FileNo),
     /// A source has more than 67,108,864 bytes: so many.
     SourceTooLarge { file: FileNo, size: u64 },
+    /// The inputs of a ready rule have more than 134,217,728 bytes together: so many.
+    InputsTooLarge { rule: RuleNo, total: u64 },
     /// The site's count of faults rose.
     Site,
     /// The runner's count of faults rose.

@@ -1,9 +1,11 @@
 //! Runs the rules of a valid plan one after the other, over files and a runner.
 #![tactic(auto)]
 
+mod agenda;
 mod files;
 mod halt;
 mod jobs;
+mod ready;
 mod rules;
 mod sources;
 

@@ -1,5 +1,5 @@
 //! The rules of a plan, one after the other.
-ghost use Rattle.std.specs.Prelude.{◌≡◌, ◌≢◌, ◌<◌, ℕ, List, [], ◌∷◌, Some, length, map, slice_get, OnOk, IsTrue, false};
+ghost use Rattle.std.specs.Prelude.{◌≡◌, ◌≢◌, ◌<◌, ℕ, List, [], ◌∷◌, Some, length, map, slice_get, OnOk, IsTrue, false, All};
 ghost use Rattle.flow_types.specs.declared.job.Job.{Job as JobValue};
 ghost use Rattle.flow_types.specs.declared.plan.Rule.{Rule as RuleValue};
 ghost use Rattle.flow_types.specs.Plans.{IsValid, files_of, contains_number, rule_numbers};
@@ -8,11 +8,13 @@ ghost use Rattle.outside.specs.Causes.{HasCause};
 ghost use Rattle.plan_run.specs.Course.{HasSources, IsMadeName, RunEnds};
 ghost use Rattle.plan_run.specs.Jobs.{PortsIn};
 ghost use Rattle.plan_run.specs.Placed.{file_name, place_outputs};
-ghost use Rattle.plan_run.specs.Steps.{TurnEnds, HasCauses, CountsFailures, is_by_runner};
+ghost use Rattle.plan_run.specs.Steps.{TurnEnds, CheckEnds, HasCauses, CountsFailures, is_failure, is_by_runner};
 
+use crate::agenda::agenda_of;
 use crate::files::write_file;
 use crate::halt::Halt;
 use crate::jobs::{make_job, read_inputs};
+use crate::ready::{Overfull, first_overfull};
 use flow_types::{Bytes, Outcome, Plan, Port, RuleNo};
 use outside::{Commands, Fault, Runner, Site};
 use std::alloc::Global;
@@ -86,8 +88,27 @@ fn run_rule<F: Commands, S: Site, R: Runner<F>>(
     }
 }
 
-/// Runs the rules in the order of the serial run, and stops at the first that doesn't come to its end. For each rule: at
-/// most two calls of the site for each input and each output, and one of the runner.
+// Whether none of these ready rules has inputs of too many bytes.
+fn check_ready<S: Site>(site: &mut S, plan: &Plan, rules: &[RuleNo]) -> Result<(), Halt>
+    requires valid { IsValid plan.now }
+    requires rules { All (λ rule. rule.0 < length plan.now.rules) rules.now }
+    ensures told { S.tells → CheckEnds plan.now (S.files site.old) rules.now result }
+    ensures files { S.tells → S.files site.new ≡ S.files site.old }
+    ensures sure { is_by_runner result ≡ false }
+    ensures failures { is_failure result ≡ false }
+    ensures causes { HasCauses (S.count site.old) (S.count site.new) 0 0 result }
+{
+    match first_overfull(site, plan, rules) {
+        Ok(None) => Ok(()),
+        Ok(Some(Overfull { rule, total })) => Err(Halt::InputsTooLarge { rule, total }),
+        Err(Fault::Failed) => Err(Halt::Site),
+        Err(Fault::Memory) => Err(Halt::Memory),
+    }
+}
+
+/// Runs the rules in the order of the serial run, and stops at the first that doesn't come to its end, or
+/// before a rule while the inputs of a ready one have too many bytes together. For each rule: at most three calls of the site
+/// for each input and two for each output, and one of the runner.
 pub fn run_rules<F: Commands, S: Site, R: Runner<F>>(
     alloc: Global,
     plan: &Plan,
@@ -104,7 +125,14 @@ pub fn run_rules<F: Commands, S: Site, R: Runner<F>>(
     ensures failures { CountsFailures (R.failures runner.old) (R.failures runner.new) result }
     ensures causes { HasCauses (S.count site.old) (S.count site.new) (R.count runner.old) (R.count runner.new) result }
 {
-    for number in order {
+    let Ok(agenda) = agenda_of(alloc, plan, order) else {
+        return Err(Halt::Memory);
+    };
+    for (place, number) in order.iter().enumerate() {
+        match check_ready(site, plan, agenda[place].as_slice()) {
+            Ok(()) => {}
+            Err(halt) => return Err(halt),
+        }
         match run_rule(alloc, plan, *number, site, runner) {
             Ok(()) => {}
             Err(halt) => return Err(halt),

@@ -1,7 +1,6 @@
-use Rattle.std.proofs.Common.{OnOk, ◌≡◌, Result, Ok, Err, Some, refl}
+use Rattle.std.proofs.Common.{OnOk, Result, Ok, Err, refl}
 use Rattle.outside.specs.declared.fault.Fault.{Fault}
 use Rattle.plan_run.proofs.Placing.{replaced}
-use Rattle.plan_run.specs.Placed.{place}
 use Rattle.plan_run.proofs.files.write_file.Goals as goal
 
 under_telling : (T P : Type 0) (result : Result (Unit {0}) Fault) → (T → OnOk result P) → OnOk result (T → P)

@@ -1,4 +1,4 @@
-use Rattle.std.proofs.Common.{◌≡◌, ◌<◌, length, arith, subst}
+use Rattle.std.proofs.Common.{◌<◌, length, arith, subst}
 use Rattle.outside.specs.Files.{Files}
 use Rattle.plan_run.specs.Jobs.{InputIs}
 use Rattle.plan_run.proofs.Inputs.{input_missing}

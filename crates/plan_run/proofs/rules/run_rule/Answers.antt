@@ -1,9 +1,6 @@
-use Rattle.std.proofs.Common.{◌≡◌, ◌<◌, ◌∙◌, ℕ, List, length, get_or, Some, Result, Ok, arith, refl, ap, sym, subst, slice_get}
+use Rattle.std.proofs.Common.{◌≡◌, ◌∙◌, get_or, Some, Ok, refl, ap, subst, slice_get}
 use Rattle.flow_types.specs.declared.plan.Rule.{Rule}
-use Rattle.flow_types.specs.declared.job.Given.{Given}
-use Rattle.flow_types.specs.declared.job.Outcome.{Outcome}
 use Rattle.flow_types.specs.declared.job.Outcome.TheVariants.{Success, Failed}
-use Rattle.flow_types.specs.declared.numbers.FileNo.{FileNo}
 use Rattle.flow_types.specs.Plans.{files_of}
 use Rattle.flow_types.specs.Serial.{given_by}
 use Rattle.outside.specs.Files.{Files}

@@ -2,10 +2,11 @@ use Rattle.std.proofs.Common.{◌≡◌, ◌≤◌, ℕ, List, take}
 use Rattle.flow_types.specs.declared.job.Job.{Job}
 use Rattle.flow_types.specs.Serial.{serial_order}
 use Rattle.plan_run.specs.Course.{due_contents, HasSources, TellsJobs, IsMadeName, HasRun}
+use Rattle.plan_run.proofs.ReadyRules.{IsQuiet}
 use Rattle.plan_run.proofs.rules.run_rules.Given as goal
 
-abbrev pub invariant-loop-number : goal.invariant-loop-number
-invariant-loop-number g l = record {
+abbrev pub invariant-loop-place : goal.invariant-loop-place
+invariant-loop-place g l = record {
   site_later : g.S.Site.count l.initial.site ≤ g.S.Site.count l.site;
   runner_later : g.R.Runner.count l.initial.runner ≤ g.R.Runner.count l.runner;
   none_failed : g.R.Runner.failures l.runner ≡ g.R.Runner.failures l.initial.runner;
@@ -15,5 +16,6 @@ invariant-loop-number g l = record {
   so_far : g.S.Site.tells → HasSources l.plan (g.S.Site.files l.initial.site)
       → HasRun l.plan (due_contents l.plan g.F.Commands.gives (g.S.Site.files l.initial.site))
       (TellsJobs l.plan (due_contents l.plan g.F.Commands.gives (g.S.Site.files l.initial.site)) (g.R.Runner.tells l.initial.runner))
-      (take l.number-index (serial_order l.plan)) (g.S.Site.files l.initial.site) (g.S.Site.files l.site);
+      (take l.place (serial_order l.plan)) (g.S.Site.files l.initial.site) (g.S.Site.files l.site);
+  quiet : g.S.Site.tells → IsQuiet l.plan (g.S.Site.files l.site) l.place;
 }
