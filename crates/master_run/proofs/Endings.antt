@@ -35,7 +35,7 @@ use Rattle.rule_graph.specs.Faults.{plan_of}
 use Rattle.master_run.specs.declared.needs.Excess.{Excess}
 use Rattle.master_run.specs.Needs.{excess_among, needs_checked, with_needs}
 use Rattle.master_run.specs.Asked.{flow_text, read_flow, read_rules, flow_plan, file_plan, planned, asked, sources_checked, with_sources}
-use Rattle.master_run.specs.Ends.{may_replace, is_ended, CameToEnd, RunIs, CallEnds, OthersStay, is_run_end, is_no_memory, WordsEnd, Rose, FaultEnd, is_rule_failed, is_failure_end, FailureEnd, is_of_plan, is_completed_or_no_memory, NoneRose, counts}
+use Rattle.master_run.specs.Ends.{may_replace, is_ended, CameToEnd, RunIs, CallEnds, OthersStay, is_run_end, is_no_memory, WordsEnd, Rose, FaultEnd, is_rule_failed, is_failure_end, FailureEnd, is_of_plan, is_unfailed_end, NoneRose, counts}
 use Rattle.master_run.specs.Stages.{Stage, WordsStage, is_refusal, SaysRefusal}
 use Rattle.master_run.specs.Runs.{source_halt, SourceEnds, PerformEnds, halt_cause, run_cause, refusal_cause, printed_cause}
 
@@ -55,6 +55,7 @@ run_is P gives may_fail tells files after rules before now (Ok done) count ends 
 run_is P gives may_fail tells files after rules before now (Err (halts.CommandFailed r why)) count ends = ends
 run_is P gives may_fail tells files after rules before now (Err (halts.InputMissing file)) count ends = absurd ends
 run_is P gives may_fail tells files after rules before now (Err (halts.SourceTooLarge file size)) count ends = absurd ends
+run_is P gives may_fail tells files after rules before now (Err (halts.InputsTooLarge r total)) count ends = ends
 run_is P gives may_fail tells files after rules before now (Err halts.Site) count ends = ends
 run_is P gives may_fail tells files after rules before now (Err halts.Runner) count ends = ends
 run_is P gives may_fail tells files after rules before now (Err halts.Memory) count ends = ends
@@ -81,6 +82,7 @@ source_is P gives may_fail tells fault files after rules before now (Ok done) en
 source_is P gives may_fail tells fault files after rules before now (Err (halts.InputMissing file)) ends = source_said P gives may_fail tells fault files after before now (halts.InputMissing file) ends.0 ends.1
 source_is P gives may_fail tells fault files after rules before now (Err (halts.SourceTooLarge file size)) ends = source_said P gives may_fail tells fault files after before now (halts.SourceTooLarge file size) ends.0 ends.1
 source_is P gives may_fail tells fault files after rules before now (Err (halts.CommandFailed r why)) ends = absurd ends
+source_is P gives may_fail tells fault files after rules before now (Err (halts.InputsTooLarge r total)) ends = absurd ends
 source_is P gives may_fail tells fault files after rules before now (Err halts.Site) ends = source_only P gives may_fail tells fault files after before now (SiteFault before.site now.site) refl ends
 source_is P gives may_fail tells fault files after rules before now (Err halts.Runner) ends = absurd ends
 source_is P gives may_fail tells fault files after rules before now (Err halts.Memory) ends = source_only P gives may_fail tells fault files after before now Memory refl ends
@@ -104,6 +106,7 @@ nothing_written fault files after (Ok done) ends = absurd ends
 nothing_written fault files after (Err (halts.InputMissing file)) ends = ends.1
 nothing_written fault files after (Err (halts.SourceTooLarge file size)) ends = ends.1
 nothing_written fault files after (Err (halts.CommandFailed r why)) ends = absurd ends
+nothing_written fault files after (Err (halts.InputsTooLarge r total)) ends = absurd ends
 nothing_written fault files after (Err halts.Site) ends = ends
 nothing_written fault files after (Err halts.Runner) ends = absurd ends
 nothing_written fault files after (Err halts.Memory) ends = ends
@@ -148,6 +151,7 @@ words_after (Ok options) rules before now (Ok done) ok = refl
 words_after (Ok options) rules before now (Err (halts.CommandFailed r why)) ok = refl
 words_after (Ok options) rules before now (Err (halts.InputMissing file)) ok = refl
 words_after (Ok options) rules before now (Err (halts.SourceTooLarge file size)) ok = refl
+words_after (Ok options) rules before now (Err (halts.InputsTooLarge r total)) ok = refl
 words_after (Ok options) rules before now (Err halts.Site) ok = refl
 words_after (Ok options) rules before now (Err halts.Runner) ok = refl
 words_after (Ok options) rules before now (Err halts.Memory) ok = refl
@@ -270,7 +274,7 @@ sink_run P gives may_fail tells files after (FlowRefused flow fault) run ends = 
 sink_run P gives may_fail tells files after (Unbuilt line) run ends = absurd run
 sink_run P gives may_fail tells files after (NeedsTooMuch rule need total) run ends = absurd run
 sink_run P gives may_fail tells files after (SourceTooLarge file size) run ends = absurd run
-sink_run P gives may_fail tells files after (InputsTooLarge rule total) run ends = absurd run
+sink_run P gives may_fail tells files after (InputsTooLarge rule total) run ends = record { result = Err (halts.InputsTooLarge rule total); is_end = refl; ends = run }
 sink_run P gives may_fail tells files after (SourceMissing file) run ends = absurd run
 sink_run P gives may_fail tells files after (SiteFault b a) run ends = false_is_true ends
 sink_run P gives may_fail tells files after (RunnerFault b a) run ends = false_is_true ends
@@ -279,11 +283,13 @@ sink_run P gives may_fail tells files after Memory run ends = false_is_true ends
 
 cut_end : (P : Plan) (gives : Function) (may_fail : Job → Failure → Type 0) (tells : Job → Type 0) (files after : Files) (result : Result (Unit {0}) Halt)
     → RunEnds P gives may_fail tells files after result → IsCutShort P (due_contents P gives files) (TellsJobs P (due_contents P gives files) tells) files after
-cut_end P gives may_fail tells files after (Ok done) ends = whole_cut P (due_contents P gives files) (TellsJobs P (due_contents P gives files) tells) files after ends
+cut_end P gives may_fail tells files after (Ok done) ends = whole_cut P (due_contents P gives files) (TellsJobs P (due_contents P gives files) tells) files after ends.0
 cut_end P gives may_fail tells files after (Err (halts.CommandFailed r why)) ends =
     before_cut P (due_contents P gives files) (TellsJobs P (due_contents P gives files) tells) ends.place files after ends.ran
 cut_end P gives may_fail tells files after (Err (halts.InputMissing file)) ends = absurd ends
 cut_end P gives may_fail tells files after (Err (halts.SourceTooLarge file size)) ends = absurd ends
+cut_end P gives may_fail tells files after (Err (halts.InputsTooLarge r total)) ends =
+    before_cut P (due_contents P gives files) (TellsJobs P (due_contents P gives files) tells) ends.place files after ends.ran
 cut_end P gives may_fail tells files after (Err halts.Site) ends = ends
 cut_end P gives may_fail tells files after (Err halts.Runner) ends = before_cut P (due_contents P gives files) (TellsJobs P (due_contents P gives files) tells) ends.0 files after ends.1
 cut_end P gives may_fail tells files after (Err halts.Memory) ends = ends
@@ -299,7 +305,7 @@ cut_run P gives may_fail tells files after (FlowRefused flow fault) run = absurd
 cut_run P gives may_fail tells files after (Unbuilt line) run = absurd run
 cut_run P gives may_fail tells files after (NeedsTooMuch rule need total) run = absurd run
 cut_run P gives may_fail tells files after (SourceTooLarge file size) run = absurd run
-cut_run P gives may_fail tells files after (InputsTooLarge rule total) run = absurd run
+cut_run P gives may_fail tells files after (InputsTooLarge rule total) run = cut_end P gives may_fail tells files after (Err (halts.InputsTooLarge rule total)) run
 cut_run P gives may_fail tells files after (SourceMissing file) run = absurd run
 cut_run P gives may_fail tells files after (SiteFault b a) run = run
 cut_run P gives may_fail tells files after (RunnerFault b a) run = cut_end P gives may_fail tells files after (Err halts.Runner) run
@@ -374,7 +380,7 @@ printed_failed b a cause stands printed is other = ap (λ c. is_rule_failed (kin
 
 -- a run in which nothing failed is complete, or wants memory
 run_completes : (P : Plan) (gives : Function) (may_fail : Job → Failure → Type 0) (tells : Job → Type 0) (files after : Files) (before now : Counts) (cause : Cause)
-    → RunIs P gives may_fail tells files after cause → FaultEnd before now cause → NoneRose before now → is_rule_failed (kind_of cause) ≡ false → is_completed_or_no_memory (kind_of cause) ≡ true
+    → RunIs P gives may_fail tells files after cause → FaultEnd before now cause → NoneRose before now → is_rule_failed (kind_of cause) ≡ false → is_unfailed_end (kind_of cause) ≡ true
 run_completes P gives may_fail tells files after before now (Complete rules collected) run fault none failed = refl
 run_completes P gives may_fail tells files after before now (CommandFailed r why) run fault none failed = true_is_false failed
 run_completes P gives may_fail tells files after before now Usage run fault none failed = absurd run
@@ -383,7 +389,7 @@ run_completes P gives may_fail tells files after before now (FlowRefused flow wr
 run_completes P gives may_fail tells files after before now (Unbuilt line) run fault none failed = absurd run
 run_completes P gives may_fail tells files after before now (NeedsTooMuch rule need total) run fault none failed = absurd run
 run_completes P gives may_fail tells files after before now (SourceTooLarge file size) run fault none failed = absurd run
-run_completes P gives may_fail tells files after before now (InputsTooLarge rule total) run fault none failed = absurd run
+run_completes P gives may_fail tells files after before now (InputsTooLarge rule total) run fault none failed = refl
 run_completes P gives may_fail tells files after before now (SourceMissing file) run fault none failed = absurd run
 run_completes P gives may_fail tells files after before now (SiteFault b a) run fault none failed = absurd (let wrong : ⊥ = omega (arith, fault.2, none.site) in wrong)
 run_completes P gives may_fail tells files after before now (RunnerFault b a) run fault none failed = absurd (let wrong : ⊥ = omega (arith, fault.2, none.runner) in wrong)
@@ -391,7 +397,7 @@ run_completes P gives may_fail tells files after before now (SinkFault b a) run 
 run_completes P gives may_fail tells files after before now Memory run fault none failed = refl
 
 pub completes : (e : Result Plan Cause) (gives : Function) (may_fail : Job → Failure → Type 0) (tells : Job → Type 0) (files after : Files) (before now : Counts) (cause : Cause)
-    → IsOk e → CallEnds gives may_fail tells e files after cause → FaultEnd before now cause → NoneRose before now → is_rule_failed (kind_of cause) ≡ false → is_completed_or_no_memory (kind_of cause) ≡ true
+    → IsOk e → CallEnds gives may_fail tells e files after cause → FaultEnd before now cause → NoneRose before now → is_rule_failed (kind_of cause) ≡ false → is_unfailed_end (kind_of cause) ≡ true
 completes (Ok P) gives may_fail tells files after before now cause ok call fault none failed = run_completes P gives may_fail tells files after before now cause call fault none failed
 completes (Err refusal) gives may_fail tells files after before now cause ok call fault none failed = false_is_true ok
 

@@ -9,7 +9,7 @@ use Rattle.plan_run.specs.declared.halt.Halt.{Halt}
 use Rattle.plan_run.specs.declared.halt.Halt.TheVariants as halts
 use Rattle.plan_run.specs.Course.{RunEnds, IsMadeName}
 use Rattle.report.specs.declared.cause.Cause.{Cause}
-use Rattle.report.specs.declared.cause.Cause.TheVariants.{Complete, CommandFailed, Usage, FlowMissing, FlowRefused, Unbuilt, SiteFault, RunnerFault, SinkFault, Memory}
+use Rattle.report.specs.declared.cause.Cause.TheVariants.{Complete, CommandFailed, Usage, FlowMissing, FlowRefused, Unbuilt, InputsTooLarge, SiteFault, RunnerFault, SinkFault, Memory}
 use Rattle.command_words.specs.declared.options.Options.{Options}
 use Rattle.master_run.specs.Words.{flow_name}
 use Rattle.report.specs.declared.cause.Kind.{Kind}
@@ -24,13 +24,14 @@ may_replace SiteBroke = true
 may_replace NoMemory = true
 may_replace _ = false
 
--- a run that came to its end: all rules ran, or a command failed
+-- a run that came to its end: all rules ran, a command failed, or the inputs of a ready rule were too large
 abbrev pub is_ended : Result (Unit {0}) Halt → Bool
 is_ended (Ok done) = true
 is_ended (Err (halts.CommandFailed r why)) = true
+is_ended (Err (halts.InputsTooLarge r total)) = true
 is_ended (Err _) = false
 
--- The run came to its end, in one of these two ways.
+-- The run came to its end, in one of these three ways.
 pub record CameToEnd (P : Plan) (gives : Function) (may_fail : Job → Failure → Type 0) (tells : Job → Type 0) (before after : Files) : Type 0 where
   pub result : Result (Unit {0}) Halt
   pub is_end : IsTrue (is_ended result)
@@ -41,6 +42,7 @@ abbrev pub RunIs : Plan → Function → (Job → Failure → Type 0) → (Job �
 RunIs P gives may_fail tells before after (Complete rules collected) =
     (rules ≡ length P.rules) × (collected ≡ 0) × RunEnds P gives may_fail tells before after (Ok tt)
 RunIs P gives may_fail tells before after (CommandFailed r why) = RunEnds P gives may_fail tells before after (Err (halts.CommandFailed r why))
+RunIs P gives may_fail tells before after (InputsTooLarge r total) = RunEnds P gives may_fail tells before after (Err (halts.InputsTooLarge r total))
 RunIs P gives may_fail tells before after (SiteFault old new) = RunEnds P gives may_fail tells before after (Err halts.Site)
 RunIs P gives may_fail tells before after (RunnerFault old new) = RunEnds P gives may_fail tells before after (Err halts.Runner)
 RunIs P gives may_fail tells before after (SinkFault old new) = CameToEnd P gives may_fail tells before after
@@ -151,11 +153,12 @@ pub record Prints (is_planned : Plan → Type 0) (count_before count_after : ℕ
   pub of_end : IsTrue (is_run_end (kind_of cause)) → (told ≡ cause) × (new ≡ old ++ line_of plan told)
   pub part : (n : ℕ) × (new ≡ old ++ take n (line_of plan told))
 
--- the run is complete, or memory was wanting
-abbrev pub is_completed_or_no_memory : Kind → Bool
-is_completed_or_no_memory Completed = true
-is_completed_or_no_memory NoMemory = true
-is_completed_or_no_memory _ = false
+-- how a run may end in which nothing failed: it is complete, its next rules would pass a limit, or memory was wanting
+abbrev pub is_unfailed_end : Kind → Bool
+is_unfailed_end Completed = true
+is_unfailed_end PastLimit = true
+is_unfailed_end NoMemory = true
+is_unfailed_end _ = false
 
 -- counts of these numbers
 abbrev pub counts : ℕ → ℕ → ℕ → Counts

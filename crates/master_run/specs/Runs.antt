@@ -13,7 +13,7 @@ use Rattle.plan_run.specs.declared.sources.SourceFault.{SourceFault}
 use Rattle.plan_run.specs.declared.sources.SourceFault.TheVariants.{Missing, TooLarge}
 use Rattle.plan_run.specs.Course.{RunEnds}
 use Rattle.report.specs.declared.cause.Cause.{Cause}
-use Rattle.report.specs.declared.cause.Cause.TheVariants.{Complete, CommandFailed, SourceMissing, SourceTooLarge, SiteFault, RunnerFault, SinkFault, Memory}
+use Rattle.report.specs.declared.cause.Cause.TheVariants.{Complete, CommandFailed, SourceMissing, SourceTooLarge, InputsTooLarge, SiteFault, RunnerFault, SinkFault, Memory}
 use Rattle.report.specs.Causes.{kind_of}
 use Rattle.master_run.specs.declared.asking.Refusal.{Refusal}
 use Rattle.master_run.specs.declared.asking.Refusal.TheVariants as refusals
@@ -31,6 +31,7 @@ SourceEnds fault before after (Ok done) = ⊥
 SourceEnds fault before after (Err (halts.InputMissing file)) = (halts.InputMissing file ≡ source_halt fault) × (after ≡ before)
 SourceEnds fault before after (Err (halts.SourceTooLarge file size)) = (halts.SourceTooLarge file size ≡ source_halt fault) × (after ≡ before)
 SourceEnds fault before after (Err (halts.CommandFailed rule why)) = ⊥
+SourceEnds fault before after (Err (halts.InputsTooLarge rule total)) = ⊥
 SourceEnds fault before after (Err halts.Site) = after ≡ before
 SourceEnds fault before after (Err halts.Runner) = ⊥
 SourceEnds fault before after (Err halts.Memory) = after ≡ before
@@ -45,6 +46,7 @@ abbrev pub halt_cause : Counts → Counts → Halt → Cause
 halt_cause before after (halts.CommandFailed rule why) = CommandFailed rule why
 halt_cause before after (halts.InputMissing file) = SourceMissing file
 halt_cause before after (halts.SourceTooLarge file size) = SourceTooLarge file size
+halt_cause before after (halts.InputsTooLarge rule total) = InputsTooLarge rule total
 halt_cause before after halts.Site = SiteFault before.site after.site
 halt_cause before after halts.Runner = RunnerFault before.runner after.runner
 halt_cause before after halts.Memory = Memory

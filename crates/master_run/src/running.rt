@@ -51,6 +51,7 @@ fn halt_cause(halt: Halt, before: Counts, after: Counts) -> Cause
         Halt::CommandFailed { rule, why } => Cause::CommandFailed { rule, why },
         Halt::InputMissing(file) => Cause::SourceMissing { file },
         Halt::SourceTooLarge { file, size } => Cause::SourceTooLarge { file, size },
+        Halt::InputsTooLarge { rule, total } => Cause::InputsTooLarge { rule, total },
         Halt::Site => Cause::SiteFault {
             before: before.site,
             after: after.site,

@@ -3,7 +3,7 @@ ghost use Rattle.std.specs.Prelude.{◌≡◌, ◌≤◌, [], Some, Ok, Result, 
 ghost use Rattle.flow_types.specs.declared.plan.Plan.{Plan as PlanValue};
 ghost use Rattle.report.specs.Causes.{kind_of, status_of};
 ghost use Rattle.master_run.specs.Asked.{asked, planned};
-ghost use Rattle.master_run.specs.Ends.{CallEnds, OthersStay, WordsEnd, FaultEnd, FailureEnd, Prints, NoneRose, is_of_plan, is_completed_or_no_memory, is_rule_failed, counts};
+ghost use Rattle.master_run.specs.Ends.{CallEnds, OthersStay, WordsEnd, FaultEnd, FailureEnd, Prints, NoneRose, is_of_plan, is_unfailed_end, is_rule_failed, counts};
 ghost use Rattle.mf_rules.specs.Flow.{given_pairs};
 ghost use Rattle.master_run.specs.Words.{chosen};
 ghost use Rattle.std.specs.Prelude.{IsFalse};
@@ -123,14 +123,16 @@ pub fn makeflow_top<F: Commands, S: Site, R: Runner<F>, O: Sink>(
     ensures failures { FailureEnd (R.failures runner.old) (R.failures runner.new) result.cause }
 
     // Where the sink tells its bytes, they grew by the cause's line, whole unless the sink's count rose or memory was wanting, and
-    // then by a first part of a line. Complete and CommandFailed are answered only where their line was printed whole.
+    // then by a first part of a line. Complete, CommandFailed and InputsTooLarge are answered only where their line was printed
+    // whole.
     ensures text { O.tells → Prints (λ plan. S.tells → planned (map string_bytes words.now) (given_pairs env.now) (S.files site) ≡ Ok plan)
         (O.count out.old) (O.count out.new) (O.bytes out.old) (O.bytes out.new) result.cause }
 
-    // What can be run is run: over a sure runner and with no count rising it ends Complete or wants memory.
+    // What can be run is run: over a sure runner and with no count rising it ends Complete, stops since the inputs of a ready
+    // rule are too large, or wants memory.
     ensures completes { S.tells → R.sure runner.old → IsOk (asked (map string_bytes words.now) (given_pairs env.now) (S.files site))
         → NoneRose (counts (S.count site) (R.count runner.old) (O.count out.old)) (counts (S.count result.site) (R.count runner.new) (O.count out.new))
-        → IsTrue (is_completed_or_no_memory (kind_of result.cause)) }
+        → IsTrue (is_unfailed_end (kind_of result.cause)) }
 {
     let mut site = site;
     let course = follow(alloc, words, env, &mut site, runner);
