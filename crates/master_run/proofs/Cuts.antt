@@ -1,5 +1,5 @@
 -- What a run that was cut short leaves, from what it ended with.
-use Rattle.std.proofs.Common.{◌≡◌, ℕ, zero, suc, ◌+◌, ◌≤◌, Bool, true, false, ◌||◌, List, [], ◌∷◌, length, take, Option, Some, None, Err, refl, ap, sym, ◌∙◌, arith, add-one}
+use Rattle.std.proofs.Common.{◌≡◌, ℕ, zero, suc, ◌+◌, ◌<◌, ◌≤◌, Bool, true, false, ◌||◌, List, [], ◌∷◌, length, take, Option, Some, None, Err, refl, ap, sym, ◌∙◌, arith, add-one}
 use Rattle.std.specs.Prelude.{◌==◌}
 use Rattle.std.proofs.lemmas.Bool.{or_left, or_right}
 use Rattle.std.proofs.lemmas.List.{take_all}
@@ -12,7 +12,8 @@ use Rattle.flow_types.specs.declared.job.Failure.{Failure}
 use Rattle.flow_types.specs.Serial.{Function}
 use Rattle.plan_run.specs.declared.halt.Halt.TheVariants as halts
 use Rattle.plan_run.specs.declared.sources.SourceFault.{SourceFault}
-use Rattle.plan_run.specs.Course.{HasRun, IsCutShort, due_contents, TellsJobs}
+use Rattle.plan_run.specs.Ready.{overfull_rule}
+use Rattle.plan_run.specs.Course.{HasRun, NoneOverfull, IsCutShort, due_contents, TellsJobs}
 use Rattle.master_run.specs.Runs.{PerformEnds}
 
 none_listed : {A : Type 0} → false ≡ true → A
@@ -22,14 +23,17 @@ none_listed wrong = absurd (cc)
 pub unchanged_cut : (P : Plan) (due : Contents) (told : Type 0) (files after : Files) → after ≡ files → IsCutShort P due told files after
 unchanged_cut P due told files after same = record {
   place = 0;
+  none_before = λ k lt. absurd (let wrong : ⊥ = omega (arith, lt) in wrong);
   made = λ tell r f listed made. none_listed listed;
   others = λ name none. ap (λ (fs : Files). fs name) same;
 }
 
 -- all rules ran
-pub whole_cut : (P : Plan) (due : Contents) (told : Type 0) (files after : Files) → HasRun P due told (serial_order P) files after → IsCutShort P due told files after
-whole_cut P due told files after ran = record {
+pub whole_cut : (P : Plan) (due : Contents) (told : Type 0) (files after : Files) → HasRun P due told (serial_order P) files after
+    → ((k : ℕ) → overfull_rule P after (take k (serial_order P)) ≡ None) → IsCutShort P due told files after
+whole_cut P due told files after ran none_over = record {
   place = length (serial_order P);
+  none_before = λ k lt. none_over k;
   made = λ tell r f listed made. ran.made tell r f (ap (contains_number r) (sym (take_all (length (serial_order P)) (serial_order P) (omega arith))) ∙ listed) made;
   others = λ name none. ran.others name (λ its. none (record {
     rule = its.rule;
@@ -51,9 +55,11 @@ listed_next x (suc k) (y ∷ ys) listed = by_test (y == x) listed (listed_next x
     by_test false some later = later some
 
 -- the rules before a place ran
-pub before_cut : (P : Plan) (due : Contents) (told : Type 0) (place : ℕ) (files after : Files) → HasRun P due told (take place (serial_order P)) files after → IsCutShort P due told files after
-before_cut P due told place files after ran = record {
+pub before_cut : (P : Plan) (due : Contents) (told : Type 0) (place : ℕ) (files after : Files) → HasRun P due told (take place (serial_order P)) files after
+    → NoneOverfull P after place → IsCutShort P due told files after
+before_cut P due told place files after ran none_over = record {
   place = place;
+  none_before = none_over;
   made = ran.made;
   others = λ name none. ran.others name (λ its. none (record {
     rule = its.rule;

@@ -283,15 +283,15 @@ sink_run P gives may_fail tells files after Memory run ends = false_is_true ends
 
 cut_end : (P : Plan) (gives : Function) (may_fail : Job → Failure → Type 0) (tells : Job → Type 0) (files after : Files) (result : Result (Unit {0}) Halt)
     → RunEnds P gives may_fail tells files after result → IsCutShort P (due_contents P gives files) (TellsJobs P (due_contents P gives files) tells) files after
-cut_end P gives may_fail tells files after (Ok done) ends = whole_cut P (due_contents P gives files) (TellsJobs P (due_contents P gives files) tells) files after ends.0
+cut_end P gives may_fail tells files after (Ok done) ends = whole_cut P (due_contents P gives files) (TellsJobs P (due_contents P gives files) tells) files after ends.0 ends.1
 cut_end P gives may_fail tells files after (Err (halts.CommandFailed r why)) ends =
-    before_cut P (due_contents P gives files) (TellsJobs P (due_contents P gives files) tells) ends.place files after ends.ran
+    before_cut P (due_contents P gives files) (TellsJobs P (due_contents P gives files) tells) ends.place files after ends.ran (λ k lt. ends.none_overfull k (omega (arith, lt)))
 cut_end P gives may_fail tells files after (Err (halts.InputMissing file)) ends = absurd ends
 cut_end P gives may_fail tells files after (Err (halts.SourceTooLarge file size)) ends = absurd ends
 cut_end P gives may_fail tells files after (Err (halts.InputsTooLarge r total)) ends =
-    before_cut P (due_contents P gives files) (TellsJobs P (due_contents P gives files) tells) ends.place files after ends.ran
+    before_cut P (due_contents P gives files) (TellsJobs P (due_contents P gives files) tells) ends.place files after ends.ran ends.none_before
 cut_end P gives may_fail tells files after (Err halts.Site) ends = ends
-cut_end P gives may_fail tells files after (Err halts.Runner) ends = before_cut P (due_contents P gives files) (TellsJobs P (due_contents P gives files) tells) ends.0 files after ends.1
+cut_end P gives may_fail tells files after (Err halts.Runner) ends = before_cut P (due_contents P gives files) (TellsJobs P (due_contents P gives files) tells) ends.0 files after ends.1 (λ k lt. ends.2 k (omega (arith, lt)))
 cut_end P gives may_fail tells files after (Err halts.Memory) ends = ends
 
 -- however a run ended, what came before some place of the order stands

@@ -339,9 +339,10 @@ not_its P k r t f valid is before_it made its =
     not_before P k r is (ap (λ q. contains_number q (take k (serial_order P))) first ∙ before_it)
 
 cut_short : (P : Plan) (due : Contents) (told : Type 0) (k r : ℕ) (before mid after : Files) → IsValid P → HasRun P due told (take k (serial_order P)) before mid
-    → slice_get (serial_order P) k ≡ Some r → ((name : List ℕ) → (IsMadeName P (r ∷ []) name → ⊥) → after name ≡ mid name) → IsCutShort P due told before after
-cut_short P due told k r before mid after valid ran is others = record {
+    → slice_get (serial_order P) k ≡ Some r → ((name : List ℕ) → (IsMadeName P (r ∷ []) name → ⊥) → after name ≡ mid name) → NoneOverfull P after (k + 1) → IsCutShort P due told before after
+cut_short P due told k r before mid after valid ran is others none_over = record {
   place = k;
+  none_before = λ j lt. none_over j (omega (arith, lt));
   made = λ tell t f listed made. others (file_name P f) (not_its P k r t f valid is listed made) ∙ ran.made tell t f listed made;
   others = λ name none.
       others name (λ its. none (record { rule = its.rule; file = its.file; is_done = ap (contains_number its.rule) (take_more (serial_order P) k r is) ∙ last_is its.rule (only_rule r its.rule its.is_done); is_output = its.is_output; has_name = its.has_name }))
@@ -356,7 +357,7 @@ pub stopped : (P : Plan) (gives : Function) (may_fail : Job → Failure → Type
     → ((job : Job) → tells job → now job)
     → HasRun P (due_contents P gives before) (TellsJobs P (due_contents P gives before) tells) (take k (serial_order P)) before mid
     → slice_get (serial_order P) k ≡ Some r → slice_get P.rules r ≡ Some rule → ((name : List ℕ) → (IsMadeName P (r ∷ []) name → ⊥) → after name ≡ mid name)
-    → NoneOverfull P mid (k + 1)
+    → NoneOverfull P after (k + 1)
     → TurnEnds P r rule gives may_fail now mid after (Err halt)
     → RunEnds P gives may_fail tells before after (Err halt)
 stopped P gives may_fail tells now k r rule before mid after (CommandFailed failed why) valid sources still ran is at_rule others none turn =
@@ -369,7 +370,7 @@ stopped P gives may_fail tells now k r rule before mid after (CommandFailed fail
       is_rule = ap (slice_get P.rules) turn.0 ∙ at_rule;
       ran = subst (λ files. HasRun P due told (take k (serial_order P)) before files) (sym turn.1.unchanged) ran;
       names_output = turn.1.names_output;
-      none_overfull = subst (λ (files : Files). NoneOverfull P files (k + 1)) (sym turn.1.unchanged) none;
+      none_overfull = none;
       may_fail_so = λ tell.
           let job : job_now P rule mid ≡ job_of P rule due = job_due P gives told k r rule before mid valid sources ran is at_rule tell in
           subst (λ j. may_fail j why) job (turn.1.told (subst now (sym job) (still (job_of P rule due) (tell r rule at_rule))));
@@ -381,7 +382,7 @@ stopped P gives may_fail tells now k r rule before mid after (InputMissing file)
     let there : is_some (mid (file_name P file.0)) ≡ true =
     (input_due P gives told k r file.0 before mid valid sources ran is (ap (contains_number file.0) (takes_is P r rule at_rule) ∙ turn.1)).there in
     true_is_false (sym there ∙ ap is_some turn.0)
-stopped P gives may_fail tells now k r rule before mid after Site valid sources still ran is at_rule others none turn = cut_short P (due_contents P gives before) (TellsJobs P (due_contents P gives before) tells) k r before mid after valid ran is others
+stopped P gives may_fail tells now k r rule before mid after Site valid sources still ran is at_rule others none turn = cut_short P (due_contents P gives before) (TellsJobs P (due_contents P gives before) tells) k r before mid after valid ran is others none
 stopped P gives may_fail tells now k r rule before mid after Runner valid sources still ran is at_rule others none turn =
-    (k, subst (λ files. HasRun P (due_contents P gives before) (TellsJobs P (due_contents P gives before) tells) (take k (serial_order P)) before files) (sym turn) ran)
-stopped P gives may_fail tells now k r rule before mid after Memory valid sources still ran is at_rule others none turn = cut_short P (due_contents P gives before) (TellsJobs P (due_contents P gives before) tells) k r before mid after valid ran is others
+    (k, subst (λ files. HasRun P (due_contents P gives before) (TellsJobs P (due_contents P gives before) tells) (take k (serial_order P)) before files) (sym turn) ran, none)
+stopped P gives may_fail tells now k r rule before mid after Memory valid sources still ran is at_rule others none turn = cut_short P (due_contents P gives before) (TellsJobs P (due_contents P gives before) tells) k r before mid after valid ran is others none

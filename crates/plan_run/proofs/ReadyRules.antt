@@ -232,9 +232,11 @@ ready_inside P places k rules ready = λ i d lt.
     omega (arith, at_i, low)
 
 -- the rules before a place ran, and no more was written
-pub cut_before : (P : Plan) (due : Contents) (told : Type 0) (place : ℕ) (files after : Files) → HasRun P due told (take place (serial_order P)) files after → IsCutShort P due told files after
-cut_before P due told place files after ran = record {
+pub cut_before : (P : Plan) (due : Contents) (told : Type 0) (place : ℕ) (files after : Files) → HasRun P due told (take place (serial_order P)) files after → NoneOverfull P after place
+    → IsCutShort P due told files after
+cut_before P due told place files after ran none_over = record {
   place = place;
+  none_before = none_over;
   made = ran.made;
   others = λ name none. ran.others name (λ its. none (record {
     rule = its.rule;
@@ -267,6 +269,6 @@ checked P gives may_fail tells places k rules before mid after halt valid are lo
       is_total = ends.1;
       none_before = none_from P mid k quiet;
     }
-    by_halt Site ends = cut_before P due (TellsJobs P due tells) k before mid ran
+    by_halt Site ends = cut_before P due (TellsJobs P due tells) k before mid ran (none_from P mid k quiet)
     by_halt Runner ends = absurd ends
-    by_halt Memory ends = cut_before P due (TellsJobs P due tells) k before mid ran
+    by_halt Memory ends = cut_before P due (TellsJobs P due tells) k before mid ran (none_from P mid k quiet)

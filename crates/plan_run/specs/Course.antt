@@ -66,16 +66,18 @@ pub record IsOverfull (P : Plan) (due : Contents) (told : Type 0) (r total : ℕ
   pub is_total : total ≡ told_bytes (input_bytes P after r)
   pub none_before : NoneOverfull P after place
 
--- The run was cut short within the turn of one rule: the rules before it ran, and of the other files only its outputs may
--- have changed.
+-- The run was cut short within the turn of one rule: the rules before it ran, no ready rule had inputs of too many bytes by then,
+-- and of the other files only its outputs may have changed.
 pub record IsCutShort (P : Plan) (due : Contents) (told : Type 0) (before after : Files) : Type 0 where
   pub place : ℕ
   pub made : told → (r f : ℕ) → IsTrue (contains_number r (take place (serial_order P))) → IsTrue (contains_number f (makes P r)) → after (file_name P f) ≡ due f
   pub others : (name : List ℕ) → (IsMadeName P (take (place + 1) (serial_order P)) name → ⊥) → after name ≡ before name
+  pub none_before : NoneOverfull P after place
 
--- The rules before some place of the serial order ran, and nothing else was written.
+-- The rules before some place of the serial order ran, no ready rule had inputs of too many bytes, at that place too, and nothing
+-- else was written.
 abbrev pub RanBefore : Plan → Contents → Type 0 → Files → Files → Type 0
-RanBefore P due told before after = (place : ℕ) × HasRun P due told (take place (serial_order P)) before after
+RanBefore P due told before after = (place : ℕ) × HasRun P due told (take place (serial_order P)) before after × NoneOverfull P after (place + 1)
 
 -- How the run of a plan may end whose sources are all there.
 abbrev pub RunEnds : Plan → Function → (Job → Failure → Type 0) → (Job → Type 0) → Files → Files → Result (Unit {0}) Halt → Type 0

@@ -16,7 +16,7 @@ returns-in_default-clause-told g c = λ tells sources.
     let files = g.S.Site.files c.args.site.now in
     let due = due_contents P g.F.Commands.gives files in
     let told = TellsJobs P due (g.R.Runner.tells c.args.runner.now) in
-    cut_before P due told 0 files files (none_ran P due told files)
+    cut_before P due told 0 files files (none_ran P due told files) (λ k lt. absurd (let wrong : ⊥ = omega (arith, lt) in wrong))
 
 pub check_ready-requires-clause-rules : goal.check_ready-requires-clause-rules
 check_ready-requires-clause-rules g c κs within =
@@ -70,9 +70,11 @@ returns-in-Err-run_rule-clause-told g c = λ tells sources.
     let quiet : IsQuiet P mid (i + 1) =
     quiet_more P c.in-Ok.ensures.places mid i c.as_slice.result.now c.requires.valid c.in-Ok.ensures.are_places inside ready
     (subst (λ (files : Files). IsQuiet P files i) (sym same) (c.loop-place.invariant.quiet tells)) few in
+    let after = g.S.Site.files c.run_rule.new.site in
+    let kept : IsQuiet P after (i + 1) = quiet_kept P i number.0 mid after c.requires.valid at_i (c.in-Err-run_rule.ensures.others tells) quiet in
     stopped P g.F.Commands.gives g.F.Commands.may_fail (g.R.Runner.tells c.args.runner.now) (g.R.Runner.tells c.loop-place.runner) i number.0 rule.0
     before mid (g.S.Site.files c.run_rule.new.site) c.in-Err-run_rule.halt c.requires.valid sources
-    c.loop-place.invariant.still_tells ran at_i rule.1 (c.in-Err-run_rule.ensures.others tells) (none_from P mid (i + 1) quiet) (c.in-Err-run_rule.ensures.told tells rule.0 rule.1)
+    c.loop-place.invariant.still_tells ran at_i rule.1 (c.in-Err-run_rule.ensures.others tells) (none_from P after (i + 1) kept) (c.in-Err-run_rule.ensures.told tells rule.0 rule.1)
 
 pub returns-in-Err-run_rule-clause-others : goal.returns-in-Err-run_rule-clause-others
 returns-in-Err-run_rule-clause-others g c = λ tells name none.
