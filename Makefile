@@ -1,5 +1,5 @@
 # make test: all checks. make demo: the example flow. make programs: the programs into bin/.
-# make install PREFIX=FOLDER: the programs into FOLDER/bin.
+# make install PREFIX=FOLDER: the programs into FOLDER/bin, their manual pages into FOLDER/share/man/man1.
 
 PREFIX ?= /usr/local
 PROGRAMS := $(patsubst crates/%/src/main.rt,%,$(wildcard crates/*/src/main.rt))
@@ -22,3 +22,5 @@ demo: bin/makeflow
 install: $(BUILT)
 	@mkdir -p "$(DESTDIR)$(PREFIX)/bin"
 	@install -m 755 $(BUILT) "$(DESTDIR)$(PREFIX)/bin"
+	@mkdir -p "$(DESTDIR)$(PREFIX)/share/man/man1"
+	@install -m 644 man/*.1 "$(DESTDIR)$(PREFIX)/share/man/man1"

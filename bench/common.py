@@ -1,0 +1,83 @@
+"""What the benches share: flows as texts, and times of a program."""
+import os
+import shutil
+import subprocess
+import sys
+import time
+
+ROOT = os.path.dirname(os.path.dirname(os.path.abspath(__file__)))
+OURS = f"{ROOT}/bin/makeflow"
+
+
+def wide(rules):
+    """So many rules of one source each."""
+    return "".join(f"w{it}: s\n\tcat s > w{it}\n" for it in range(rules))
+
+
+def chain(rules):
+    """Each rule takes in what the one before it makes."""
+    return "".join(f"c{it + 1}: c{it}\n\tcat c{it} > c{it + 1}\n" for it in range(rules))
+
+
+def two_parents(rules):
+    """Rule 0 makes g0 of s; rule i makes gi of ga and gb, with a = (i - 1) / 2 and b = i / 3 in whole numbers."""
+    lines = ["g0: s\n\tcat s > g0\n"]
+    for it in range(1, rules):
+        a, b = (it - 1) // 2, it // 3
+        parents = f"g{a}" if a == b else f"g{a} g{b}"
+        lines.append(f"g{it}: {parents}\n\tcat {parents} > g{it}\n")
+    return "".join(lines)
+
+
+SHAPES = {"wide": wide, "chain": chain, "two parents": two_parents}
+FIRST_SOURCE = {"wide": "s", "chain": "c0", "two parents": "s"}
+
+
+def own_seconds(process):
+    """The processor time of a process that has ended, without that of its commands."""
+    try:
+        with open(f"/proc/{process}/schedstat") as it:
+            return int(it.read().split()[0]) / 1e9
+    except FileNotFoundError:
+        with open(f"/proc/{process}/stat") as it:
+            ticks = it.read().rpartition(")")[2].split()[11:13]
+        return sum(int(it) for it in ticks) / os.sysconf("SC_CLK_TCK")
+
+
+def memory(command, folder):
+    """The most memory in bytes of one run. A process counts what its parent held when it began it, so it is begun by a
+    small one."""
+    script = "import os, sys; p = os.posix_spawnp(sys.argv[1], sys.argv[1:], os.environ); print(os.wait4(p, 0)[2].ru_maxrss)"
+    began = [sys.executable, "-I", "-S", "-c", script, *command]
+    done = subprocess.run(began, cwd=folder, stdin=subprocess.DEVNULL, capture_output=True, check=True)
+    return int(done.stdout.split()[-1]) * 1024
+
+
+def measure(command, folder):
+    """Of one run in this folder: wall seconds, processor seconds of the tool alone and of the whole tree, the status, and
+    what it printed."""
+    begun = time.perf_counter()
+    started = subprocess.Popen(command, cwd=folder, stdin=subprocess.DEVNULL, stdout=subprocess.PIPE, stderr=subprocess.DEVNULL)
+    printed = started.stdout.read()
+    # it has ended and isn't waited for yet, so its own times can be read apart from those of its commands
+    os.waitid(os.P_PID, started.pid, os.WEXITED | os.WNOWAIT)
+    wall, own = time.perf_counter() - begun, own_seconds(started.pid)
+    _, status, usage = os.wait4(started.pid, 0)
+    started.returncode = os.waitstatus_to_exitcode(status)
+    return wall, own, usage.ru_utime + usage.ru_stime, started.returncode, printed
+
+
+def other(program):
+    """Where a program of another project is installed, nothing where it isn't."""
+    found = shutil.which(program)
+    if found and os.path.realpath(found) != os.path.realpath(OURS):
+        return found
+    print(f"{program}: not installed, skipped")
+    return None
+
+
+def ready():
+    if os.access(OURS, os.X_OK):
+        return True
+    print(f"no program {OURS}: make programs builds it")
+    return False
