@@ -257,8 +257,9 @@ fn words_that_name_no_flow(rt: HostRuntime) -> Result<(), Fail> {
     Ok(())
 }
 
-// The calls of the site in a run of one rule: two for the flow, one for the source, two for the input, two for the output.
-const SITE_CALLS: u64 = 7;
+// The calls of the site in a run of one rule: two for the flow, one for the source, one for the size of the ready rule's
+// input, two for the input, two for the output.
+const SITE_CALLS: u64 = 8;
 
 #[test]
 fn each_call_of_the_site_may_fail(rt: HostRuntime) -> Result<(), Fail> {
