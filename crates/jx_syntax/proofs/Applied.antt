@@ -1,5 +1,5 @@
 -- Operators and signs get their operand.
-use Rattle.std.proofs.Common.{◌≡◌, ℕ, suc, ◌<◌, ◌≤◌, Bool, true, false, List, [], ◌∷◌, ◌++◌, length, Option, refl, sym, ap, subst, ◌∙◌}
+use Rattle.std.proofs.Common.{◌≡◌, ℕ, suc, ◌<◌, ◌≤◌, List, [], ◌∷◌, ◌++◌, length, refl, sym, ap, subst, ◌∙◌}
 use Rattle.std.proofs.lemmas.Bool.{lt-leb, le-leb}
 use Rattle.jx_syntax.specs.declared.operator.Operator.{Operator}
 use Rattle.jx_syntax.specs.declared.operator.Sign.{Sign}
@@ -11,7 +11,7 @@ use Rattle.jx_syntax.specs.Grammar.{Derivation, signed, operation, binds, sign_b
 use Rattle.jx_syntax.specs.Reading.{Frame, left, before, depth, reduce}
 use Rattle.jx_syntax.specs.Tree as tree
 use Rattle.jx_syntax.specs.Tree.{Tree, tree_of, node_at}
-use Rattle.jx_syntax.specs.Shown.{trees, IsNode, IsLast, IsFrame, Shows}
+use Rattle.jx_syntax.specs.Shown.{trees, IsLast, Shows}
 use Rattle.jx_syntax.proofs.Nodes.{shows_more, last_new}
 use Rattle.jx_syntax.proofs.Steps.{IsTop, is_top}
 

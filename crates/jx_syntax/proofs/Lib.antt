@@ -8,3 +8,5 @@ mod Unique
 mod Nodes
 mod Steps
 mod Applied
+mod Whole
+mod Parsed

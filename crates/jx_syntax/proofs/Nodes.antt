@@ -1,5 +1,5 @@
 -- What nodes show goes on when a node is added.
-use Rattle.std.proofs.Common.{◌≡◌, ℕ, zero, suc, ◌+◌, ◌<◌, ◌≤◌, Bool, true, false, List, [], ◌∷◌, ◌++◌, length, get_or, reverse, Option, Some, None, refl, sym, ap, subst, ◌∙◌, arith}
+use Rattle.std.proofs.Common.{◌≡◌, ℕ, zero, suc, ◌+◌, ◌<◌, ◌≤◌, false, List, [], ◌∷◌, ◌++◌, length, Option, Some, None, refl, sym, ap, ◌∙◌, arith}
 use Rattle.std.proofs.lemmas.List.{length-append}
 use Rattle.std.specs.List.{flat_map}
 use Rattle.jx_syntax.specs.declared.node.Condition.{Condition}
@@ -14,7 +14,7 @@ use Rattle.jx_syntax.specs.declared.pending.Pending.TheVariants as pending
 use Rattle.jx_syntax.specs.Grammar.{Derivation, Arguments, argument, Items, item, Item, once, each, each_if, Pairs, pair, Bound}
 use Rattle.jx_syntax.specs.Reading.{Part, Frame}
 use Rattle.jx_syntax.specs.Tree.{Tree, Trees, Entries, Loops, Fields, entry, tree, loop, field, end, test, no_loops, entry_of, no_test, tree_of, node_at, end_at, test_at, trees_at, loops_at, entries_at, fields_at, trees_onto, form_tree, operands, loop_operands, condition_operands, item_operands, field_operands, given, AreBefore, IsOrdered}
-use Rattle.jx_syntax.specs.Shown.{trees, IsNode, IsLast, AreArguments, IsItem, AreItems, AreFields, IsEnd, IsPart, IsFrame, IsStack, Shows, is_nil, is_none}
+use Rattle.jx_syntax.specs.Shown.{trees, IsNode, IsLast, AreArguments, IsItem, AreItems, AreFields, IsEnd, IsPart, IsFrame, IsStack, Shows, is_nil}
 
 -- ---- places before
 

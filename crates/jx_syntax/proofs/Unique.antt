@@ -1,11 +1,11 @@
 -- A text is refused for one reason.
-use Rattle.std.proofs.Common.{◌≡◌, ℕ, Bool, true, false, List, [], ◌∷◌, ◌++◌, length, Option, Some, None, refl, sym, ap, subst, ◌∙◌, append_assoc, inl, inr, ◌⊎◌}
+use Rattle.std.proofs.Common.{◌≡◌, ℕ, true, false, List, [], ◌∷◌, ◌++◌, length, Option, Some, None, refl, sym, ap, subst, ◌∙◌, append_assoc, inl, inr}
 use Rattle.std.proofs.lemmas.List.{append-nil}
 use Rattle.jx_tokens.specs.declared.fault.JxFault.{JxFault}
 use Rattle.jx_tokens.specs.declared.fault.JxFault.TheVariants.{NotUtf8, Unexpected, OpenText, FloatUnsupported, IntTooWide, TooDeep, TooLarge, Memory}
 use Rattle.jx_tokens.specs.declared.token.Token.{Token}
 use Rattle.jx_tokens.specs.Tokens.{scan_of}
-use Rattle.jx_syntax.specs.Grammar.{Derivation, spells, IsViable, Derives, StopsAt, is_wide, IsRefused, Refusal, IsWritten, IsNoExpression}
+use Rattle.jx_syntax.specs.Grammar.{Derivation, IsViable, Derives, StopsAt, is_wide, IsRefused, Refusal, IsWritten, IsNoExpression}
 
 -- what begins what begins an expression begins it
 shorter : (limit : ℕ) (xs ys : List Token) → IsViable limit (xs ++ ys) → IsViable limit xs

@@ -5,7 +5,7 @@ use Rattle.jx_tokens.specs.declared.fault.JxFault.TheVariants.{Unexpected, IntTo
 use Rattle.jx_tokens.specs.declared.token.Kind.{Kind}
 use Rattle.jx_tokens.specs.declared.token.Kind.TheVariants as kind
 use Rattle.jx_tokens.specs.declared.token.Token.{Token}
-use Rattle.jx_tokens.specs.Tokens.{Scan}
+use Rattle.jx_tokens.specs.Tokens.{Scan, cut_fault}
 use Rattle.jx_syntax.specs.declared.operator.Operator.{Operator}
 use Rattle.jx_syntax.specs.declared.operator.Operator.TheVariants as op
 use Rattle.jx_syntax.specs.declared.operator.Sign.{Sign}
@@ -323,3 +323,22 @@ ended len (Some f) st = Err f
 -- the expression that a text of so many bytes is, or its fault
 abbrev pub parsed : ℕ → Scan → Result Derivation JxFault
 parsed len s = then_on (run 128 (wants []) s.tokens) (ended len s.fault)
+
+-- ---- whole texts
+
+-- the fault of the tokens, where there is one
+abbrev pub unless_fault : Option JxFault → State → Result State JxFault
+unless_fault None st = Ok st
+unless_fault (Some f) st = Err f
+
+-- the state behind all these tokens, or the first fault
+abbrev pub reading : State → Scan → Result State JxFault
+reading st s = then_on (run 128 st s.tokens) (unless_fault s.fault)
+
+abbrev pub cut_by : ℕ → Option JxFault → Result State JxFault → JxFault
+cut_by n f (Ok st) = cut_fault n f
+cut_by n f (Err e) = e
+
+-- the fault of a text that stops being UTF-8 at this place, from the tokens before it
+abbrev pub cut_reading : ℕ → Scan → JxFault
+cut_reading n s = cut_by n s.fault (run 128 (wants []) s.tokens)

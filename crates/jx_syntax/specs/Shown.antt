@@ -1,10 +1,9 @@
 -- What a reader's nodes and its stack show of what was read.
-use Rattle.std.specs.Prelude.{◌≡◌, ℕ, suc, ◌<◌, Bool, true, false, List, [], ◌∷◌, ◌++◌, length, reverse, flat_map, Option, Some, None, Result, Ok, Err}
+use Rattle.std.specs.Prelude.{◌≡◌, ℕ, suc, ◌<◌, Bool, true, false, List, [], ◌∷◌, length, reverse, flat_map, Option, Some, None, Result, Ok, Err}
 use Rattle.jx_tokens.specs.declared.fault.JxFault.{JxFault}
 use Rattle.jx_tokens.specs.Answers.{Fails}
 use Rattle.jx_syntax.specs.declared.node.Field.{Field}
 use Rattle.jx_syntax.specs.declared.node.Item as node
-use Rattle.jx_syntax.specs.declared.node.Form.{Form}
 use Rattle.jx_syntax.specs.declared.node.Node.{Node}
 use Rattle.jx_syntax.specs.declared.pending.Part as code
 use Rattle.jx_syntax.specs.declared.pending.Part.TheVariants as part
@@ -15,7 +14,7 @@ use Rattle.jx_syntax.specs.declared.pending.Wanted.TheVariants as wanted
 use Rattle.jx_syntax.specs.declared.pending.Reader.{Reader}
 use Rattle.jx_syntax.specs.Grammar.{Derivation, name, Arguments, no_arguments, argument, Items, Item, Pairs, Bound}
 use Rattle.jx_syntax.specs.Reading.{Part, body, over, only, Frame, left, before, grouped, argued, listed, keyed, indexed, sliced, State, wants, has, wants_key, wants_colon, wants_name, wants_in, Move, stuck, depth, reduce, tried, begins_call}
-use Rattle.jx_syntax.specs.Tree.{Tree, Trees, Entries, Loops, Fields, tree_of, arguments_of, entries_of, entry_of, fields_of, end_of, entry, no_loops, node_at, end_at, trees_at, loops_at, entries_at, fields_at, trees_onto, form_tree, operands, item_operands, field_operands, given, AreBefore, IsOrdered}
+use Rattle.jx_syntax.specs.Tree.{Tree, Trees, Entries, Loops, Fields, tree_of, arguments_of, entries_of, entry_of, fields_of, end_of, entry, node_at, end_at, trees_at, loops_at, entries_at, fields_at, trees_onto, item_operands, field_operands, given, AreBefore, IsOrdered, expression_of}
 
 -- the trees of the nodes
 abbrev pub trees : List Node → List Tree
@@ -133,3 +132,15 @@ IsReduced r i p = IsShown r p.0 × (r.depth ≡ depth p.0) × IsLast r.nodes.ite
 abbrev pub IsApplied : Reader → Option ℕ → ℕ → ℕ → List Frame → Derivation → Type 0
 IsApplied r (Some i) operand k fs x = (p : List Frame × Derivation) × IsReduced r i p × (reduce k p.0 p.1 ≡ reduce k fs x)
 IsApplied r None operand k fs x = IsReduced r operand (fs, x) × (reduce k fs x ≡ (fs, x))
+
+-- ---- whole texts
+
+-- all tokens were read, or a fault was found
+abbrev pub IsRead : Result (Reader × Wanted) JxFault → Result State JxFault → Type 0
+IsRead (Ok p) gives = (st : State) × (gives ≡ Ok st) × IsState p.0 p.1 st
+IsRead (Err e) gives = Fails e gives
+
+-- these nodes are the expression that is given, or its fault was found
+abbrev pub IsExpression : Result (List Node) JxFault → Result Derivation JxFault → Type 0
+IsExpression (Ok ns) gives = (d : Derivation) × (gives ≡ Ok d) × (expression_of ns ≡ tree_of d)
+IsExpression (Err e) gives = Fails e gives

@@ -51,7 +51,7 @@ impl Reader {
     }
 
     /// Gives the operators and signs that bind at least so tightly their operand, which is this node first.
-    fn reduced(&mut self, level: usize, operand: usize) -> Result<usize, JxFault>
+    pub fn reduced(&mut self, level: usize, operand: usize) -> Result<usize, JxFault>
         ensures memory { IfErr result (λ e. e ≡ Memory) }
         ensures shown { IfOk result (λ i. (fs : List Frame) (x : Derivation) → IsShown self.old fs → self.old.depth ≡ depth fs
             → IsLast self.old.nodes.items operand (tree_of x) → IsReduced self.new i (reduce level fs x)) }

@@ -1,8 +1,9 @@
-//! JX values and their text.
+//! JX expressions and JX values.
 //!
-//! What stands: values (`JxValue`) and the text of each (`value_text`), and two laws, by which the text of a text and
-//! of a number is read again as one token of `jx_tokens`. The grammar, which makes an expression of tokens, isn't
-//! here, and nothing here reads a text as a value.
+//! `parse` reads a text as the expression that the grammar derives from its tokens, or says why there is none.
+//! `value_text` writes a value's text. The laws say that the grammar is unambiguous, that each text is an expression
+//! or is refused for one reason, and that the text of a text and of a number is read again as one token of
+//! `jx_tokens`. What an expression evaluates to isn't here.
 #![tactic(auto)]
 
 mod behind;
@@ -13,6 +14,7 @@ mod laws;
 mod levels;
 mod node;
 mod operator;
+mod parser;
 mod pending;
 mod reader;
 mod states;
@@ -30,6 +32,7 @@ pub use laws::{
 };
 pub use node::{Condition, Field, Form, Item, Loop, Node};
 pub use operator::{Operator, Sign};
+pub use parser::parse;
 pub use value::{JxPair, JxValue};
 pub use write::value_text;
 

@@ -1,4 +1,4 @@
-use Rattle.std.proofs.Common.{◌≡◌, ℕ, ◌∷◌, ◌++◌, [], List, Some, None, sym, subst}
+use Rattle.std.proofs.Common.{ℕ, ◌∷◌, ◌++◌, [], List, Some, None, sym, subst}
 use Rattle.jx_syntax.specs.declared.node.Item as node
 use Rattle.jx_syntax.specs.declared.node.Loop.{Loop}
 use Rattle.jx_syntax.specs.declared.node.Node.{Node}

@@ -1,10 +1,10 @@
-use Rattle.std.proofs.Common.{◌≡◌, ℕ, suc, ◌<◌, ◌≤◌, ◌∷◌, ◌++◌, [], List, reverse, refl, sym, ap, subst, ◌∙◌, arith}
+use Rattle.std.proofs.Common.{◌≡◌, ◌<◌, ◌≤◌, ◌∷◌, ◌++◌, [], List, reverse, refl, sym, ap, subst, ◌∙◌, arith}
 use Rattle.std.proofs.lemmas.List.{nil_from_length}
 use Rattle.jx_syntax.specs.declared.node.Node.{Node}
 use Rattle.jx_syntax.specs.declared.pending.Pending.{Pending}
 use Rattle.jx_syntax.specs.declared.pending.Pending.TheVariants as pending
-use Rattle.jx_syntax.specs.Grammar.{Derivation, binds, sign_binds}
-use Rattle.jx_syntax.specs.Reading.{Frame, depth}
+use Rattle.jx_syntax.specs.Grammar.{binds, sign_binds}
+use Rattle.jx_syntax.specs.Reading.{depth}
 use Rattle.jx_syntax.specs.Tree.{tree_of}
 use Rattle.jx_syntax.specs.Shown.{Shows, IsLast}
 use Rattle.jx_syntax.proofs.Steps.{on_top}

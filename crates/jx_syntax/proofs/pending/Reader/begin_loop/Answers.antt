@@ -1,14 +1,12 @@
-use Rattle.std.proofs.Common.{◌≡◌, ℕ, suc, ◌-◌, ◌∷◌, ◌++◌, [], List, Ok, reverse, refl, sym, ap, subst, ◌∙◌, arith}
+use Rattle.std.proofs.Common.{◌≡◌, suc, ◌∷◌, List, reverse, refl, ap, ◌∙◌}
 use Rattle.jx_syntax.specs.declared.node.Node.{Node}
 use Rattle.jx_syntax.specs.declared.pending.Pending.{Pending}
 use Rattle.jx_syntax.specs.declared.pending.Pending.TheVariants as pending
 use Rattle.jx_syntax.specs.Grammar as jx
 use Rattle.jx_syntax.specs.Reading as read
 use Rattle.jx_syntax.specs.Reading.{Frame, Part}
-use Rattle.jx_syntax.specs.Tree as tree
-use Rattle.jx_syntax.specs.Shown.{trees, Shows, AreArguments, AreItems, IsItem, AreFields}
-use Rattle.jx_syntax.proofs.Nodes.{arguments_push, items_push, fields_push}
-use Rattle.jx_syntax.proofs.Steps.{on_top, IsTop, is_top, to_go}
+use Rattle.jx_syntax.specs.Shown.{IsItem}
+use Rattle.jx_syntax.proofs.Steps.{on_top, IsTop, is_top}
 use Rattle.jx_syntax.proofs.pending.Reader.begin_loop.Goals as goal
 
 pub returns-in-Listed : goal.returns-in-Listed

@@ -1,5 +1,5 @@
-use Rattle.std.proofs.Common.{◌≡◌, sym, subst}
-use Rattle.jx_syntax.specs.Reading.{Move, depth, moved, reduce, ends}
+use Rattle.std.proofs.Common.{sym, subst}
+use Rattle.jx_syntax.specs.Reading.{Move, depth, moved, reduce}
 use Rattle.jx_syntax.specs.Shown.{Steps}
 use Rattle.jx_syntax.proofs.Steps.{IsOther, had_ends}
 use Rattle.jx_syntax.proofs.pending.Reader.behind.Goals as goal

@@ -1,4 +1,4 @@
-use Rattle.std.proofs.Common.{◌≡◌, ℕ, List, [], ◌∷◌, ◌++◌, length, reverse, Ok, refl, sym, ap, ◌∙◌}
+use Rattle.std.proofs.Common.{List, reverse, refl, ◌∙◌}
 use Rattle.jx_syntax.specs.declared.node.Node.{Node}
 use Rattle.jx_syntax.specs.declared.pending.Pending.{Pending}
 use Rattle.jx_syntax.specs.Reading.{has}

@@ -1,4 +1,4 @@
-use Rattle.std.proofs.Common.{◌≡◌, refl, ap, ◌∙◌}
+use Rattle.std.proofs.Common.{refl, ap, ◌∙◌}
 use Rattle.jx_tokens.specs.declared.token.Kind.{Kind}
 use Rattle.jx_syntax.specs.Reading.{State, wants_name, wants_in, step}
 use Rattle.jx_syntax.proofs.pending.Reader.loop_name.Goals as goal

@@ -1,8 +1,8 @@
-use Rattle.std.proofs.Common.{◌≡◌, List, reverse, refl, sym, subst, ◌∙◌}
+use Rattle.std.proofs.Common.{List, reverse, refl, sym, subst, ◌∙◌}
 use Rattle.jx_syntax.specs.declared.node.Form.TheVariants as form
 use Rattle.jx_syntax.specs.declared.node.Node.{Node}
 use Rattle.jx_syntax.specs.Grammar.{name}
-use Rattle.jx_syntax.specs.Reading.{State, has, step}
+use Rattle.jx_syntax.specs.Reading.{State, step}
 use Rattle.jx_syntax.specs.Tree as tree
 use Rattle.jx_syntax.specs.Shown.{Shows, IsLast, Steps}
 use Rattle.jx_syntax.proofs.Nodes.{shows_more, last_new}

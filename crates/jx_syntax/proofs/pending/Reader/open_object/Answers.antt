@@ -1,4 +1,4 @@
-use Rattle.std.proofs.Common.{◌≡◌, ◌<◌, refl, arith}
+use Rattle.std.proofs.Common.{◌<◌, refl, arith}
 use Rattle.std.proofs.lemmas.Bool.{lt-ltb}
 use Rattle.jx_syntax.specs.Grammar.{no_pairs}
 use Rattle.jx_syntax.specs.Reading.{wants_key, depth}

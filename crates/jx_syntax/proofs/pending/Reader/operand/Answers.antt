@@ -1,4 +1,4 @@
-use Rattle.std.proofs.Common.{◌≡◌, refl, ap}
+use Rattle.std.proofs.Common.{refl, ap}
 use Rattle.jx_tokens.specs.declared.token.Kind.{Kind}
 use Rattle.jx_syntax.specs.Grammar.{name}
 use Rattle.jx_syntax.specs.Reading.{has, depth, moved, wanted}

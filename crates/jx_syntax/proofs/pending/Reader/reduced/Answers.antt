@@ -1,4 +1,4 @@
-use Rattle.std.proofs.Common.{◌≡◌, List, Some, None, refl, sym, subst, ◌∙◌}
+use Rattle.std.proofs.Common.{List, Some, None, refl, sym, subst, ◌∙◌}
 use Rattle.jx_syntax.specs.Grammar.{Derivation}
 use Rattle.jx_syntax.specs.Reading.{Frame}
 use Rattle.jx_syntax.specs.Shown.{IsReduced, IsApplied}
