@@ -15,12 +15,16 @@ use crate::reader::blamed;
 use jx_tokens::{JxFault, Kind};
 
 impl Reader {
-    /// Gives what waits on top its operand, where that is an operator or a sign that binds at least so tightly.
+    /// Gives what waits on top its operand, where that is an operator or a sign that binds at
+    /// least so tightly.
     fn applied(&mut self, level: usize, operand: usize) -> Result<Option<usize>, JxFault>
         ensures memory { IfErr result (λ e. e ≡ Memory) }
-        ensures shorter { IfOk result (λ r. IfSome r (λ i. vec_len self.new.stack < vec_len self.old.stack)) }
-        ensures shown { IfOk result (λ r. (fs : List Frame) (x : Derivation) → IsShown self.old fs → self.old.depth ≡ depth fs
-            → IsLast self.old.nodes.items operand (tree_of x) → IsApplied self.new r operand level fs x) }
+        ensures shorter { IfOk result (λ r. IfSome r
+            (λ i. vec_len self.new.stack < vec_len self.old.stack)) }
+        ensures shown { IfOk result (λ r. (fs : List Frame) (x : Derivation)
+            → IsShown self.old fs → self.old.depth ≡ depth fs
+            → IsLast self.old.nodes.items operand (tree_of x)
+            → IsApplied self.new r operand level fs x) }
     {
         let Some(top) = self.stack.pop() else {
             return Ok(None);
@@ -50,11 +54,14 @@ impl Reader {
         }
     }
 
-    /// Gives the operators and signs that bind at least so tightly their operand, which is this node first.
+    /// Gives the operators and signs that bind at least so tightly their operand, which is this
+    /// node first.
     pub fn reduced(&mut self, level: usize, operand: usize) -> Result<usize, JxFault>
         ensures memory { IfErr result (λ e. e ≡ Memory) }
-        ensures shown { IfOk result (λ i. (fs : List Frame) (x : Derivation) → IsShown self.old fs → self.old.depth ≡ depth fs
-            → IsLast self.old.nodes.items operand (tree_of x) → IsReduced self.new i (reduce level fs x)) }
+        ensures shown { IfOk result (λ i. (fs : List Frame) (x : Derivation)
+            → IsShown self.old fs → self.old.depth ≡ depth fs
+            → IsLast self.old.nodes.items operand (tree_of x)
+            → IsReduced self.new i (reduce level fs x)) }
     {
         let mut operand = operand;
         while let Some(applied) = self.applied(level, operand)? {
@@ -70,7 +77,8 @@ impl Reader {
         place: usize,
         operator: Operator,
     ) -> Result<Wanted, JxFault>
-        ensures shown { (fs : List Frame) (x : Derivation) → IsShown self.old fs → self.old.depth ≡ depth fs
+        ensures shown { (fs : List Frame) (x : Derivation) → IsShown self.old fs
+            → self.old.depth ≡ depth fs
             → IsLast self.old.nodes.items operand (tree_of x)
             → Steps self.new result (tried 128 (depth fs) place (operates fs x place operator)) }
     {
@@ -84,8 +92,10 @@ impl Reader {
 
     /// What ends or goes on with an expression that something waits for.
     fn end(&mut self, operand: usize, place: usize, kind: Kind) -> Result<Wanted, JxFault>
-        ensures shown { (fs : List Frame) (x : Derivation) (n : ℕ) → IsShown self.old fs → self.old.depth ≡ depth fs
-            → IsLast self.old.nodes.items operand (tree_of x) → Steps self.new result (moved 128 n place kind (ends place kind (fs, x))) }
+        ensures shown { (fs : List Frame) (x : Derivation) (n : ℕ) → IsShown self.old fs
+            → self.old.depth ≡ depth fs
+            → IsLast self.old.nodes.items operand (tree_of x)
+            → Steps self.new result (moved 128 n place kind (ends place kind (fs, x))) }
     {
         match kind {
             Kind::CloseGroup => self.end_group(operand, place),
@@ -101,8 +111,10 @@ impl Reader {
 
     /// A token behind an expression.
     pub fn behind(&mut self, operand: usize, place: usize, kind: Kind) -> Result<Wanted, JxFault>
-        ensures shown { (fs : List Frame) (x : Derivation) → IsShown self.old fs → self.old.depth ≡ depth fs
-            → IsLast self.old.nodes.items operand (tree_of x) → (kind ≡ kinds.OpenGroup → IsNoName x)
+        ensures shown { (fs : List Frame) (x : Derivation) → IsShown self.old fs
+            → self.old.depth ≡ depth fs
+            → IsLast self.old.nodes.items operand (tree_of x)
+            → (kind ≡ kinds.OpenGroup → IsNoName x)
             → Steps self.new result (moved 128 (depth fs) place kind (had fs x place kind)) }
     {
         match kind {

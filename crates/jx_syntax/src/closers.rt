@@ -4,7 +4,8 @@ ghost use Rattle.jx_tokens.specs.declared.fault.JxFault.TheVariants.{Memory};
 ghost use Rattle.jx_syntax.specs.declared.node.Node.{Node};
 ghost use Rattle.jx_syntax.specs.Grammar.{Derivation};
 ghost use Rattle.jx_syntax.specs.Reading as read;
-ghost use Rattle.jx_syntax.specs.Reading.{ends_group, ends_list, ends_object, goes_on, slices, loops, selects};
+ghost use Rattle.jx_syntax.specs.Reading.{ends_group, ends_list, ends_object, goes_on, slices};
+ghost use Rattle.jx_syntax.specs.Reading.{loops, selects};
 ghost use Rattle.jx_syntax.specs.Tree.{tree_of};
 ghost use Rattle.jx_syntax.specs.Shown.{IsNode, IsItem, IsPart, Ends};
 
@@ -24,7 +25,8 @@ fn looped(
     condition: Option<Condition>,
 ) -> Result<Item, JxFault>
     ensures body { IfOk result (λ i. i.body ≡ item.body) }
-    ensures loops { IfOk result (λ i. i.loops ≡ item.loops ++ record { place = place; name = name; over = over; condition = condition } ∷ []) }
+    ensures loops { IfOk result (λ i. i.loops ≡ item.loops
+        ++ record { place = place; name = name; over = over; condition = condition } ∷ []) }
     ensures memory { IfErr result (λ e. e ≡ Memory) }
 {
     let Item { body, mut loops } = item;
@@ -43,7 +45,8 @@ fn looped(
 /// An item whose last part is this node.
 #[tactic(auto, using(crate::proofs::Nodes::once_is, crate::proofs::Nodes::each_is, crate::proofs::Nodes::each_if_is))]
 fn completed(alloc: Global, part: Part, operand: usize) -> Result<Item, JxFault>
-    ensures shown { IfOk result (λ i. (ns : List Node) (q : read.Part) (x : Derivation) → IsPart ns part q
+    ensures shown { IfOk result (λ i. (ns : List Node) (q : read.Part) (x : Derivation)
+        → IsPart ns part q
         → IsNode ns operand (tree_of x) → IsItem ns i (read.completed q x)) }
     ensures memory { IfErr result (λ e. e ≡ Memory) }
 {

@@ -6,8 +6,8 @@ use crate::node::Node;
 use flow_types::Rows;
 use std::marker::Model;
 
-/// An expression. Contracts see it as its nodes: operands stand before their operators, and the last node is the
-/// whole expression.
+/// An expression. Contracts see it as its nodes: operands stand before their operators, and the
+/// last node is the whole expression.
 ///
 /// Neither reading nor dropping it costs call depth.
 #[derive(Drop)]

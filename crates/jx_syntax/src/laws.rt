@@ -1,6 +1,7 @@
 //! Laws of texts and of the grammar. Nothing runs here.
 ghost use Rattle.jx_syntax.specs.Laws.{NumbersReadBack, TextsReadBack};
-ghost use Rattle.jx_syntax.specs.GrammarLaws.{IsUnambiguous, IsDecided, IsOneOrTheOther, HasOneReason};
+ghost use Rattle.jx_syntax.specs.GrammarLaws.{IsUnambiguous, IsDecided, IsOneOrTheOther};
+ghost use Rattle.jx_syntax.specs.GrammarLaws.{HasOneReason};
 
 /// What is written for a text is read as that text.
 pub fn texts_read_back()

@@ -1,9 +1,10 @@
 //! JX expressions and JX values.
 //!
-//! `parse` reads a text as the expression that the grammar derives from its tokens, or says why there is none.
-//! `value_text` writes a value's text. The laws say that the grammar is unambiguous, that each text is an expression
-//! or is refused for one reason, and that the text of a text and of a number is read again as one token of
-//! `jx_tokens`. What an expression evaluates to isn't here.
+//! `parse` reads a text as the expression that the grammar derives from its tokens, or says why
+//! there is none. `value_text` writes a value's text. The laws say that the grammar is
+//! unambiguous, that each text is an expression or is refused for one reason, and that the text of
+//! a text and of a number is read again as one token of `jx_tokens`. What an expression evaluates
+//! to isn't here.
 #![tactic(auto)]
 
 mod behind;

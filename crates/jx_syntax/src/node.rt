@@ -73,8 +73,8 @@ pub enum Form {
 
 /// A node of an expression.
 ///
-/// Its place is the byte of a name, of a call's name, of an operator, of the `[` of an index or a slice, else the
-/// first byte of what it says.
+/// Its place is the byte of a name, of a call's name, of an operator, of the `[` of an index or a
+/// slice, else the first byte of what it says.
 #[derive(Drop)]
 pub struct Node {
     /// The byte in the text.

@@ -6,7 +6,8 @@ ghost use Rattle.jx_tokens.specs.declared.fault.JxFault.TheVariants.{Memory};
 ghost use Rattle.jx_tokens.specs.Answers.{FailsAs, Gives};
 ghost use Rattle.jx_tokens.specs.Tokens.{scan, scan_of};
 ghost use Rattle.jx_syntax.specs.Grammar.{Derivation, IsWritten, IsNoExpression};
-ghost use Rattle.jx_syntax.specs.Reading.{Frame, State, wants, has, finished, parsed, reading, cut_reading};
+ghost use Rattle.jx_syntax.specs.Reading.{Frame, State, wants, has, finished, parsed, reading};
+ghost use Rattle.jx_syntax.specs.Reading.{cut_reading};
 ghost use Rattle.jx_syntax.specs.Tree.{tree_of, expression_of};
 ghost use Rattle.jx_syntax.specs.Shown.{IsState, IsReduced, IsRead, IsExpression};
 
@@ -37,7 +38,8 @@ impl Reader {
     /// Ends a text of so many bytes.
     fn finish(self, wanted: Wanted, len: usize) -> Result<Expr, JxFault>
         requires state { (st : State) × IsState self wanted st }
-        ensures shown { (st : State) → IsState self wanted st → IsExpression result (finished len st) }
+        ensures shown { (st : State) → IsState self wanted st
+            → IsExpression result (finished len st) }
     {
         let mut reader = self;
         match wanted {
@@ -110,16 +112,20 @@ fn parsed(alloc: Global, text: &[u8]) -> Result<Expr, JxFault>
 
 /// The expression of a text, or its first fault.
 ///
-/// A text of more than 16,777,216 bytes isn't read, and no more than 128 levels may be open at once.
+/// A text of more than 16,777,216 bytes isn't read, and no more than 128 levels may be open at
+/// once.
 pub fn parse(alloc: Global, text: &[u8]) -> Result<Expr, JxFault>
     // What is read is what is written.
-    ensures found { IfOk result (λ e. (d : Derivation) × IsWritten text.now d × (expression_of e ≡ tree_of d)) }
+    ensures found { IfOk result (λ e. (d : Derivation) × IsWritten text.now d
+        × (expression_of e ≡ tree_of d)) }
     // What is written is read, unless memory runs out.
-    ensures written { (d : Derivation) → IsWritten text.now d → Gives expression_of result (Ok (tree_of d)) }
+    ensures written { (d : Derivation) → IsWritten text.now d
+        → Gives expression_of result (Ok (tree_of d)) }
     // A fault is why the text is no expression, or want of memory.
     ensures fault { IfErr result (λ e. (e ≡ Memory) ⊎ IsNoExpression text.now e) }
     // A text that is no expression is refused for that reason, unless memory runs out.
-    ensures refused { (e : JxFault) → IsNoExpression text.now e → Gives expression_of result (Err e) }
+    ensures refused { (e : JxFault) → IsNoExpression text.now e
+        → Gives expression_of result (Err e) }
 {
     parsed(alloc, text)
 }

@@ -1,5 +1,6 @@
 //! The steps of reading that only add a node or something that waits.
-ghost use Rattle.std.specs.Prelude.{◌≡◌, ◌<◌, suc, List, [], ◌∷◌, ◌++◌, length, reverse, IfOk, OnOk, IfErr, Ok};
+ghost use Rattle.std.specs.Prelude.{◌≡◌, ◌<◌, suc, List, [], ◌∷◌, ◌++◌, length, reverse, IfOk};
+ghost use Rattle.std.specs.Prelude.{OnOk, IfErr, Ok};
 ghost use Rattle.jx_tokens.specs.declared.fault.JxFault.TheVariants.{Memory};
 ghost use Rattle.jx_syntax.specs.Grammar.{Derivation};
 ghost use Rattle.jx_syntax.specs.Reading as spec;
@@ -44,7 +45,8 @@ pub fn blamed(place: usize, kind: &Kind) -> JxFault
 impl Reader {
     /// Adds a node, and tells its index.
     pub fn put(&mut self, place: usize, form: Form) -> Result<usize, JxFault>
-        ensures nodes { OnOk result (self.new.nodes.items ≡ self.old.nodes.items ++ record { place = place; form = form } ∷ []) }
+        ensures nodes { OnOk result (self.new.nodes.items ≡ self.old.nodes.items
+            ++ record { place = place; form = form } ∷ []) }
         ensures index { IfOk result (λ i. i ≡ length self.old.nodes.items) }
         ensures stack { self.new.stack ≡ self.old.stack }
         ensures depth { self.new.depth ≡ self.old.depth }
@@ -57,7 +59,8 @@ impl Reader {
 
     /// Adds the node of an expression that was read.
     pub fn done(&mut self, place: usize, form: Form) -> Result<Wanted, JxFault>
-        ensures shown { (fs : List Frame) (d : Derivation) → IsShown self.old fs → self.old.depth ≡ depth fs
+        ensures shown { (fs : List Frame) (d : Derivation) → IsShown self.old fs
+            → self.old.depth ≡ depth fs
             → AreBefore (length self.old.nodes.items) (operands form)
             → form_tree (trees self.old.nodes.items) place form ≡ tree_of d → IsNoName d
             → Steps self.new result (Ok (has fs d)) }
@@ -68,7 +71,8 @@ impl Reader {
 
     /// Lets something wait for an expression.
     pub fn resume(&mut self, pending: Pending) -> Result<Wanted, JxFault>
-        ensures shown { (fs : List Frame) (f : Frame) → IsShown self.old fs → self.old.depth ≡ depth (f ∷ fs)
+        ensures shown { (fs : List Frame) (f : Frame) → IsShown self.old fs
+            → self.old.depth ≡ depth (f ∷ fs)
             → IsFrame self.old.nodes.items pending f → Steps self.new result (Ok (wants (f ∷ fs))) }
     {
         self.stack.push(pending)?;
@@ -77,7 +81,8 @@ impl Reader {
 
     /// Lets something wait for an expression that stands one level deeper.
     pub fn open(&mut self, place: usize, pending: Pending) -> Result<Wanted, JxFault>
-        ensures shown { (fs : List Frame) (f : Frame) → IsShown self.old fs → self.old.depth ≡ depth fs
+        ensures shown { (fs : List Frame) (f : Frame) → IsShown self.old fs
+            → self.old.depth ≡ depth fs
             → depth (f ∷ fs) ≡ suc (depth fs) → IsFrame self.old.nodes.items pending f
             → Steps self.new result (opened 128 (depth fs) place (wants (f ∷ fs))) }
     {

@@ -1,5 +1,6 @@
 use super::*;
 use flow_types::{Rows, Text};
+use jx_tokens::JxFault;
 use std::alloc::Global;
 use std::test::Fail;
 
@@ -81,6 +82,279 @@ fn texts_of_lists_and_objects(rt: HostRuntime) -> Result<(), Fail> {
     assert_eq!(rt;
         value_text(alloc, &object)?.as_str(),
         "{\"b\\\"\":[0,3,6,9],\"a\":null}"
+    );
+    Ok(())
+}
+
+#[test]
+fn texts_that_are_expressions(rt: HostRuntime) -> Result<(), Fail> {
+    let cases: [&[u8]; 62] = [
+        b"null",
+        b"true",
+        b"false",
+        b"0",
+        b"\"a\"",
+        b"a",
+        b"True",
+        b"nul",
+        b"1 # end",
+        b"1#",
+        b"# first\n1",
+        b" \t\r\n1 \n",
+        b"9223372036854775807",
+        b"-9223372036854775808",
+        b"- 9223372036854775808",
+        b"--9223372036854775808",
+        b"1--9223372036854775808",
+        b"(a<b)<c",
+        b"a<b and b<c",
+        b"a==b or c!=d",
+        b"a||b&&!c",
+        b"not not a",
+        b"not a==b",
+        b"!a&&!b",
+        b"a and not b",
+        b"-+-1",
+        b"1+-2*+3",
+        b"1-2-3",
+        b"1/2%3",
+        b"((1))",
+        b"[]",
+        b"[1]",
+        b"[1,]",
+        b"[1,2,3]",
+        b"[[],[[]]]",
+        b"{}",
+        b"{\"a\":1}",
+        b"{\"a\":1,}",
+        b"{\"a\":1,\"a\":2}",
+        b"{\"a\":{\"b\":[]}}",
+        b"f()",
+        b"f(1)",
+        b"f(1,[2],g(3))",
+        b"f (1)",
+        b"a[1]",
+        b"a[1][2]",
+        b"a[:]",
+        b"a[1:]",
+        b"a[:2]",
+        b"a[1:2][0]",
+        b"1[0]",
+        b"\"a\"[0]",
+        b"[1][0]",
+        b"(a)[0]",
+        b"f(1)[0]",
+        b"-a[0]",
+        b"[x for x in y]",
+        b"[x for x in y if z]",
+        b"[x for x in y if z for u in v]",
+        b"[x for x in y,2]",
+        b"[1,x for x in y,]",
+        b"\"\\u00e9\\ud83d\\ude00\"",
+    ];
+    for text in cases.iter() {
+        assert!(rt; !parse(rt.alloc(), *text)?.nodes().is_empty());
+    }
+    Ok(())
+}
+
+#[test]
+fn texts_that_are_none(rt: HostRuntime) {
+    let cases: [(&[u8], JxFault); 97] = [
+        (b"", JxFault::Unexpected(0)),
+        (b"   ", JxFault::Unexpected(3)),
+        (b"# c", JxFault::Unexpected(3)),
+        (b"1 2", JxFault::Unexpected(2)),
+        (b"a b", JxFault::Unexpected(2)),
+        (b"1)", JxFault::Unexpected(1)),
+        (b"1]", JxFault::Unexpected(1)),
+        (b"1}", JxFault::Unexpected(1)),
+        (b"1,2", JxFault::Unexpected(1)),
+        (b"1:2", JxFault::Unexpected(1)),
+        (b"\"\\ud800\"", JxFault::Unexpected(1)),
+        (b"[\"\\udc00\"]", JxFault::Unexpected(2)),
+        (b"\"a\nb\"", JxFault::Unexpected(2)),
+        (b"\"\x00\"", JxFault::Unexpected(1)),
+        (b"\"open", JxFault::OpenText(0)),
+        (b"[1,\"open", JxFault::OpenText(3)),
+        (b"1.", JxFault::Unexpected(1)),
+        (b"1.e5", JxFault::Unexpected(1)),
+        (b"1e5", JxFault::FloatUnsupported(0)),
+        (b"1+2.5", JxFault::FloatUnsupported(2)),
+        (b"9223372036854775808", JxFault::IntTooWide(0)),
+        (b"+9223372036854775808", JxFault::IntTooWide(1)),
+        (b"1-9223372036854775808", JxFault::IntTooWide(2)),
+        (b"-(9223372036854775808)", JxFault::IntTooWide(2)),
+        (b"[9223372036854775808]", JxFault::IntTooWide(1)),
+        (b"-9223372036854775809", JxFault::IntTooWide(1)),
+        (b"1 9223372036854775808", JxFault::IntTooWide(2)),
+        (b"a<b<c", JxFault::Unexpected(3)),
+        (b"a==b!=c", JxFault::Unexpected(4)),
+        (b"a<=b==c", JxFault::Unexpected(4)),
+        (b"a+1<b<c", JxFault::Unexpected(5)),
+        (b"a==not b", JxFault::Unexpected(3)),
+        (b"1+not a", JxFault::Unexpected(2)),
+        (b"-not a", JxFault::Unexpected(1)),
+        (b"- !a", JxFault::Unexpected(2)),
+        (b"1+", JxFault::Unexpected(2)),
+        (b"*1", JxFault::Unexpected(0)),
+        (b"1+*2", JxFault::Unexpected(2)),
+        (b"1//2", JxFault::Unexpected(2)),
+        (b"a=b", JxFault::Unexpected(1)),
+        (b"a===b", JxFault::Unexpected(3)),
+        (b"a|b", JxFault::Unexpected(1)),
+        (b"and", JxFault::Unexpected(0)),
+        (b"a or", JxFault::Unexpected(4)),
+        (b"()", JxFault::Unexpected(1)),
+        (b"(1", JxFault::Unexpected(2)),
+        (b"(1]", JxFault::Unexpected(2)),
+        (b"(1,2)", JxFault::Unexpected(2)),
+        (b"[,]", JxFault::Unexpected(1)),
+        (b"[1,,2]", JxFault::Unexpected(3)),
+        (b"[1 2]", JxFault::Unexpected(3)),
+        (b"[1", JxFault::Unexpected(2)),
+        (b"[1,", JxFault::Unexpected(3)),
+        (b"[1)", JxFault::Unexpected(2)),
+        (b"[1:2]", JxFault::Unexpected(2)),
+        (b"{a:1}", JxFault::Unexpected(1)),
+        (b"{,}", JxFault::Unexpected(1)),
+        (b"{1:2}", JxFault::Unexpected(1)),
+        (b"{\"a\"}", JxFault::Unexpected(4)),
+        (b"{\"a\":}", JxFault::Unexpected(5)),
+        (b"{\"a\":1 \"b\":2}", JxFault::Unexpected(7)),
+        (b"{\"a\":1,,}", JxFault::Unexpected(7)),
+        (b"{\"a\":1", JxFault::Unexpected(6)),
+        (b"{\"a\"+\"b\":1}", JxFault::Unexpected(4)),
+        (b"f(1,)", JxFault::Unexpected(4)),
+        (b"f(,)", JxFault::Unexpected(2)),
+        (b"f(1 2)", JxFault::Unexpected(4)),
+        (b"f(", JxFault::Unexpected(2)),
+        (b"f()()", JxFault::Unexpected(3)),
+        (b"(f)(1)", JxFault::Unexpected(3)),
+        (b"a[0](1)", JxFault::Unexpected(4)),
+        (b"\"f\"(1)", JxFault::Unexpected(3)),
+        (b"f(x for x in y)", JxFault::Unexpected(4)),
+        (b"a[]", JxFault::Unexpected(2)),
+        (b"a[1,2]", JxFault::Unexpected(3)),
+        (b"a[::]", JxFault::Unexpected(3)),
+        (b"a[1:2:3]", JxFault::Unexpected(5)),
+        (b"a[1:", JxFault::Unexpected(4)),
+        (b"x for x in y", JxFault::Unexpected(2)),
+        (b"(x for x in y)", JxFault::Unexpected(3)),
+        (b"[for x in y]", JxFault::Unexpected(1)),
+        (b"[x for 1 in y]", JxFault::Unexpected(7)),
+        (b"[x for x]", JxFault::Unexpected(8)),
+        (b"[x for x in]", JxFault::Unexpected(11)),
+        (b"[x if y]", JxFault::Unexpected(3)),
+        (b"[x for x in y if a if b]", JxFault::Unexpected(19)),
+        (b"[x for x of y]", JxFault::Unexpected(9)),
+        (b"{\"a\":x for x in y}", JxFault::Unexpected(7)),
+        (b"for", JxFault::Unexpected(0)),
+        (b"in", JxFault::Unexpected(0)),
+        (b"1 2 \"", JxFault::Unexpected(2)),
+        (b"[1.5,,", JxFault::FloatUnsupported(1)),
+        (b"1 1.5", JxFault::FloatUnsupported(2)),
+        (b"1+\xff", JxFault::NotUtf8(2)),
+        (b"1 1 \xff", JxFault::Unexpected(2)),
+        (b"\"\xff", JxFault::NotUtf8(1)),
+        (b"1 \xff", JxFault::NotUtf8(2)),
+    ];
+    for (text, fault) in cases.iter() {
+        match parse(rt.alloc(), *text) {
+            Ok(_) => assert!(rt; false),
+            Err(found) => assert_eq!(rt; found, *fault),
+        }
+    }
+}
+
+#[test]
+fn nodes_stand_behind_their_operands(rt: HostRuntime) -> Result<(), Fail> {
+    let expr = parse(rt.alloc(), b"f(a[1:],9-4-2)")?;
+    let nodes = expr.nodes();
+    let places = [2, 4, 3, 8, 10, 9, 12, 11, 0];
+    assert_eq!(rt; nodes.len(), places.len());
+    for (node, place) in nodes.iter().zip(places.iter()) {
+        assert_eq!(rt; node.place, *place);
+    }
+    assert!(rt; matches!(&nodes[0].form, Form::Name(name) if name.as_str() == "a"));
+    assert!(rt; matches!(&nodes[1].form, Form::Number(1)));
+    assert!(rt; matches!(&nodes[2].form, Form::Slice(0, Some(1), None)));
+    assert!(rt; matches!(&nodes[5].form, Form::Operation(Operator::Subtract, 3, 4)));
+    assert!(rt; matches!(&nodes[7].form, Form::Operation(Operator::Subtract, 5, 6)));
+    assert!(rt;
+        matches!(&nodes[8].form, Form::Call(name, given)
+            if name.as_str() == "f" && given.as_slice() == [2, 7].as_slice())
+    );
+    Ok(())
+}
+
+// So many of each of these, one after the other.
+fn repeated(alloc: Global, parts: &[(&[u8], usize)]) -> Result<Vec<u8>, Fail> {
+    let mut text = Vec::new(alloc);
+    for (part, count) in parts.iter() {
+        for _ in 0..*count {
+            text.extend_from_slice(*part)?;
+        }
+    }
+    Ok(text)
+}
+
+#[test]
+fn levels_of_all_kinds_are_counted(rt: HostRuntime) -> Result<(), Fail> {
+    let alloc = rt.alloc();
+    let fits: [&[(&[u8], usize)]; 9] = [
+        &[(b"[", 128), (b"]", 128)],
+        &[(b"(", 128), (b"1", 1), (b")", 128)],
+        &[(b"{\"a\":", 127), (b"{}", 1), (b"}", 127)],
+        &[(b"f(", 128), (b")", 128)],
+        &[(b"a[", 128), (b"1", 1), (b"]", 128)],
+        &[(b"-", 128), (b"1", 1)],
+        &[(b"!", 128), (b"a", 1)],
+        &[(b"[-", 64), (b"1", 1), (b"]", 64)],
+        &[(b"[", 1), (b"-1,", 200), (b"]", 1)],
+    ];
+    for parts in fits.iter() {
+        let text = repeated(alloc, *parts)?;
+        assert!(rt; parse(alloc, &text).is_ok());
+    }
+    let deep: [(&[(&[u8], usize)], JxFault); 12] = [
+        (&[(b"[", 129)], JxFault::TooDeep(128)),
+        (&[(b"(", 129)], JxFault::TooDeep(128)),
+        (&[(b"{\"a\":", 129)], JxFault::TooDeep(640)),
+        (&[(b"f(", 129)], JxFault::TooDeep(257)),
+        (&[(b"a[", 129)], JxFault::TooDeep(257)),
+        (&[(b"-", 129), (b"1", 1)], JxFault::TooDeep(128)),
+        (&[(b"+", 129), (b"1", 1)], JxFault::TooDeep(128)),
+        (&[(b"!", 129), (b"1", 1)], JxFault::TooDeep(128)),
+        (&[(b"[", 65), (b"-", 65)], JxFault::TooDeep(128)),
+        (&[(b"[", 128), (b"-", 1)], JxFault::TooDeep(128)),
+        (&[(b"[", 128), (b"1(", 1)], JxFault::Unexpected(129)),
+        (&[(b"[", 128), (b"*", 1)], JxFault::Unexpected(128)),
+    ];
+    for (parts, fault) in deep.iter() {
+        let text = repeated(alloc, *parts)?;
+        match parse(alloc, &text) {
+            Ok(_) => assert!(rt; false),
+            Err(found) => assert_eq!(rt; found, *fault),
+        }
+    }
+    Ok(())
+}
+
+#[test]
+fn long_texts(rt: HostRuntime) -> Result<(), Fail> {
+    let alloc = rt.alloc();
+    let sum = repeated(alloc, &[(b"1+", 1_000_000), (b"1", 1)])?;
+    assert_eq!(rt; parse(alloc, &sum)?.nodes().len(), 2_000_001);
+    let list = repeated(alloc, &[(b"[", 1), (b"1,", 100_000), (b"]", 1)])?;
+    assert_eq!(rt; parse(alloc, &list)?.nodes().len(), 100_001);
+    let blanks = vec![in alloc; b' '; 16_777_217]?;
+    assert!(rt; matches!(parse(alloc, &blanks), Err(JxFault::TooLarge)));
+    assert!(rt;
+        matches!(
+            parse(alloc, &blanks[1..]),
+            Err(JxFault::Unexpected(16_777_216))
+        )
     );
     Ok(())
 }

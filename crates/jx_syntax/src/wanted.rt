@@ -1,7 +1,8 @@
 //! The steps of reading where an expression is wanted.
 ghost use Rattle.std.specs.Prelude.{◌≡◌, ◌^◌, ◌≤◌, ◌<◌, List, reverse};
 ghost use Rattle.jx_tokens.specs.declared.token.Kind.TheVariants as kind;
-ghost use Rattle.jx_syntax.specs.Reading.{Frame, depth, level, moved, tried, signs, numbered, closes_call, closes_list, begins_slice, wanted};
+ghost use Rattle.jx_syntax.specs.Reading.{Frame, depth, level, moved, tried, signs, numbered};
+ghost use Rattle.jx_syntax.specs.Reading.{closes_call, closes_list, begins_slice, wanted};
 ghost use Rattle.jx_syntax.specs.Shown.{IsShown, Steps};
 
 use crate::levels::{level_of, sign_level};
@@ -42,7 +43,8 @@ impl Reader {
     fn least(&mut self, place: usize, number: u64) -> Result<Wanted, JxFault>
         requires { 2 ^ 63 ≤ number }
         ensures shown { (fs : List Frame) → IsShown self.old fs → self.old.depth ≡ depth fs
-            → Steps self.new result (moved 128 (depth fs) place (kind.Number number) (numbered fs place number)) }
+            → Steps self.new result (moved 128 (depth fs) place (kind.Number number)
+            (numbered fs place number)) }
     {
         let Some(top) = self.stack.pop() else {
             return Err(JxFault::IntTooWide(place));
@@ -62,7 +64,8 @@ impl Reader {
     /// A number.
     fn number(&mut self, place: usize, number: u64) -> Result<Wanted, JxFault>
         ensures shown { (fs : List Frame) → IsShown self.old fs → self.old.depth ≡ depth fs
-            → Steps self.new result (moved 128 (depth fs) place (kind.Number number) (numbered fs place number)) }
+            → Steps self.new result (moved 128 (depth fs) place (kind.Number number)
+            (numbered fs place number)) }
     {
         if number <= MOST {
             self.done(place, Form::Number(number as i64))

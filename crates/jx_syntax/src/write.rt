@@ -1,5 +1,6 @@
 //! Values as texts.
-ghost use Rattle.std.specs.Prelude.{◌≡◌, ◌<◌, ◌++◌, ◌∷◌, [], string_bytes, IfOk, OnOk, if◌then◌else◌};
+ghost use Rattle.std.specs.Prelude.{◌≡◌, ◌<◌, ◌++◌, ◌∷◌, [], string_bytes, IfOk, OnOk};
+ghost use Rattle.std.specs.Prelude.{if◌then◌else◌};
 ghost use Rattle.std.specs.Char.{digit_char};
 ghost use Rattle.std.specs.Fmt.{signed_decimal};
 ghost use Rattle.jx_syntax.specs.Written.{value_text, char_text, quoted};
@@ -65,7 +66,8 @@ fn write_number(out: &mut String, n: i64) -> Result<(), AllocError>
 
 /// The comma before each piece but the first.
 fn separate(out: &mut String, first: bool) -> Result<(), AllocError>
-    ensures { OnOk result (string_bytes out.new ≡ string_bytes out.old ++ (if first then [] else 44 ∷ [])) }
+    ensures { OnOk result (string_bytes out.new ≡ string_bytes out.old
+        ++ (if first then [] else 44 ∷ [])) }
 {
     if first { Ok(()) } else { out.push(',') }
 }
