@@ -1,5 +1,5 @@
 -- The one spelling of each record: a kind byte and a body. Numbers have their highest byte first.
-use Rattle.std.specs.Prelude.{◌≡◌, ◌≤◌, ◌<◌, ◌^◌, ℕ, Option, Some, None, List, [], ◌++◌, length, FitsSigned}
+use Rattle.std.specs.Prelude.{◌≡◌, ◌≤◌, ◌<◌, ◌^◌, ◌+◌, ◌*◌, ℕ, Option, Some, None, List, [], ◌++◌, length, FitsSigned}
 use Rattle.std.specs.List.{AllByRecursion}
 use Rattle.std.specs.Int.{cast_unsigned, w32}
 use Rattle.byteorder.specs.Endian.{big_bytes}
@@ -69,6 +69,10 @@ spelling (Ended moment kind) = big_bytes 1 8 ++ (big_bytes 8 moment ++ end_bytes
 -- contents in one record
 abbrev pub most_contents : ℕ
 most_contents = 65536
+
+-- the most bytes of a spelling: 66 of numbers and a digest, and 40 for each content
+abbrev pub most_spelled : ℕ
+most_spelled = 66 + 40 * most_contents
 
 -- the contents that a record lists
 abbrev pub listed : Record → List Content

@@ -1,7 +1,7 @@
 //! Writing a record.
 ghost use Rattle.std.specs.Prelude.{◌≡◌, ◌≤◌, ◌<◌, ◌^◌, ◌+◌, ◌*◌, ◌++◌, length, take, IfOk, Ok};
 ghost use Rattle.byteorder.specs.Endian.{big_bytes};
-ghost use Rattle.log_records.specs.Spelling.{spelling, limit_bytes, failure_bytes, contents_bytes, most_contents, ListsFew, HasSpelling};
+ghost use Rattle.log_records.specs.Spelling.{spelling, limit_bytes, failure_bytes, contents_bytes, most_contents, most_spelled, ListsFew, HasSpelling};
 ghost use Rattle.log_records.specs.Reading.{record_of};
 
 use crate::placing::{
@@ -53,7 +53,8 @@ fn contents_len(contents: &[Content]) -> usize
 /// The number of bytes of a record's spelling.
 pub fn record_len(entry: &Record) -> usize
     requires { ListsFew entry.now }
-    ensures { result ≡ length (spelling entry.now) }
+    ensures len { result ≡ length (spelling entry.now) }
+    ensures few { result ≤ most_spelled }
 {
     match entry {
         Record::Opened {

@@ -1,0 +1,4 @@
+pub mod Gates
+pub mod Spells
+pub mod Logs
+pub mod Examples
