@@ -1,2 +1,3 @@
-pub mod Gates
 pub mod Entries
+pub mod Gates
+pub mod Growing

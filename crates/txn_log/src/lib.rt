@@ -5,7 +5,9 @@ mod entry;
 mod examples;
 mod fault;
 mod gate;
+mod log;
 
 pub use examples::example_log_is_spelled;
 pub use fault::LogFault;
 pub use gate::{append_behind, write_synced};
+pub use log::Log;
