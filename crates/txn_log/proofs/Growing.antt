@@ -1,5 +1,5 @@
 -- How a log's file spells one record more.
-use Rattle.std.proofs.Common.{Result, Ok, Err, OnOk, ◌≡◌, ◌≢◌, ℕ, ◌+◌, ◌-◌, ◌≤◌, List, [], ◌∷◌, ◌++◌, length, take, Option, Some, None, inl, inr, ◌⊎◌, refl, sym, ◌∙◌, ap, subst, arith, append_assoc, length-append, append-nil}
+use Rattle.std.proofs.Common.{Result, Ok, Err, OnOk, ◌≡◌, ℕ, ◌+◌, ◌-◌, List, [], ◌∷◌, ◌++◌, length, take, Option, Some, None, inl, inr, ◌⊎◌, sym, ◌∙◌, ap, subst, arith, append_assoc, length-append, append-nil}
 use Rattle.std.proofs.lemmas.List.{take_at}
 use Rattle.std.specs.List.{AllByRecursion}
 use Rattle.byte_fields.specs.Spelling.{counted}
@@ -7,10 +7,10 @@ use Rattle.flow_types.specs.declared.records.Record.{Record}
 use Rattle.log_records.specs.Spelling.{spelling, HasSpelling}
 use Rattle.outside.specs.Disk.{Outcomes}
 use Rattle.outside.specs.Files.{Files, content}
-use Rattle.txn_log.specs.Gates.{open_gate, closed_gate, IsClosed, Stands, staged, grown, IsGrown}
-use Rattle.txn_log.specs.Spells.{header, entries, front_of, IsSpelled, IsLogOf}
-use Rattle.txn_log.specs.Logs.{around, IsAt, IsAppended}
-use Rattle.txn_log.proofs.Gates.{front_is, closed_length}
+use Rattle.txn_log.specs.Gates.{open_gate, closed_gate, Stands, staged, grown, IsGrown}
+use Rattle.txn_log.specs.Spells.{header, entries, front_of, IsLogOf}
+use Rattle.txn_log.specs.Logs.{around, IsAppended}
+use Rattle.txn_log.proofs.Gates.{front_is}
 
 -- a file that spells records is their front before a closed gate
 pub stands_of : (records : List Record) (file : Option (List ℕ)) → IsLogOf records file → Stands (front_of records) file
@@ -54,7 +54,7 @@ pub place-push : (records : List Record) (r : Record) (gate : ℕ) → gate ≡ 
     → gate + (around + length (spelling r)) ≡ length (front_of (records ++ r ∷ []))
 place-push records r gate place =
     let long : length (front_of (records ++ r ∷ [])) ≡ length (front_of records) + length (open_gate ∷ counted (spelling r)) =
-      ap length (front-push records r) ∙ length-append (front_of records) (open_gate ∷ counted (spelling r)) in
+    ap length (front-push records r) ∙ length-append (front_of records) (open_gate ∷ counted (spelling r)) in
     omega (arith, long, place)
 
 module _ (records : List Record) (r : Record) (gate : ℕ) (file : Option (List ℕ)) (behind : List ℕ) (place : gate ≡ length (front_of records)) (spelled : IsLogOf records file)
@@ -62,7 +62,7 @@ module _ (records : List Record) (r : Record) (gate : ℕ) (file : Option (List 
   -- the front with the staged entry is the front of the grown list
   front_grown : grown (take gate (content file)) (staged behind) ≡ front_of (records ++ r ∷ [])
   front_grown = ap (λ (l : List ℕ). grown l (staged behind)) (front_at records gate file place spelled)
-    ∙ ap (λ (l : List ℕ). grown (front_of records) l) (staged_entry behind (counted (spelling r)) text) ∙ sym (front-push records r)
+      ∙ ap (λ (l : List ℕ). grown (front_of records) l) (staged_entry behind (counted (spelling r)) text) ∙ sym (front-push records r)
 
   -- a file with the entry
   pub grown_log : (after : Option (List ℕ)) → Stands (grown (take gate (content file)) (staged behind)) after → IsLogOf (records ++ r ∷ []) after
@@ -79,10 +79,10 @@ module _ (records : List Record) (r : Record) (gate : ℕ) (file : Option (List 
     others = step.others;
   }
     where
-    either_log : (after : Option (List ℕ)) → Stands (take gate (content file)) after ⊎ Stands (grown (take gate (content file)) (staged behind)) after
-      → IsLogOf records after ⊎ IsLogOf (records ++ r ∷ []) after
-    either_log after (inl stands) = inl (same_log after stands)
-    either_log after (inr stands) = inr (grown_log after stands)
+      either_log : (after : Option (List ℕ)) → Stands (take gate (content file)) after ⊎ Stands (grown (take gate (content file)) (staged behind)) after
+          → IsLogOf records after ⊎ IsLogOf (records ++ r ∷ []) after
+      either_log after (inl stands) = inl (same_log after stands)
+      either_log after (inr stands) = inr (grown_log after stands)
 
 -- the file before the gate, in terms of the file itself
 pub stands_at : (records : List Record) (gate : ℕ) (file after : Option (List ℕ)) → gate ≡ length (front_of records) → IsLogOf records file → IsLogOf records after

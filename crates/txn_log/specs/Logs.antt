@@ -40,6 +40,10 @@ pub record IsWithin (log : LogState) : Type 0 where
 abbrev pub IsFine : LogState → Type 0
 IsFine log = log.trouble ≡ None
 
+-- It has a place for one more.
+abbrev pub TakesOne : LogState → Type 0
+TakesOne log = IsFine log × (log.count < most_records)
+
 -- An append of a record with so long a spelling takes no memory.
 abbrev pub HasRoom : LogState → ℕ → Type 0
 HasRoom log bytes = around + bytes ≤ log.room
@@ -69,12 +73,12 @@ told_of outer.Memory = faults.Memory
 pub record Troubles (log : LogState) (fault : Fault) (after : LogState) : Type 0 where
   pub wide : log.room ≤ after.room
   pub then : after ≡ record log { room = after.room; trouble = Some fault }
-  pub was : ((log.trouble ≡ Some fault) × (after ≡ log)) ⊎ (IsFine log × (log.count < most_records))
+  pub was : ((log.trouble ≡ Some fault) × (after ≡ log)) ⊎ TakesOne log
 
 -- How an append ends. A log in trouble answers its fault, and one with the most records is full; both stay as they are.
 -- Otherwise the log counts the record, and its gate stands behind it, or it is in trouble from then on.
 abbrev pub Appends : {T : Type 0} → LogState → Record → Result T LogFault → LogState → Type 0
-Appends log r (Ok done) after = IsFine log × (log.count < most_records) × (log.room ≤ after.room)
+Appends log r (Ok done) after = TakesOne log × (log.room ≤ after.room)
     × (after ≡ record log { count = log.count + 1; gate = log.gate + (around + length (spelling r)); room = after.room })
 Appends log r (Err faults.Full) after = IsFine log × (log.count ≡ most_records) × (after ≡ log)
 Appends log r (Err faults.Site) after = Troubles log outer.Failed after

@@ -67,7 +67,7 @@ pub(crate) fn put_entry<S: Site>(
         → IsAt (records ++ entry.now ∷ []) (gate + (around + length (spelling entry.now))) (S.may_leave site.new name.now)) }
     ensures any_moment { S.tells → (records : List Record) → IsAt records gate (S.may_leave site.old name.now)
         → LeavesOnly S.moment S.images_since site.old site.new
-            (IsAppended name.now records entry.now (S.may_leave site.old)) }
+        (IsAppended name.now records entry.now (S.may_leave site.old)) }
     ensures others { S.tells → (m : List ℕ) → m ≢ name.now → S.files site.new m ≡ S.files site.old m }
     ensures crash { S.tells → (m : List ℕ) (file : Option (List ℕ)) → m ≢ name.now
         → S.may_leave site.new m file → S.may_leave site.old m file }

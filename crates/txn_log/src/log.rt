@@ -1,9 +1,9 @@
 //! The log of a run.
-ghost use Rattle.std.specs.Prelude.{◌≡◌, ◌≢◌, ◌≤◌, ◌<◌, ◌+◌, ◌-◌, ◌^◌, ◌++◌, ◌∷◌, [], List, ℕ, length, Option, Some, None, OnOk, OnErr, IsErrOf};
+ghost use Rattle.std.specs.Prelude.{◌≡◌, ◌≢◌, ◌≤◌, ◌<◌, ◌↔◌, ◌-◌, ◌^◌, ◌++◌, ◌∷◌, [], List, ℕ, length, Option, Some, None, OnOk, OnErr, IsErrOf};
 ghost use Rattle.flow_types.specs.declared.records.Record.{Record};
 ghost use Rattle.log_records.specs.Spelling.{spelling, ListsFew};
 ghost use Rattle.outside.specs.Disk.{LeavesOnly};
-ghost use Rattle.txn_log.specs.Logs.{IsFine, IsLog, IsAppended, HasRoom, Appends, most_records, farthest};
+ghost use Rattle.txn_log.specs.Logs.{IsFine, TakesOne, IsLog, IsAppended, HasRoom, Appends, told_of, most_records, farthest};
 
 use crate::entry::{AROUND, put_entry, widen};
 use crate::fault::LogFault;
@@ -41,6 +41,15 @@ impl Model for Log {
     ghost view = { λ l. record { name = l.name; count = l.count; gate = l.gate; room = length l.buffer.items; trouble = l.trouble } };
 
     ghost invariant = { λ l. IsWithin (record { name = l.name; count = l.count; gate = l.gate; room = length l.buffer.items; trouble = l.trouble }) };
+}
+
+fn told(fault: Fault) -> LogFault
+    ensures { result ≡ told_of fault }
+{
+    match fault {
+        Fault::Failed => LogFault::Site,
+        Fault::Memory => LogFault::Memory,
+    }
 }
 
 impl Log {
@@ -82,5 +91,57 @@ impl Log {
         ensures unchanged { OnErr result (self.new ≡ self.old) }
     {
         widen(self.alloc, &mut self.buffer, AROUND + bytes as usize)
+    }
+
+    /// Appends a record behind the closed gate.
+    ///
+    /// At Ok each crash leaves a log that has it. At any moment before, a crash leaves the records that the log had, or
+    /// these and the new one.
+    pub fn append<S: Site>(&mut self, site: &mut S, entry: &Record) -> Result<(), LogFault>
+        requires few { ListsFew entry.now }
+        requires stands { S.tells → TakesOne self.old
+            → (records : List Record) × IsLog self.old records (S.may_leave site.old) }
+        ensures answer { Appends self.old entry.now result self.new }
+        ensures full { IsErrOf result LogFault.Full ↔ (IsFine self.old × (self.old.count ≡ most_records)) }
+        ensures done { OnOk result (S.tells → (records : List Record) → IsLog self.old records (S.may_leave site.old)
+            → IsLog self.new (records ++ entry.now ∷ []) (S.may_leave site.new)) }
+        ensures any_moment { S.tells → (records : List Record) → IsLog self.old records (S.may_leave site.old)
+            → LeavesOnly S.moment S.images_since site.old site.new
+            (IsAppended self.old.name records entry.now (S.may_leave site.old)) }
+        ensures others { S.tells → (m : List ℕ) → m ≢ self.old.name → S.files site.new m ≡ S.files site.old m }
+        ensures crash { S.tells → (m : List ℕ) (file : Option (List ℕ)) → m ≢ self.old.name
+            → S.may_leave site.new m file → S.may_leave site.old m file }
+        ensures untouched { (TakesOne self.old → ⊥) → site.new ≡ site.old }
+        ensures later { S.count site.old ≤ S.count site.new }
+        ensures cause { IsFine self.old → IsErrOf result LogFault.Site → S.count site.old < S.count site.new }
+        ensures never { S.ample site.old → IsFine self.old → HasRoom self.old (length (spelling entry.now))
+            → IsErrOf result LogFault.Memory → ⊥ }
+        ensures stays { S.ample site.old → OnOk result (S.ample site.new) }
+        ensures goes_on { S.ample site.old → S.count site.new < 2 ^ 64 - 1 → S.ample site.new }
+    {
+        if let Some(fault) = self.trouble {
+            return Err(told(fault));
+        }
+        if self.count == MOST_RECORDS {
+            return Err(LogFault::Full);
+        }
+        match put_entry(
+            self.alloc,
+            site,
+            &self.name,
+            self.gate,
+            &mut self.buffer,
+            entry,
+        ) {
+            Ok(()) => {
+                self.count += 1;
+                self.gate += (AROUND + record_len(entry)) as u64;
+                Ok(())
+            }
+            Err(fault) => {
+                self.trouble = Some(fault);
+                Err(told(fault))
+            }
+        }
     }
 }
