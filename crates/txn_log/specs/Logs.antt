@@ -10,7 +10,7 @@ use Rattle.txn_log.specs.declared.fault.LogFault.{LogFault}
 use Rattle.txn_log.specs.declared.fault.LogFault.TheVariants as faults
 use Rattle.txn_log.specs.Spells.{front_of, IsLogOf}
 
--- the records that a log may have
+-- The records that an append may make of a log. One that has as many, or more, is full.
 abbrev pub most_records : ℕ
 most_records = 1000000
 
@@ -31,10 +31,9 @@ around = 5
 abbrev pub farthest : ℕ → ℕ
 farthest count = 8 + count * (around + most_spelled)
 
--- What holds of each log: it has not too many records, and its gate is no farther than they can put it.
-pub record IsWithin (log : LogState) : Type 0 where
-  pub few : log.count ≤ most_records
-  pub near : log.gate ≤ farthest log.count
+-- What holds of each log: its gate is no farther than its records can put it.
+abbrev pub IsWithin : LogState → Type 0
+IsWithin log = log.gate ≤ farthest log.count
 
 -- The log takes records.
 abbrev pub IsFine : LogState → Type 0
@@ -75,11 +74,11 @@ pub record Troubles (log : LogState) (fault : Fault) (after : LogState) : Type 0
   pub then : after ≡ record log { room = after.room; trouble = Some fault }
   pub was : ((log.trouble ≡ Some fault) × (after ≡ log)) ⊎ TakesOne log
 
--- How an append ends. A log in trouble answers its fault, and one with the most records is full; both stay as they are.
+-- How an append ends. A log in trouble answers its fault, and one with the most records or more is full; both stay as they are.
 -- Otherwise the log counts the record, and its gate stands behind it, or it is in trouble from then on.
 abbrev pub Appends : {T : Type 0} → LogState → Record → Result T LogFault → LogState → Type 0
 Appends log r (Ok done) after = TakesOne log × (log.room ≤ after.room)
     × (after ≡ record log { count = log.count + 1; gate = log.gate + (around + length (spelling r)); room = after.room })
-Appends log r (Err faults.Full) after = IsFine log × (log.count ≡ most_records) × (after ≡ log)
+Appends log r (Err faults.Full) after = IsFine log × (most_records ≤ log.count) × (after ≡ log)
 Appends log r (Err faults.Site) after = Troubles log outer.Failed after
 Appends log r (Err faults.Memory) after = Troubles log outer.Memory after

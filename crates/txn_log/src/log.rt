@@ -13,7 +13,7 @@ use outside::{Fault, Site};
 use std::alloc::Global;
 use std::marker::Model;
 
-/// The records that a log may have.
+/// The records that an append may make of a log.
 const MOST_RECORDS: u32 = 1_000_000;
 
 /// A log that stands on a site.
@@ -55,8 +55,7 @@ fn told(fault: Fault) -> LogFault
 impl Log {
     /// The log under this name, which has so many records and its closed gate at this place.
     pub fn at(alloc: Global, name: Name, count: u32, gate: u64) -> Log
-        requires few { count ≤ most_records }
-        requires near { gate ≤ farthest count }
+        requires { gate ≤ farthest count }
         ensures { result ≡ record { name = «name»; count = count; gate = gate; room = 0; trouble = None } }
     {
         Log {
@@ -102,7 +101,7 @@ impl Log {
         requires stands { S.tells → TakesOne self.old
             → (records : List Record) × IsLog self.old records (S.may_leave site.old) }
         ensures answer { Appends self.old entry.now result self.new }
-        ensures full { IsErrOf result LogFault.Full ↔ (IsFine self.old × (self.old.count ≡ most_records)) }
+        ensures full { IsErrOf result LogFault.Full ↔ (IsFine self.old × (most_records ≤ self.old.count)) }
         ensures done { OnOk result (S.tells → (records : List Record) → IsLog self.old records (S.may_leave site.old)
             → IsLog self.new (records ++ entry.now ∷ []) (S.may_leave site.new)) }
         ensures any_moment { S.tells → (records : List Record) → IsLog self.old records (S.may_leave site.old)
@@ -122,7 +121,7 @@ impl Log {
         if let Some(fault) = self.trouble {
             return Err(told(fault));
         }
-        if self.count == MOST_RECORDS {
+        if self.count >= MOST_RECORDS {
             return Err(LogFault::Full);
         }
         match put_entry(

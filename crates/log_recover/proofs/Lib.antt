@@ -1,0 +1,5 @@
+pub mod Begins
+pub mod Heads
+pub mod Quiets
+pub mod Scans
+pub mod Sizes
