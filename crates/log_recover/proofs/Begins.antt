@@ -1,9 +1,9 @@
 -- A log that is begun anew.
-use Rattle.std.proofs.Common.{Result, Ok, Err, OnOk, ◌≡◌, ◌≢◌, ◌≤◌, ℕ, ◌+◌, List, [], ◌∷◌, ◌++◌, length, take, drop, Option, Some, None, refl, sym, ap, subst, ◌∙◌, arith}
+use Rattle.std.proofs.Common.{Result, Ok, Err, OnOk, ◌≡◌, ℕ, List, [], ◌∷◌, ◌++◌, Option, Some, None, refl, sym, ap, subst, ◌∙◌, arith}
 use Rattle.outside.specs.Disk.{IsTorn, IsShortened}
 use Rattle.outside.specs.Files.{content, written}
 use Rattle.txn_log.specs.Gates.{closed_gate}
-use Rattle.txn_log.specs.Spells.{header, IsUnbegun, IsLogOf, front_of}
+use Rattle.txn_log.specs.Spells.{header, IsUnbegun, IsLogOf}
 
 pub unbegun_cut : (before after : Option (List ℕ)) → IsUnbegun before → IsShortened 0 before after → IsUnbegun after
 unbegun_cut None None short step = tt
@@ -21,7 +21,7 @@ unbegun_torn (Some old) (Some new) short step = omega (arith, short, step.no_lon
 pub begun_log : (old new : Option (List ℕ)) → content old ≡ [] → new ≡ Some (written 0 (header ++ closed_gate ∷ []) (content old)) → IsLogOf [] new
 begun_log old new empty is =
     subst (λ (file : Option (List ℕ)). IsLogOf [] file) (sym (is ∙ ap (λ (l : List ℕ). Some (written 0 (header ++ closed_gate ∷ []) l)) empty))
-      record { fit = tt; closed = record { gate = 0; rest = []; shut = λ (e : 0 ≡ 1). absurd (cc); split = refl } }
+    record { fit = tt; closed = record { gate = 0; rest = []; shut = λ (e : 0 ≡ 1). absurd (cc); split = refl } }
 
 pub both_ok : {T E A B C : Type 0} (result : Result T E) → (A → B → C) → OnOk result A → OnOk result B → OnOk result C
 both_ok (Ok x) f a b = f a b

@@ -1,5 +1,5 @@
 -- What the first five bytes at a gate tell.
-use Rattle.std.proofs.Common.{inl, inr, nat_lt, length-drop, ◌≡◌, ◌≢◌, ◌≤◌, ◌<◌, ℕ, ◌+◌, ◌-◌, ◌^◌, List, [], ◌∷◌, ◌++◌, length, get_or, take, drop, Option, Some, None, Result, Ok, Err, refl, sym, ap, subst, ◌∙◌, arith, length-append, length-take, append_assoc, append-nil, take-append-drop}
+use Rattle.std.proofs.Common.{inl, inr, nat_lt, length-drop, ◌≡◌, ◌≤◌, ◌<◌, ℕ, ◌+◌, ◌^◌, List, [], ◌∷◌, ◌++◌, length, get_or, take, drop, Some, None, Ok, Err, sym, ap, subst, ◌∙◌, arith, length-append, length-take, append_assoc, append-nil, take-append-drop}
 use Rattle.std.proofs.lemmas.List.{nil_from_length, drop-drop, take_at, take_all}
 use Rattle.std.proofs.lemmas.Bool.{cases_eq, ltb-true}
 use Rattle.byteorder.specs.Endian.{big_number}
@@ -8,11 +8,10 @@ use Rattle.byte_fields.proofs.Prompt.{guard_err}
 use Rattle.byteorder.specs.Endian.{big_bytes}
 use Rattle.byte_fields.specs.declared.fault.FieldFault.{FieldFault}
 use Rattle.byte_fields.specs.Laws.{IsBytes}
-use Rattle.byte_fields.specs.Spelling.{counted}
 use Rattle.byte_fields.specs.Reading.{number_at}
 use Rattle.byte_fields.proofs.Fields.{u32_is_field, ok_is}
 use Rattle.flow_types.specs.declared.records.Record.{Record}
-use Rattle.log_records.specs.Spelling.{spelling, HasSpelling, most_spelled}
+use Rattle.log_records.specs.Spelling.{spelling, most_spelled}
 use Rattle.txn_log.specs.Gates.{open_gate}
 use Rattle.outside.specs.Files.{Reads}
 use Rattle.log_recover.specs.Steps.{IsShut, IsShort, IsHead, BeginsSo, IsEntry, IsBroken, IsBody}
@@ -83,7 +82,7 @@ front_read bytes at old new count five reads =
     front ∙ elim (cases_eq count 5) [
       | inl five_read ↦ ap (λ (n : ℕ). take n tail) five_read
       | inr other ↦ let all : length tail ≤ count = omega (arith, reads.least, length-drop at bytes, five, other) in
-        take_all count tail all ∙ sym (take_all 5 tail (omega (arith, few, all, reads.least, five)))
+          take_all count tail all ∙ sym (take_all 5 tail (omega (arith, few, all, reads.least, five)))
     ]
 
 pub begins_of : (bytes : List ℕ) (at : ℕ) (old new : List ℕ) (count : ℕ) (head : Head) → length old ≡ 5 → Reads bytes at old new count → IsHead (take count new) head
@@ -97,7 +96,7 @@ entry_same : (tail rest : List ℕ) (len : ℕ) (r : Record) (more : List ℕ) �
 entry_same tail rest len r more fit is entry =
     let n = length (spelling r) in
     let same : big_bytes 4 n ++ (spelling r ++ more) ≡ big_bytes 4 len ++ rest =
-      sym (append_assoc (big_bytes 4 n) (spelling r) more) ∙ cons_tail _ _ _ _ (sym entry.text ∙ is) in
+    sym (append_assoc (big_bytes 4 n) (spelling r) more) ∙ cons_tail _ _ _ _ (sym entry.text ∙ is) in
     let both = ok_is _ _ (sym (u32_is_field.again n (spelling r ++ more) (omega (arith, spelled_few r entry.fits))) ∙ ap (number_at 4) same ∙ u32_is_field.again len rest fit) in
     (ap (λ (p : ℕ × List ℕ). p.0) both, sym (ap (λ (p : ℕ × List ℕ). p.1) both))
 
@@ -128,9 +127,8 @@ module _ (tail rest : List ℕ) (len : ℕ) (fit : len < 2 ^ 32) (is : tail ≡ 
   entry_of bytes at r here body = record {
     fits = body.0;
     text = is ∙ ap (λ (l : List ℕ). open_gate ∷ l)
-      (ap (λ (l : List ℕ). big_bytes 4 len ++ l) (sym here ∙ sym (take-append-drop len (drop at bytes)) ∙ ap (λ (l : List ℕ). l ++ drop len (drop at bytes)) body.2
+        (ap (λ (l : List ℕ). big_bytes 4 len ++ l) (sym here ∙ sym (take-append-drop len (drop at bytes)) ∙ ap (λ (l : List ℕ). l ++ drop len (drop at bytes)) body.2
         ∙ ap (λ (l : List ℕ). spelling r ++ l) (drop-drop len at bytes))
-      ∙ ap (λ (n : ℕ). big_bytes 4 n ++ (spelling r ++ drop (at + len) bytes)) (sym body.1)
-      ∙ sym (append_assoc (big_bytes 4 (length (spelling r))) (spelling r) (drop (at + len) bytes)));
+        ∙ ap (λ (n : ℕ). big_bytes 4 n ++ (spelling r ++ drop (at + len) bytes)) (sym body.1)
+        ∙ sym (append_assoc (big_bytes 4 (length (spelling r))) (spelling r) (drop (at + len) bytes)));
   }
-

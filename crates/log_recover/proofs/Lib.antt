@@ -1,5 +1,6 @@
 pub mod Begins
 pub mod Heads
 pub mod Quiets
+pub mod Recoveries
 pub mod Scans
 pub mod Sizes

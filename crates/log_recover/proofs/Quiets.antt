@@ -17,7 +17,7 @@ module _ {D : Type 0} (files : D → Files) (may_leave : D → Outcomes) (moment
     same = same;
     within = within;
     any_moment = goes_on moment images_since old old new (IsImage (may_leave old)) (may_leave new) (started moment images_since old (IsImage (may_leave old)) only_now) time
-      (λ image now name. within name (image name) (now name));
+        (λ image now name. within name (image name) (now name));
   }
 
   -- one after another
@@ -27,7 +27,7 @@ module _ {D : Type 0} (files : D → Files) (may_leave : D → Outcomes) (moment
     same = second.same ∙ first.same;
     within = λ name entry left. first.within name entry (second.within name entry left);
     any_moment = joined moment images_since old mid new (IsImage (may_leave old)) (IsImage (may_leave mid)) (IsImage (may_leave old)) first.any_moment second.any_moment
-      (λ image was. was) (λ image now name. first.within name (image name) (now name));
+        (λ image was. was) (λ image now name. first.within name (image name) (now name));
   }
 
   -- a call that makes no new outcome, whatever reads give after it

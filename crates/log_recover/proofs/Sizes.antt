@@ -1,7 +1,6 @@
 -- How long a record's spelling can be.
-use Rattle.std.proofs.Common.{◌≡◌, ◌≤◌, ◌<◌, ℕ, ◌+◌, ◌*◌, List, [], ◌∷◌, ◌++◌, length, Option, Some, None, refl, sym, ap, ◌∙◌, arith, length-append, flat_map}
+use Rattle.std.proofs.Common.{◌≡◌, ◌≤◌, ℕ, ◌+◌, ◌*◌, List, [], ◌∷◌, ◌++◌, length, Option, Some, None, refl, arith, length-append, flat_map}
 use Rattle.std.specs.List.{AllByRecursion}
-use Rattle.byteorder.specs.Endian.{big_bytes}
 use Rattle.flow_types.specs.declared.numbers.Content.{Content}
 use Rattle.flow_types.specs.declared.job.Failure.{Failure}
 use Rattle.flow_types.specs.declared.job.Failure.TheVariants.{Status, MissingOutput, TooLong}
@@ -38,8 +37,14 @@ end_few Cleaned = omega arith
 
 pub spelled_few : (r : Record) → HasSpelling r → length (spelling r) ≤ most_spelled
 spelled_few (Opened moment run retries limit plan sources) fits =
-    omega (arith, limit_few limit, contents_few sources fits.1.1.1, fits.1.1.0.0, length-append (limit_bytes limit) (plan.0 ++ contents_bytes sources),
-      length-append plan.0 (contents_bytes sources))
+    omega (
+      arith,
+      limit_few limit,
+      contents_few sources fits.1.1.1,
+      fits.1.1.0.0,
+      length-append (limit_bytes limit) (plan.0 ++ contents_bytes sources),
+      length-append plan.0 (contents_bytes sources),
+    )
 spelled_few (Resumed moment run retries limit) fits = omega (arith, limit_few limit)
 spelled_few (Started moment rule attempt link) fits = omega arith
 spelled_few (Done moment rule attempt outs) fits = omega (arith, contents_few outs fits.1.1)

@@ -66,6 +66,14 @@ Recovers file (Err (BadRecord at)) = HasBadRecord file at
 Recovers file (Err Site) = Unit {0}
 Recovers file (Err Memory) = Unit {0}
 
+-- The answer says that something is wrong with the bytes.
+abbrev pub IsDamage : Result (LogState × List Record) RecoverFault → Type 0
+IsDamage (Ok p) = ⊥
+IsDamage (Err BadHeader) = Unit {0}
+IsDamage (Err (BadRecord at)) = Unit {0}
+IsDamage (Err Site) = ⊥
+IsDamage (Err Memory) = ⊥
+
 -- The log that is answered is the one under this name, has as many records as the list, and takes records.
 pub record IsNamed (name : List ℕ) (p : LogState × List Record) : Type 0 where
   pub same_name : p.0.name ≡ name

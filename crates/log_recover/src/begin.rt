@@ -45,11 +45,7 @@ fn begin<S: Site>(site: &mut S, name: &Name) -> Result<(), Fault>
 }
 
 /// Begins a log anew that is absent or not begun. `size` is how long its file is, where there is one.
-pub(crate) fn begin_anew<S: Site>(
-    site: &mut S,
-    name: &Name,
-    size: Option<u64>,
-) -> Result<(), Fault>
+pub(crate) fn begin_anew<S: Site>(site: &mut S, name: &Name, size: Option<u64>) -> Result<(), Fault>
     requires size { S.tells → size ≡ option_map length (S.files site.old name.now) }
     requires short { S.tells → (file : Option (List ℕ)) → S.may_leave site.old name.now file → IsUnbegun file }
     ensures begun { OnOk result (S.tells → (file : Option (List ℕ)) → S.may_leave site.new name.now file → IsLogOf [] file) }

@@ -5,9 +5,10 @@ mod begin;
 mod fault;
 mod found;
 mod read;
-mod recover;
+mod recovery;
 mod scan;
 mod settle;
 mod step;
 
 pub use fault::RecoverFault;
+pub use recovery::recover;

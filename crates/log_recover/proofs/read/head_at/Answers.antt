@@ -1,4 +1,4 @@
-use Rattle.std.proofs.Common.{◌≡◌, ℕ, List, refl}
+use Rattle.std.proofs.Common.{refl}
 use Rattle.log_recover.proofs.Heads.{begins_of}
 use Rattle.log_recover.proofs.read.head_at.Goals as goal
 

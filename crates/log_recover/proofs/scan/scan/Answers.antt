@@ -1,4 +1,4 @@
-use Rattle.std.proofs.Common.{rules, ◌+◌, length-append, ◌≡◌, ◌≤◌, ◌<◌, ◌^◌, ◌++◌, ◌∷◌, [], List, ℕ, Option, length, take, ap, sym, subst, ◌∙◌, arith}
+use Rattle.std.proofs.Common.{◌+◌, length-append, ◌≡◌, ◌++◌, ◌∷◌, [], List, length, ap, sym, subst, ◌∙◌, arith}
 use Rattle.flow_types.specs.declared.records.Record.{Record}
 use Rattle.outside.specs.Files.{Files, content}
 use Rattle.txn_log.specs.Logs.{farthest}
@@ -7,7 +7,7 @@ use Rattle.log_recover.specs.declared.step.Step.{Step}
 use Rattle.log_recover.specs.declared.step.Step.TheVariants.{Entry}
 use Rattle.log_recover.specs.Recovery.{IsRead}
 use Rattle.log_recover.proofs.Quiets.{quiet_start, quiet_joined}
-use Rattle.log_recover.proofs.Scans.{read_start, read_more, read_closed, read_bad}
+use Rattle.log_recover.proofs.Scans.{read_start, read_more}
 use Rattle.log_recover.proofs.scan.scan.Goals as goal
 
 pub loop-records-init : goal.loop-records-init
@@ -17,7 +17,7 @@ loop-records-init g c = record {
   within = c.requires.long;
   read = λ told. subst (λ (rs : List Record). IsRead (content (g.S.Site.files c.args.site.now c.args.name.now)) rs 8) (sym c.new-records.ensures) (read_start _ (c.requires.header told));
   quiet = λ told. quiet_start g.S.Site.files g.S.Site.may_leave g.S.Site.moment g.S.Site.images_since c.args.site.now
-    (λ image left. (g.met.S.Site g.world.𝓛 g.world.𝓜 g.world.𝓡 ((λ s x. x), (λ x. x), (λ x. x), λ x. x)).only_now told c.args.site.now image left);
+      (λ image left. (g.met.S.Site g.world.𝓛 g.world.𝓜 g.world.𝓡 ((λ s x. x), (λ x. x), (λ x. x), λ x. x)).only_now told c.args.site.now image left);
   later = omega arith;
 }
 
@@ -38,13 +38,13 @@ loop-records-preserved g c =
       few = c.in_ok-keep-in-Entry.ensures.few;
       within = ends.1;
       read = λ told.
-        let bytes = content (g.S.Site.files c.args.site.now c.args.name.now) in
-        let there : Stands (content (g.S.Site.files c.loop-records.site c.args.name.now)) c.loop-records.at entry =
+          let bytes = content (g.S.Site.files c.args.site.now c.args.name.now) in
+          let there : Stands (content (g.S.Site.files c.loop-records.site c.args.name.now)) c.loop-records.at entry =
           subst (λ (s : Step). Stands (content (g.S.Site.files c.loop-records.site c.args.name.now)) c.loop-records.at s) c.in-Entry.is (step.step told) in
-        let here : Stands bytes c.loop-records.at entry = subst (λ (f : Files). Stands (content (f c.args.name.now)) c.loop-records.at entry) (c.loop-records.invariant.quiet told).same there in
-        subst (λ (rs : List Record). IsRead bytes rs c.in-Entry.end) (sym added)
+          let here : Stands bytes c.loop-records.at entry = subst (λ (f : Files). Stands (content (f c.args.name.now)) c.loop-records.at entry) (c.loop-records.invariant.quiet told).same there in
+          subst (λ (rs : List Record). IsRead bytes rs c.in-Entry.end) (sym added)
           (read_more bytes c.loop-records.records c.in-Entry.record c.loop-records.at c.in-Entry.end (omega (arith, ends.1, c.requires.size told)) (c.loop-records.invariant.read told) here);
       quiet = λ told. quiet_joined g.S.Site.files g.S.Site.may_leave g.S.Site.moment g.S.Site.images_since c.args.site.now c.loop-records.site c.entry_at.new.site
-        (c.loop-records.invariant.quiet told) (step.quiet told);
+          (c.loop-records.invariant.quiet told) (step.quiet told);
       later = omega (arith, c.loop-records.invariant.later, step.cause.later);
     }

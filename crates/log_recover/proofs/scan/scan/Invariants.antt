@@ -1,4 +1,4 @@
-use Rattle.std.proofs.Common.{◌≡◌, ◌≤◌, ◌<◌, ◌^◌, ◌-◌, List, ℕ, length}
+use Rattle.std.proofs.Common.{◌≤◌, ◌<◌, ◌^◌, ◌-◌, length}
 use Rattle.outside.specs.Files.{content}
 use Rattle.txn_log.specs.Logs.{farthest}
 use Rattle.log_recover.specs.Quiet.{IsQuiet}
