@@ -22,10 +22,10 @@ use Rattle.log_recover.proofs.Sizes.{spelled_few}
 nil_cons : (x : ℕ) (xs : List ℕ) → [] ≡ x ∷ xs → ⊥
 nil_cons x xs e = cc
 
-cons_tail : (x y : ℕ) (xs ys : List ℕ) → x ∷ xs ≡ y ∷ ys → xs ≡ ys
+pub cons_tail : (x y : ℕ) (xs ys : List ℕ) → x ∷ xs ≡ y ∷ ys → xs ≡ ys
 cons_tail x y xs ys e = ap (λ (l : List ℕ). drop 1 l) e
 
-cons_head : (x y : ℕ) (xs ys : List ℕ) → x ∷ xs ≡ y ∷ ys → x ≡ y
+pub cons_head : (x y : ℕ) (xs ys : List ℕ) → x ∷ xs ≡ y ∷ ys → x ≡ y
 cons_head x y xs ys e = ap (λ (l : List ℕ). get_or l 0 0) e
 
 -- a whole number and nothing more
@@ -91,7 +91,7 @@ begins_of bytes at old new count head five reads is =
     begins_at bytes at head (begins_tail (drop at bytes) head (subst (λ (l : List ℕ). IsHead l head) (front_read bytes at old new count five reads) is))
 
 -- what stands behind a length is fixed
-entry_same : (tail rest : List ℕ) (len : ℕ) (r : Record) (more : List ℕ) → len < 2 ^ 32 → tail ≡ open_gate ∷ (big_bytes 4 len ++ rest) → IsEntry r tail more
+pub entry_same : (tail rest : List ℕ) (len : ℕ) (r : Record) (more : List ℕ) → len < 2 ^ 32 → tail ≡ open_gate ∷ (big_bytes 4 len ++ rest) → IsEntry r tail more
     → (length (spelling r) ≡ len) × (rest ≡ spelling r ++ more)
 entry_same tail rest len r more fit is entry =
     let n = length (spelling r) in

@@ -4,3 +4,4 @@ pub mod Quiets
 pub mod Recoveries
 pub mod Scans
 pub mod Sizes
+pub mod Unique

@@ -1,3 +1,4 @@
 pub mod Steps
 pub mod Quiet
 pub mod Recovery
+pub mod Laws

@@ -66,6 +66,14 @@ Recovers file (Err (BadRecord at)) = HasBadRecord file at
 Recovers file (Err Site) = Unit {0}
 Recovers file (Err Memory) = Unit {0}
 
+-- The answer is these records, or a fault of the site, or want of memory.
+abbrev pub IsThese : List Record → Result (LogState × List Record) RecoverFault → Type 0
+IsThese records (Ok p) = p.1 ≡ records
+IsThese records (Err BadHeader) = ⊥
+IsThese records (Err (BadRecord at)) = ⊥
+IsThese records (Err Site) = Unit {0}
+IsThese records (Err Memory) = Unit {0}
+
 -- The answer says that something is wrong with the bytes.
 abbrev pub IsDamage : Result (LogState × List Record) RecoverFault → Type 0
 IsDamage (Ok p) = ⊥
@@ -89,4 +97,9 @@ pub record IsUnbegunAt (name : List ℕ) (outcomes : Outcomes) (image : Files) :
 -- Each other name has an outcome that it had.
 pub record IsRecovering (name : List ℕ) (file : Option (List ℕ)) (outcomes : Outcomes) (image : Files) : Type 0 where
   pub log : outcomes name (image name) ⊎ (IsUnbegun file × IsUnbegun (image name))
+  pub others : (m : List ℕ) → m ≢ name → outcomes m (image m)
+
+-- The file under the name spells the records, and each other name has an outcome that it had.
+pub record IsKept (name : List ℕ) (records : List Record) (outcomes : Outcomes) (image : Files) : Type 0 where
+  pub log : Spells records (image name)
   pub others : (m : List ℕ) → m ≢ name → outcomes m (image m)

@@ -4,6 +4,7 @@
 mod begin;
 mod fault;
 mod found;
+mod laws;
 mod read;
 mod recovery;
 mod scan;
@@ -11,4 +12,5 @@ mod settle;
 mod step;
 
 pub use fault::RecoverFault;
+pub use laws::files_spell_one_list;
 pub use recovery::recover;

@@ -4,9 +4,10 @@ ghost use Rattle.outside.specs.Causes.{HasCause};
 ghost use Rattle.outside.specs.Disk.{LeavesOnly};
 ghost use Rattle.outside.specs.Files.{content};
 ghost use Rattle.txn_log.specs.Logs.{IsLog};
-ghost use Rattle.txn_log.specs.Spells.{header};
+ghost use Rattle.txn_log.specs.Spells.{header, Spells};
+ghost use Rattle.flow_types.specs.declared.records.Record.{Record};
 ghost use Rattle.log_recover.specs.Quiet.{IsQuiet};
-ghost use Rattle.log_recover.specs.Recovery.{Resumes, Recovers, IsDamage, IsNamed, IsRecovering, IsHeader};
+ghost use Rattle.log_recover.specs.Recovery.{Resumes, Recovers, IsThese, IsKept, IsDamage, IsNamed, IsRecovering, IsHeader};
 
 use crate::begin::begin_anew;
 use crate::fault::RecoverFault;
@@ -64,11 +65,8 @@ fn resume<S: Site>(
     }
 }
 
-/// The log under this name, and the records that its file spells. A log that is absent or not begun is begun anew.
-///
-/// What is wrong with the file's bytes is answered and changes nothing. A crash at any moment leaves the file as it was,
-/// or a log that isn't begun where it wasn't.
-pub fn recover<S: Site>(
+/// The log under this name, which is begun anew where it is absent or not begun.
+fn open_log<S: Site>(
     alloc: Global,
     site: &mut S,
     name: Name,
@@ -93,4 +91,32 @@ pub fn recover<S: Site>(
             Ok((Log::at(alloc, name, 0, FIRST_GATE), Rows::new(alloc)))
         }
     }
+}
+
+/// The log under this name, and the records that its file spells. A log that is absent or not begun is begun anew.
+///
+/// What is wrong with the file's bytes is answered and changes nothing. A crash at any moment leaves the file as it was,
+/// or a log that isn't begun where it wasn't.
+pub fn recover<S: Site>(
+    alloc: Global,
+    site: &mut S,
+    name: Name,
+) -> Result<(Log, Rows<Record>), RecoverFault>
+    ensures answer { S.tells → Recovers (S.files site.old «name») result }
+    ensures exact { S.tells → (records : List Record) → Spells records (S.files site.old «name») → IsThese records result }
+    ensures named { IfOk result (λ p. IsNamed «name» p) }
+    ensures stands { IfOk result (λ p. S.tells → IsLog p.0 p.1 (S.may_leave site.new)) }
+    ensures unchanged { S.tells → IsDamage result → S.files site.new «name» ≡ S.files site.old «name» }
+    ensures any_moment { S.tells → LeavesOnly S.moment S.images_since site.old site.new
+        (IsRecovering «name» (S.files site.old «name») (S.may_leave site.old)) }
+    ensures kept { S.tells → (records : List Record)
+        → ((file : Option (List ℕ)) → S.may_leave site.old «name» file → Spells records file)
+        → LeavesOnly S.moment S.images_since site.old site.new (IsKept «name» records (S.may_leave site.old)) }
+    ensures others { S.tells → (m : List ℕ) → m ≢ «name» → S.files site.new m ≡ S.files site.old m }
+    ensures crash { S.tells → (m : List ℕ) (file : Option (List ℕ)) → m ≢ «name»
+        → S.may_leave site.new m file → S.may_leave site.old m file }
+    ensures later { S.count site.old ≤ S.count site.new }
+    ensures cause { IsErrOf result RecoverFault.Site → S.count site.old < S.count site.new }
+{
+    open_log(alloc, site, name)
 }
