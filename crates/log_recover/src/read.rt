@@ -31,8 +31,10 @@ pub(crate) fn read_at<S: Site>(
     into: &mut [u8],
 ) -> Result<usize, Fault>
     ensures bound { IfOk result (λ count. count ≤ length into.new) }
-    ensures bytes { IfOk result (λ count. S.tells → Reads (content (S.files site.old name.now)) at into.old into.new count) }
-    ensures quiet { S.tells → IsQuiet S.files S.may_leave S.moment S.images_since site.old site.new }
+    ensures bytes { IfOk result (λ count. S.tells
+        → Reads (content (S.files site.old name.now)) at into.old into.new count) }
+    ensures quiet { S.tells
+        → IsQuiet S.files S.may_leave S.moment S.images_since site.old site.new }
     ensures cause { HasCause (S.count site.old) (S.count site.new) result }
 {
     site.read(name, at, into)
@@ -46,8 +48,10 @@ fn body_at<S: Site>(
     at: u64,
     len: usize,
 ) -> Result<Option<Record>, Fault>
-    ensures body { IfOk result (λ r. S.tells → IsBody (content (S.files site.old name.now)) at len r) }
-    ensures quiet { S.tells → IsQuiet S.files S.may_leave S.moment S.images_since site.old site.new }
+    ensures body { IfOk result (λ r. S.tells
+        → IsBody (content (S.files site.old name.now)) at len r) }
+    ensures quiet { S.tells
+        → IsQuiet S.files S.may_leave S.moment S.images_since site.old site.new }
     ensures cause { HasCause (S.count site.old) (S.count site.new) result }
 {
     let Ok(mut body) = vec![in alloc; 0u8; len] else {
@@ -86,8 +90,10 @@ fn head_of(front: &[u8]) -> Head
 
 /// What stands at the beginning of this place.
 fn head_at<S: Site>(site: &mut S, name: &Name, at: u64) -> Result<Head, Fault>
-    ensures head { IfOk result (λ head. S.tells → BeginsSo (content (S.files site.old name.now)) at head) }
-    ensures quiet { S.tells → IsQuiet S.files S.may_leave S.moment S.images_since site.old site.new }
+    ensures head { IfOk result (λ head. S.tells
+        → BeginsSo (content (S.files site.old name.now)) at head) }
+    ensures quiet { S.tells
+        → IsQuiet S.files S.may_leave S.moment S.images_since site.old site.new }
     ensures cause { HasCause (S.count site.old) (S.count site.new) result }
 {
     let mut head = [0u8; 5];
@@ -107,9 +113,11 @@ fn behind_gate<S: Site>(
     requires within { at ≤ size }
     requires length { S.tells → BeginsSo (content (S.files site.old name.now)) at (Length len) }
     requires size { S.tells → size ≡ length (content (S.files site.old name.now)) }
-    ensures step { IfOk result (λ step. S.tells → Stands (content (S.files site.old name.now)) at step) }
+    ensures step { IfOk result (λ step. S.tells
+        → Stands (content (S.files site.old name.now)) at step) }
     ensures end { IfOk result (λ step. EndsWithin at size step) }
-    ensures quiet { S.tells → IsQuiet S.files S.may_leave S.moment S.images_since site.old site.new }
+    ensures quiet { S.tells
+        → IsQuiet S.files S.may_leave S.moment S.images_since site.old site.new }
     ensures cause { HasCause (S.count site.old) (S.count site.new) result }
 {
     let whole = AROUND + len as u64;
@@ -132,9 +140,11 @@ pub(crate) fn entry_at<S: Site>(
 ) -> Result<Step, Fault>
     requires within { at ≤ size }
     requires size { S.tells → size ≡ length (content (S.files site.old name.now)) }
-    ensures step { IfOk result (λ step. S.tells → Stands (content (S.files site.old name.now)) at step) }
+    ensures step { IfOk result (λ step. S.tells
+        → Stands (content (S.files site.old name.now)) at step) }
     ensures end { IfOk result (λ step. EndsWithin at size step) }
-    ensures quiet { S.tells → IsQuiet S.files S.may_leave S.moment S.images_since site.old site.new }
+    ensures quiet { S.tells
+        → IsQuiet S.files S.may_leave S.moment S.images_since site.old site.new }
     ensures cause { HasCause (S.count site.old) (S.count site.new) result }
 {
     match head_at(site, name, at)? {

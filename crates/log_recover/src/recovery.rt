@@ -29,8 +29,10 @@ const MOST_UNBEGUN: u64 = 9;
 /// Whether a file that is longer than a log that isn't begun begins as a log. It changes nothing.
 fn has_header<S: Site>(site: &mut S, name: &Name) -> Result<bool, Fault>
     requires long { S.tells → 8 ≤ length (content (S.files site.old name.now)) }
-    ensures header { IfOk result (λ begins. S.tells → IsHeader (content (S.files site.old name.now)) begins) }
-    ensures quiet { S.tells → IsQuiet S.files S.may_leave S.moment S.images_since site.old site.new }
+    ensures header { IfOk result (λ begins. S.tells
+        → IsHeader (content (S.files site.old name.now)) begins) }
+    ensures quiet { S.tells
+        → IsQuiet S.files S.may_leave S.moment S.images_since site.old site.new }
     ensures cause { HasCause (S.count site.old) (S.count site.new) result }
 {
     let mut head = [0u8; 8];
@@ -49,7 +51,8 @@ fn resume<S: Site>(
     requires size { S.tells → size ≡ length (content (S.files site.old «name»)) }
     ensures answer { S.tells → Resumes (content (S.files site.old «name»)) result }
     ensures named { IfOk result (λ p. IsNamed «name» p) }
-    ensures quiet { S.tells → IsQuiet S.files S.may_leave S.moment S.images_since site.old site.new }
+    ensures quiet { S.tells
+        → IsQuiet S.files S.may_leave S.moment S.images_since site.old site.new }
     ensures later { S.count site.old ≤ S.count site.new }
     ensures cause { IsErrOf result RecoverFault.Site → S.count site.old < S.count site.new }
 {
@@ -74,10 +77,12 @@ fn open_log<S: Site>(
     ensures answer { S.tells → Recovers (S.files site.old «name») result }
     ensures named { IfOk result (λ p. IsNamed «name» p) }
     ensures stands { IfOk result (λ p. S.tells → IsLog p.0 p.1 (S.may_leave site.new)) }
-    ensures unchanged { S.tells → IsDamage result → S.files site.new «name» ≡ S.files site.old «name» }
+    ensures unchanged { S.tells → IsDamage result
+        → S.files site.new «name» ≡ S.files site.old «name» }
     ensures any_moment { S.tells → LeavesOnly S.moment S.images_since site.old site.new
         (IsRecovering «name» (S.files site.old «name») (S.may_leave site.old)) }
-    ensures others { S.tells → (m : List ℕ) → m ≢ «name» → S.files site.new m ≡ S.files site.old m }
+    ensures others { S.tells → (m : List ℕ) → m ≢ «name»
+        → S.files site.new m ≡ S.files site.old m }
     ensures crash { S.tells → (m : List ℕ) (file : Option (List ℕ)) → m ≢ «name»
         → S.may_leave site.new m file → S.may_leave site.old m file }
     ensures later { S.count site.old ≤ S.count site.new }
@@ -103,16 +108,20 @@ pub fn recover<S: Site>(
     name: Name,
 ) -> Result<(Log, Rows<Record>), RecoverFault>
     ensures answer { S.tells → Recovers (S.files site.old «name») result }
-    ensures exact { S.tells → (records : List Record) → Spells records (S.files site.old «name») → IsThese records result }
+    ensures exact { S.tells → (records : List Record)
+        → Spells records (S.files site.old «name») → IsThese records result }
     ensures named { IfOk result (λ p. IsNamed «name» p) }
     ensures stands { IfOk result (λ p. S.tells → IsLog p.0 p.1 (S.may_leave site.new)) }
-    ensures unchanged { S.tells → IsDamage result → S.files site.new «name» ≡ S.files site.old «name» }
+    ensures unchanged { S.tells → IsDamage result
+        → S.files site.new «name» ≡ S.files site.old «name» }
     ensures any_moment { S.tells → LeavesOnly S.moment S.images_since site.old site.new
         (IsRecovering «name» (S.files site.old «name») (S.may_leave site.old)) }
     ensures kept { S.tells → (records : List Record)
         → ((file : Option (List ℕ)) → S.may_leave site.old «name» file → Spells records file)
-        → LeavesOnly S.moment S.images_since site.old site.new (IsKept «name» records (S.may_leave site.old)) }
-    ensures others { S.tells → (m : List ℕ) → m ≢ «name» → S.files site.new m ≡ S.files site.old m }
+        → LeavesOnly S.moment S.images_since site.old site.new (IsKept «name» records
+        (S.may_leave site.old)) }
+    ensures others { S.tells → (m : List ℕ) → m ≢ «name»
+        → S.files site.new m ≡ S.files site.old m }
     ensures crash { S.tells → (m : List ℕ) (file : Option (List ℕ)) → m ≢ «name»
         → S.may_leave site.new m file → S.may_leave site.old m file }
     ensures later { S.count site.old ≤ S.count site.new }

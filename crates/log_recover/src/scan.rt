@@ -41,9 +41,11 @@ pub(crate) fn scan<S: Site>(
     requires long { 8 ≤ size }
     requires size { S.tells → size ≡ length (content (S.files site.old name.now)) }
     requires header { S.tells → take 8 (content (S.files site.old name.now)) ≡ header }
-    ensures found { IfOk result (λ found. S.tells → IsFound (content (S.files site.old name.now)) found) }
+    ensures found { IfOk result (λ found. S.tells
+        → IsFound (content (S.files site.old name.now)) found) }
     ensures near { IfOk result IsNear }
-    ensures quiet { S.tells → IsQuiet S.files S.may_leave S.moment S.images_since site.old site.new }
+    ensures quiet { S.tells
+        → IsQuiet S.files S.may_leave S.moment S.images_since site.old site.new }
     ensures cause { HasCause (S.count site.old) (S.count site.new) result }
 {
     let mut records = Rows::new(alloc);

@@ -62,18 +62,24 @@ pub(crate) fn put_entry<S: Site>(
 ) -> Result<(), Fault>
     requires few { ListsFew entry.now }
     requires room { gate + 1 < 2 ^ 64 }
-    requires stands { S.tells → (records : List Record) × IsAt records gate (S.may_leave site.old name.now) }
-    ensures done { OnOk result (S.tells → (records : List Record) → IsAt records gate (S.may_leave site.old name.now)
-        → IsAt (records ++ entry.now ∷ []) (gate + (around + length (spelling entry.now))) (S.may_leave site.new name.now)) }
-    ensures any_moment { S.tells → (records : List Record) → IsAt records gate (S.may_leave site.old name.now)
+    requires stands { S.tells → (records : List Record)
+        × IsAt records gate (S.may_leave site.old name.now) }
+    ensures done { OnOk result (S.tells → (records : List Record)
+        → IsAt records gate (S.may_leave site.old name.now)
+        → IsAt (records ++ entry.now ∷ []) (gate + (around + length (spelling entry.now)))
+        (S.may_leave site.new name.now)) }
+    ensures any_moment { S.tells → (records : List Record)
+        → IsAt records gate (S.may_leave site.old name.now)
         → LeavesOnly S.moment S.images_since site.old site.new
         (IsAppended name.now records entry.now (S.may_leave site.old)) }
-    ensures others { S.tells → (m : List ℕ) → m ≢ name.now → S.files site.new m ≡ S.files site.old m }
+    ensures others { S.tells → (m : List ℕ) → m ≢ name.now
+        → S.files site.new m ≡ S.files site.old m }
     ensures crash { S.tells → (m : List ℕ) (file : Option (List ℕ)) → m ≢ name.now
         → S.may_leave site.new m file → S.may_leave site.old m file }
     ensures wide { length buffer.old.items ≤ length buffer.new.items }
     ensures cause { HasCause (S.count site.old) (S.count site.new) result }
-    ensures never { S.ample site.old → around + length (spelling entry.now) ≤ length buffer.old.items
+    ensures never { S.ample site.old
+        → around + length (spelling entry.now) ≤ length buffer.old.items
         → IsErrOf result Fault.Memory → ⊥ }
     ensures stays { S.ample site.old → OnOk result (S.ample site.new) }
     ensures goes_on { S.ample site.old → S.count site.new < 2 ^ 64 - 1 → S.ample site.new }

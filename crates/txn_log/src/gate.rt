@@ -18,7 +18,8 @@ pub fn write_synced<S: Site>(site: &mut S, name: &Name, at: u64, bytes: &[u8]) -
         ≡ Some (written at bytes.now (content (S.files site.old name.now)))) }
     ensures durable { OnOk result (S.tells → (entry : Option (List ℕ))
         → S.may_leave site.new name.now entry → entry ≡ S.files site.new name.now) }
-    ensures others { S.tells → (m : List ℕ) → m ≢ name.now → S.files site.new m ≡ S.files site.old m }
+    ensures others { S.tells → (m : List ℕ) → m ≢ name.now
+        → S.files site.new m ≡ S.files site.old m }
     ensures crash { S.tells → (m : List ℕ) (entry : Option (List ℕ)) → m ≢ name.now
         → S.may_leave site.new m entry → S.may_leave site.old m entry }
     ensures any_moment { S.tells → LeavesOnly S.moment S.images_since site.old site.new
@@ -42,16 +43,20 @@ pub fn append_behind<S: Site>(
 ) -> Result<(), Fault>
     requires room { gate + 1 < 2 ^ 64 }
     requires shut { behind.now ≡ staged behind.now ++ closed_gate ∷ [] }
-    requires reads { S.tells → Stands (take gate (content (S.files site.old name.now))) (S.files site.old name.now) }
+    requires reads { S.tells
+        → Stands (take gate (content (S.files site.old name.now))) (S.files site.old name.now) }
     requires stands { S.tells → (entry : Option (List ℕ)) → S.may_leave site.old name.now entry
         → Stands (take gate (content (S.files site.old name.now))) entry }
     ensures acknowledged { OnOk result (S.tells
-        → Stands (grown (take gate (content (S.files site.old name.now))) (staged behind.now)) (S.files site.new name.now)) }
+        → Stands (grown (take gate (content (S.files site.old name.now))) (staged behind.now))
+        (S.files site.new name.now)) }
     ensures durable { OnOk result (S.tells → (entry : Option (List ℕ))
         → S.may_leave site.new name.now entry → entry ≡ S.files site.new name.now) }
     ensures any_moment { S.tells → LeavesOnly S.moment S.images_since site.old site.new
-        (IsGrown name.now (take gate (content (S.files site.old name.now))) (staged behind.now) (S.may_leave site.old)) }
-    ensures others { S.tells → (m : List ℕ) → m ≢ name.now → S.files site.new m ≡ S.files site.old m }
+        (IsGrown name.now (take gate (content (S.files site.old name.now))) (staged behind.now)
+        (S.may_leave site.old)) }
+    ensures others { S.tells → (m : List ℕ) → m ≢ name.now
+        → S.files site.new m ≡ S.files site.old m }
     ensures crash { S.tells → (m : List ℕ) (entry : Option (List ℕ)) → m ≢ name.now
         → S.may_leave site.new m entry → S.may_leave site.old m entry }
     ensures cause { HasCause (S.count site.old) (S.count site.new) result }

@@ -40,7 +40,8 @@ impl Model for Log {
 
     ghost view = { λ l. record { name = l.name; count = l.count; gate = l.gate; room = length l.buffer.items; trouble = l.trouble } };
 
-    ghost invariant = { λ l. IsWithin (record { name = l.name; count = l.count; gate = l.gate; room = length l.buffer.items; trouble = l.trouble }) };
+    ghost invariant = { λ l. IsWithin
+        (record { name = l.name; count = l.count; gate = l.gate; room = length l.buffer.items; trouble = l.trouble }) };
 }
 
 fn told(fault: Fault) -> LogFault
@@ -56,7 +57,8 @@ impl Log {
     /// The log under this name, which has so many records and its closed gate at this place.
     pub fn at(alloc: Global, name: Name, count: u32, gate: u64) -> Log
         requires { gate ≤ farthest count }
-        ensures { result ≡ record { name = «name»; count = count; gate = gate; room = 0; trouble = None } }
+        ensures { result
+            ≡ record { name = «name»; count = count; gate = gate; room = 0; trouble = None } }
     {
         Log {
             alloc,
@@ -101,19 +103,25 @@ impl Log {
         requires stands { S.tells → TakesOne self.old
             → (records : List Record) × IsLog self.old records (S.may_leave site.old) }
         ensures answer { Appends self.old entry.now result self.new }
-        ensures full { IsErrOf result LogFault.Full ↔ (IsFine self.old × (most_records ≤ self.old.count)) }
-        ensures done { OnOk result (S.tells → (records : List Record) → IsLog self.old records (S.may_leave site.old)
+        ensures full { IsErrOf result LogFault.Full ↔ (IsFine self.old
+            × (most_records ≤ self.old.count)) }
+        ensures done { OnOk result (S.tells → (records : List Record)
+            → IsLog self.old records (S.may_leave site.old)
             → IsLog self.new (records ++ entry.now ∷ []) (S.may_leave site.new)) }
-        ensures any_moment { S.tells → (records : List Record) → IsLog self.old records (S.may_leave site.old)
+        ensures any_moment { S.tells → (records : List Record)
+            → IsLog self.old records (S.may_leave site.old)
             → LeavesOnly S.moment S.images_since site.old site.new
             (IsAppended self.old.name records entry.now (S.may_leave site.old)) }
-        ensures others { S.tells → (m : List ℕ) → m ≢ self.old.name → S.files site.new m ≡ S.files site.old m }
+        ensures others { S.tells → (m : List ℕ) → m ≢ self.old.name
+            → S.files site.new m ≡ S.files site.old m }
         ensures crash { S.tells → (m : List ℕ) (file : Option (List ℕ)) → m ≢ self.old.name
             → S.may_leave site.new m file → S.may_leave site.old m file }
         ensures untouched { (TakesOne self.old → ⊥) → site.new ≡ site.old }
         ensures later { S.count site.old ≤ S.count site.new }
-        ensures cause { IsFine self.old → IsErrOf result LogFault.Site → S.count site.old < S.count site.new }
-        ensures never { S.ample site.old → IsFine self.old → HasRoom self.old (length (spelling entry.now))
+        ensures cause { IsFine self.old → IsErrOf result LogFault.Site
+            → S.count site.old < S.count site.new }
+        ensures never { S.ample site.old → IsFine self.old
+            → HasRoom self.old (length (spelling entry.now))
             → IsErrOf result LogFault.Memory → ⊥ }
         ensures stays { S.ample site.old → OnOk result (S.ample site.new) }
         ensures goes_on { S.ample site.old → S.count site.new < 2 ^ 64 - 1 → S.ample site.new }
