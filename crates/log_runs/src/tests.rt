@@ -3,7 +3,7 @@ use log_recover::{RecoverFault, recover};
 use mem_outside::MemSite;
 use std::alloc::Global;
 use std::test::Fail;
-use txn_log::LogFault;
+use txn_log::{Log, LogFault};
 
 const EMPTY: &[u8] = b"MFLOG01\n\0";
 
@@ -112,5 +112,31 @@ fn a_crash_in_an_append_leaves_the_old_list_or_the_new_one(rt: HostRuntime) -> R
             most.get(call as usize).copied()
         );
     }
+    Ok(())
+}
+
+#[test]
+fn a_log_with_the_most_records_is_full(rt: HostRuntime) -> Result<(), Fail> {
+    let alloc = rt.alloc();
+    let mut site = site_of(alloc, EMPTY)?;
+    let mut log = Log::at(alloc, Name::of(alloc, b"log")?, 1_000_000, 8);
+    let lost = Record::Lost {
+        moment: 7,
+        rule: RuleNo(2),
+        attempt: AttemptNo(5),
+    };
+    assert_eq!(rt; log.append(&mut site, &lost).err(), Some(LogFault::Full));
+    assert_eq!(rt; log.count(), 1_000_000);
+    assert_eq!(rt; site.get(b"log"), Some(EMPTY));
+    Ok(())
+}
+
+#[test]
+fn a_log_whose_site_failed_takes_no_record(rt: HostRuntime) -> Result<(), Fail> {
+    let alloc = rt.alloc();
+    let mut site = site_of(alloc, b"MFLOG01\n\0\xff")?;
+    site.fail_at(6)?;
+    assert_eq!(rt; append_lost(alloc, &mut site), Some(LogFault::Site));
+    assert_eq!(rt; count_of(alloc, &mut site), Some(0));
     Ok(())
 }
