@@ -1,7 +1,7 @@
 -- The log of a first run with one rule.
 use Rattle.std.specs.Prelude.{List, [], ◌∷◌, replicate, None}
 use Rattle.flow_types.specs.declared.records.Record.{Record}
-use Rattle.flow_types.specs.declared.records.Record.TheVariants.{Opened, Started, Done, Ended}
+use Rattle.flow_types.specs.declared.records.Record.TheVariants.{Opened, Started, Done, Lost, Ended}
 use Rattle.flow_types.specs.declared.records.EndKind.TheVariants.{Complete}
 use Rattle.flow_types.specs.declared.numbers.Content.{Content}
 
@@ -23,3 +23,7 @@ one_rule_run =
     ∷ Done 7 (record { 0 = 0 }) (record { 0 = 0 }) (three_bytes ∷ [])
     ∷ Ended 7 Complete
     ∷ []
+
+-- an attempt that came to no end
+abbrev pub one_lost : List Record
+one_lost = Lost 7 (record { 0 = 2 }) (record { 0 = 5 }) ∷ []

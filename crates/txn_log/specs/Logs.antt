@@ -31,10 +31,6 @@ around = 5
 abbrev pub farthest : ℕ → ℕ
 farthest count = 8 + count * (around + most_spelled)
 
--- What holds of each log: its gate is no farther than its records can put it.
-abbrev pub IsWithin : LogState → Type 0
-IsWithin log = log.gate ≤ farthest log.count
-
 -- The log takes records.
 abbrev pub IsFine : LogState → Type 0
 IsFine log = log.trouble ≡ None

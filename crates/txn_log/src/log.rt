@@ -33,15 +33,20 @@ pub struct Log {
 }
 
 impl Model for Log {
-    ghost use Rattle.std.specs.Prelude.{length};
-    ghost use Rattle.txn_log.specs.Logs.{LogState, IsWithin};
+    ghost use Rattle.std.specs.Prelude.{◌≤◌, length};
+    ghost use Rattle.txn_log.specs.Logs.{LogState, farthest};
 
     ghost Value = { LogState };
 
-    ghost view = { λ l. record { name = l.name; count = l.count; gate = l.gate; room = length l.buffer.items; trouble = l.trouble } };
+    ghost view = { λ l. record {
+      name = l.name;
+      count = l.count;
+      gate = l.gate;
+      room = length l.buffer.items;
+      trouble = l.trouble;
+    } };
 
-    ghost invariant = { λ l. IsWithin
-        (record { name = l.name; count = l.count; gate = l.gate; room = length l.buffer.items; trouble = l.trouble }) };
+    ghost invariant = { λ l. l.gate ≤ farthest l.count };
 }
 
 fn told(fault: Fault) -> LogFault
