@@ -14,7 +14,7 @@ use flow_types::Rows;
 use jx_tokens::{JxFault, Kind};
 
 /// How many levels may be open.
-pub const MOST_LEVELS: usize = 128;
+const MOST_LEVELS: usize = 128;
 
 /// Puts an item at the end of a list.
 pub fn push_row<T: Drop>(rows: &mut Rows<T>, item: T) -> Result<(), JxFault>

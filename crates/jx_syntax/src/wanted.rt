@@ -9,7 +9,6 @@ use crate::levels::{level_of, sign_level};
 use crate::node::Form;
 use crate::operator::Sign;
 use crate::pending::{Part, Pending, Reader, Wanted};
-use crate::reader::MOST_LEVELS;
 use flow_types::Rows;
 use jx_tokens::{JxFault, Kind};
 
@@ -138,7 +137,7 @@ impl Reader {
         ensures shown { (fs : List Frame) → IsShown self.old fs → self.old.depth ≡ depth fs
             → Steps self.new result (tried 128 (depth fs) place (wanted fs place kind.OpenObject)) }
     {
-        if self.depth >= MOST_LEVELS {
+        if self.depth >= 128 {
             return Err(JxFault::TooDeep(place));
         }
         self.depth += 1;
