@@ -28,7 +28,7 @@ pub fn plan_of(alloc: Global, flow: RawFlow) -> Result<Plan, GraphFault>
 }
 
 // The plan of a flow, or its first fault.
-fn planned(alloc: Global, flow: RawFlow) -> Result<Result<Plan, GraphFault>, AllocError>
+pub(crate) fn planned(alloc: Global, flow: RawFlow) -> Result<Result<Plan, GraphFault>, AllocError>
     ensures { IfOk result (λ answer. answer ≡ plan_of flow) }
 {
     match early_fault(alloc, &flow)? {
