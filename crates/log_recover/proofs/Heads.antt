@@ -73,22 +73,8 @@ begins_at bytes at Shut is = is
 begins_at bytes at (Length len) is = is ∙ ap (λ (l : List ℕ). open_gate ∷ (big_bytes 4 len ++ l)) (drop-drop 5 at bytes)
 begins_at bytes at Cut is = is
 
--- the first five bytes, as a read gives them
-front_read : (bytes : List ℕ) (at : ℕ) (old new : List ℕ) (count : ℕ) → length old ≡ 5 → Reads bytes at old new count → take count new ≡ take 5 (drop at bytes)
-front_read bytes at old new count five reads =
-    let tail = drop at bytes in
-    let few : count ≤ length tail = omega (arith, reads.least, length-drop at bytes) in
-    let front : take count new ≡ take count tail = ap (λ (l : List ℕ). take count l) reads.filled ∙ take_at (take count tail) (drop count old) count (omega (arith, length-take count tail, few)) in
-    front ∙ elim (cases_eq count 5) [
-      | inl five_read ↦ ap (λ (n : ℕ). take n tail) five_read
-      | inr other ↦ let all : length tail ≤ count = omega (arith, reads.least, length-drop at bytes, five, other) in
-          take_all count tail all ∙ sym (take_all 5 tail (omega (arith, few, all, reads.least, five)))
-    ]
-
-pub begins_of : (bytes : List ℕ) (at : ℕ) (old new : List ℕ) (count : ℕ) (head : Head) → length old ≡ 5 → Reads bytes at old new count → IsHead (take count new) head
-    → BeginsSo bytes at head
-begins_of bytes at old new count head five reads is =
-    begins_at bytes at head (begins_tail (drop at bytes) head (subst (λ (l : List ℕ). IsHead l head) (front_read bytes at old new count five reads) is))
+pub begins_of : (bytes front : List ℕ) (at : ℕ) (head : Head) → front ≡ take 5 (drop at bytes) → IsHead front head → BeginsSo bytes at head
+begins_of bytes front at head is begun = begins_at bytes at head (begins_tail (drop at bytes) head (subst (λ (l : List ℕ). IsHead l head) is begun))
 
 -- what stands behind a length is fixed
 pub entry_same : (tail rest : List ℕ) (len : ℕ) (r : Record) (more : List ℕ) → len < 2 ^ 32 → tail ≡ open_gate ∷ (big_bytes 4 len ++ rest) → IsEntry r tail more

@@ -5,3 +5,4 @@ pub mod Recoveries
 pub mod Scans
 pub mod Sizes
 pub mod Unique
+pub mod Windowing

@@ -1,4 +1,5 @@
 pub mod Steps
 pub mod Quiet
+pub mod Windows
 pub mod Recovery
 pub mod Laws

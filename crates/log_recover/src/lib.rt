@@ -10,6 +10,7 @@ mod recovery;
 mod scan;
 mod settle;
 mod step;
+mod window;
 
 pub use fault::RecoverFault;
 pub use laws::files_spell_one_list;

@@ -12,9 +12,9 @@ ghost use Rattle.log_recover.specs.Recovery.{Resumes, Recovers, IsThese, IsKept,
 use crate::begin::begin_anew;
 use crate::fault::RecoverFault;
 use crate::found::Found;
-use crate::read::read_at;
 use crate::scan::{FIRST_GATE, scan};
 use crate::settle::settle;
+use crate::window::read_at;
 use flow_types::{Name, Record, Rows};
 use outside::{Fault, Site};
 use std::alloc::Global;

@@ -9,6 +9,7 @@ ghost use Rattle.log_recover.specs.Recovery.{IsFound, IsNear};
 use crate::found::Found;
 use crate::read::entry_at;
 use crate::step::Step;
+use crate::window::Window;
 use flow_types::{Name, Record, Rows};
 use outside::{Fault, Site};
 use std::alloc::Global;
@@ -49,9 +50,10 @@ pub(crate) fn scan<S: Site>(
     ensures cause { HasCause (S.count site.old) (S.count site.new) result }
 {
     let mut records = Rows::new(alloc);
+    let mut window = Window::new(alloc);
     let mut at = FIRST_GATE;
     loop {
-        let step = entry_at(alloc, site, name, at, size)?;
+        let step = entry_at(alloc, site, name, &mut window, at, size)?;
         match step {
             Step::Closed => return Ok(Found::Records(records, at)),
             Step::Entry(record, end) => {

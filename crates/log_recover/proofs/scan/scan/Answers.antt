@@ -6,16 +6,18 @@ use Rattle.log_recover.specs.Steps.{Stands, EndsWithin}
 use Rattle.log_recover.specs.declared.step.Step.{Step}
 use Rattle.log_recover.specs.declared.step.Step.TheVariants.{Entry}
 use Rattle.log_recover.specs.Recovery.{IsRead}
+use Rattle.log_recover.specs.Windows.{Shows}
 use Rattle.log_recover.proofs.Quiets.{quiet_start, quiet_joined}
 use Rattle.log_recover.proofs.Scans.{read_start, read_more}
 use Rattle.log_recover.proofs.scan.scan.Goals as goal
 
-pub loop-records-init : goal.loop-records-init
-loop-records-init g c = record {
+pub loop-window-init : goal.loop-window-init
+loop-window-init g c = record {
   near = omega arith;
   few = omega (arith, ap length c.new-records.ensures);
   within = c.requires.long;
   read = λ told. subst (λ (rs : List Record). IsRead (content (g.S.Site.files c.args.site.now c.args.name.now)) rs 8) (sym c.new-records.ensures) (read_start _ (c.requires.header told));
+  shows = λ told. c.new-window.ensures (content (g.S.Site.files c.args.site.now c.args.name.now));
   quiet = λ told. quiet_start g.S.Site.files g.S.Site.may_leave g.S.Site.moment g.S.Site.images_since c.args.site.now
       (λ image left. (g.met.S.Site g.world.𝓛 g.world.𝓜 g.world.𝓡 ((λ s x. x), (λ x. x), (λ x. x), λ x. x)).only_now told c.args.site.now image left);
   later = omega arith;
@@ -23,28 +25,33 @@ loop-records-init g c = record {
 
 pub entry_at-requires-clause-size : goal.entry_at-requires-clause-size
 entry_at-requires-clause-size g c κs within told =
-    c.requires.size told ∙ ap (λ (f : Files). length (content (f c.args.name.now))) (sym (c.loop-records.invariant.quiet told).same)
+    c.requires.size told ∙ ap (λ (f : Files). length (content (f c.args.name.now))) (sym (c.loop-window.invariant.quiet told).same)
 
-pub loop-records-preserved : goal.loop-records-preserved
-loop-records-preserved g c =
+pub entry_at-requires-clause-shows : goal.entry_at-requires-clause-shows
+entry_at-requires-clause-shows g c κs within told =
+    subst (λ (f : Files). Shows c.loop-window.window (content (f c.args.name.now))) (sym (c.loop-window.invariant.quiet told).same) (c.loop-window.invariant.shows told)
+
+pub loop-window-preserved : goal.loop-window-preserved
+loop-window-preserved g c =
     let step = c.in_ok-step.ensures in
     let entry = Entry c.in-Entry.record c.in-Entry.end in
-    let ends : EndsWithin c.loop-records.at c.args.size entry = subst (λ (s : Step). EndsWithin c.loop-records.at c.args.size s) c.in-Entry.is step.end in
-    let added : c.keep.new.records ≡ c.loop-records.records ++ c.in-Entry.record ∷ [] = c.in_ok-keep-in-Entry.ensures.ok in
-    let long : length c.keep.new.records ≡ length c.loop-records.records + 1 = ap length added ∙ length-append c.loop-records.records (c.in-Entry.record ∷ []) in
-    let far : farthest (length c.keep.new.records) ≡ farthest (length c.loop-records.records + 1) = ap farthest long in
+    let ends : EndsWithin c.loop-window.at c.args.size entry = subst (λ (s : Step). EndsWithin c.loop-window.at c.args.size s) c.in-Entry.is step.end in
+    let added : c.keep.new.records ≡ c.loop-window.records ++ c.in-Entry.record ∷ [] = c.in_ok-keep-in-Entry.ensures.ok in
+    let long : length c.keep.new.records ≡ length c.loop-window.records + 1 = ap length added ∙ length-append c.loop-window.records (c.in-Entry.record ∷ []) in
+    let far : farthest (length c.keep.new.records) ≡ farthest (length c.loop-window.records + 1) = ap farthest long in
     record {
-      near = omega (arith, far, ends.2, c.loop-records.invariant.near);
+      near = omega (arith, far, ends.2, c.loop-window.invariant.near);
       few = c.in_ok-keep-in-Entry.ensures.few;
       within = ends.1;
       read = λ told.
           let bytes = content (g.S.Site.files c.args.site.now c.args.name.now) in
-          let there : Stands (content (g.S.Site.files c.loop-records.site c.args.name.now)) c.loop-records.at entry =
-          subst (λ (s : Step). Stands (content (g.S.Site.files c.loop-records.site c.args.name.now)) c.loop-records.at s) c.in-Entry.is (step.step told) in
-          let here : Stands bytes c.loop-records.at entry = subst (λ (f : Files). Stands (content (f c.args.name.now)) c.loop-records.at entry) (c.loop-records.invariant.quiet told).same there in
+          let there : Stands (content (g.S.Site.files c.loop-window.site c.args.name.now)) c.loop-window.at entry =
+          subst (λ (s : Step). Stands (content (g.S.Site.files c.loop-window.site c.args.name.now)) c.loop-window.at s) c.in-Entry.is (step.step told) in
+          let here : Stands bytes c.loop-window.at entry = subst (λ (f : Files). Stands (content (f c.args.name.now)) c.loop-window.at entry) (c.loop-window.invariant.quiet told).same there in
           subst (λ (rs : List Record). IsRead bytes rs c.in-Entry.end) (sym added)
-          (read_more bytes c.loop-records.records c.in-Entry.record c.loop-records.at c.in-Entry.end (omega (arith, ends.1, c.requires.size told)) (c.loop-records.invariant.read told) here);
-      quiet = λ told. quiet_joined g.S.Site.files g.S.Site.may_leave g.S.Site.moment g.S.Site.images_since c.args.site.now c.loop-records.site c.entry_at.new.site
-          (c.loop-records.invariant.quiet told) (step.quiet told);
-      later = omega (arith, c.loop-records.invariant.later, step.cause.later);
+          (read_more bytes c.loop-window.records c.in-Entry.record c.loop-window.at c.in-Entry.end (omega (arith, ends.1, c.requires.size told)) (c.loop-window.invariant.read told) here);
+      shows = λ told. subst (λ (f : Files). Shows c.entry_at.new.window (content (f c.args.name.now))) (c.loop-window.invariant.quiet told).same (step.shows told);
+      quiet = λ told. quiet_joined g.S.Site.files g.S.Site.may_leave g.S.Site.moment g.S.Site.images_since c.args.site.now c.loop-window.site c.entry_at.new.site
+          (c.loop-window.invariant.quiet told) (step.quiet told);
+      later = omega (arith, c.loop-window.invariant.later, step.cause.later);
     }

@@ -1,5 +1,5 @@
 use Rattle.log_recover.proofs.Quiets.{quiet_call}
-use Rattle.log_recover.proofs.read.read_at.Goals as goal
+use Rattle.log_recover.proofs.window.read_at.Goals as goal
 
 pub returns-clause-quiet : goal.returns-clause-quiet
 returns-clause-quiet g c told =
