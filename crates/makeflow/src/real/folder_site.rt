@@ -91,3 +91,6 @@ impl<'a, R: Files + Sync> Site for FolderSite<'a, R> {
         self.faults
     }
 }
+
+#[cfg(test)]
+mod crash;
