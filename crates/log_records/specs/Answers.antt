@@ -1,5 +1,6 @@
 -- What a reader of records answers.
-use Rattle.std.specs.Prelude.{◌≡◌, ℕ, ◌-◌, List, Result, Ok, Err}
+use Rattle.std.specs.Prelude.{◌≡◌, ◌⊎◌, ℕ, ◌-◌, List, Result, Ok, Err}
+use Rattle.byteorder.specs.Endian.{big_number}
 use Rattle.byte_fields.specs.Laws.{LeavesAt}
 use Rattle.byte_fields.specs.Faults.{left_of}
 use Rattle.byte_fields.specs.declared.fault.TakeFault.{TakeFault}
@@ -29,6 +30,10 @@ abbrev pub IsOrMemory : Record → Result Record RecordFault → Type 0
 IsOrMemory r (Ok s) = s ≡ r
 IsOrMemory r (Err (Bad at)) = ⊥
 IsOrMemory r (Err Memory) = Unit {0}
+
+-- The kind byte is that of an Opened or a Done, the records that list contents.
+abbrev pub MayList : List ℕ → Type 0
+MayList body = (big_number 1 body ≡ 1) ⊎ (big_number 1 body ≡ 4)
 
 -- what is answered to this fault in a body of this length
 abbrev pub refused : ℕ → TakeFault → RecordFault

@@ -1,10 +1,10 @@
 //! Reading a record.
-ghost use Rattle.std.specs.Prelude.{◌≡◌, IfOk, IfErr};
+ghost use Rattle.std.specs.Prelude.{◌≡◌, IfOk, IfErr, IsErrOf};
 ghost use Rattle.byte_fields.specs.Reading.{Gives, GivesInMemory};
 ghost use Rattle.flow_types.specs.declared.records.Record.{Record};
 ghost use Rattle.log_records.specs.Spelling.{spelling, HasSpelling};
 ghost use Rattle.log_records.specs.Reading.{opened_at, resumed_at, started_at, done_at, failed_at, lost_at, dropped_at, ended_at, record_at, record_of};
-ghost use Rattle.log_records.specs.Answers.{Answers, IsFaultOf, IsOrMemory, refused};
+ghost use Rattle.log_records.specs.Answers.{Answers, IsFaultOf, IsOrMemory, MayList, refused};
 
 use crate::contents::contents;
 use crate::fault::RecordFault;
@@ -125,7 +125,8 @@ fn ended(bytes: &[u8]) -> Result<(Record, &[u8]), FieldFault>
 
 #[tactic(auto, unfolding(crate::specs::Reading::record_at))]
 fn take_record(alloc: Global, body: &[u8]) -> Result<(Record, &[u8]), TakeFault>
-    ensures { GivesInMemory (λ x. (x.0, x.1.now)) result (record_at body.now) }
+    ensures read { GivesInMemory (λ x. (x.0, x.1.now)) result (record_at body.now) }
+    ensures memory { IsErrOf result TakeFault.Memory → MayList body.now }
 {
     let (kind, rest) = u8_field(body)?;
     match kind {
@@ -155,7 +156,8 @@ fn refusal(len: usize, fault: TakeFault) -> RecordFault
 
 #[tactic(auto, unfolding(crate::specs::Reading::record_of))]
 fn whole_record(alloc: Global, body: &[u8]) -> Result<Record, RecordFault>
-    ensures { Answers result (record_of body.now) }
+    ensures answer { Answers result (record_of body.now) }
+    ensures memory { IsErrOf result RecordFault.Memory → MayList body.now }
 {
     match take_record(alloc, body) {
         Ok((record, rest)) => {
@@ -172,12 +174,13 @@ fn whole_record(alloc: Global, body: &[u8]) -> Result<Record, RecordFault>
 
 /// The record that a kind byte and a body spell. A body that is none is refused at the least place at which it leaves the
 /// grammar: some record's spelling has all of the bytes before it, and none has the byte there as well. Where the body is
-/// too short, that place is its length.
+/// too short, that place is its length. Only the contents that a record lists want memory.
 pub fn read_record(alloc: Global, body: &[u8]) -> Result<Record, RecordFault>
     ensures answer { Answers result (record_of body.now) }
     ensures spelled { IfOk result (λ r. HasSpelling r × (body.now ≡ spelling r)) }
     ensures refused { IfErr result (λ e. IsFaultOf body.now e) }
     ensures again { (r : Record) → HasSpelling r → body.now ≡ spelling r → IsOrMemory r result }
+    ensures memory { IsErrOf result RecordFault.Memory → MayList body.now }
 {
     whole_record(alloc, body)
 }
