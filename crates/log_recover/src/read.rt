@@ -25,6 +25,7 @@ const MOST_SPELLED: u32 = 2_621_506;
 /// The bytes of an entry beside its spelling: a gate and a length.
 const AROUND: u64 = 5;
 
+/// As many are read at a gate.
 const HEAD: usize = 5;
 
 /// The record whose spelling is so long and stands at this place.
