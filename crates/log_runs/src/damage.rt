@@ -62,8 +62,8 @@ fn of_cut(len: usize) -> Result<u32, RecoverFault> {
     Err(RecoverFault::BadRecord { at })
 }
 
-/// The gate of the record of which the byte at this place is a length, a kind, a tag or a count, and may have no other
-/// value.
+/// The gate of the record of which the byte at this place is a length, a kind, a tag or a count. No record has a value there
+/// that differs in one bit.
 fn fixed_by(place: usize) -> Option<u64> {
     match place {
         9..=13 | 34 | 67..=70 => Some(8),
@@ -74,8 +74,8 @@ fn fixed_by(place: usize) -> Option<u64> {
     }
 }
 
-/// What is answered of the run's log in which the byte at this place has this other value. A gate that is open no more ends
-/// the log; of numbers and digests each value is one.
+/// What is answered of the run's log in which the byte at this place has this value, which differs in one bit. A gate that is
+/// open no more ends the log; of numbers and digests each value is one.
 fn of_change(place: usize, byte: u8) -> Result<u32, RecoverFault> {
     if let Some(at) = fixed_by(place) {
         return Err(RecoverFault::BadRecord { at });
@@ -105,7 +105,7 @@ fn a_log_that_was_cut_is_begun_anew_or_damaged_at_a_gate(rt: HostRuntime) {
 }
 
 #[test]
-fn a_changed_byte_is_refused_at_its_gate_unless_the_records_are_whole(rt: HostRuntime) {
+fn a_turned_bit_is_refused_at_its_gate_unless_the_records_are_whole(rt: HostRuntime) {
     for place in 0..RUN.len() {
         for bit in 0..8u32 {
             let mut changed = RUN;
