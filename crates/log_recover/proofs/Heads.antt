@@ -1,7 +1,7 @@
 -- What the first five bytes at a gate tell.
-use Rattle.std.proofs.Common.{inl, inr, nat_lt, length-drop, ◌≡◌, ◌≤◌, ◌<◌, ℕ, ◌+◌, ◌^◌, List, [], ◌∷◌, ◌++◌, length, get_or, take, drop, Some, None, Ok, Err, sym, ap, subst, ◌∙◌, arith, length-append, length-take, append_assoc, append-nil, take-append-drop}
-use Rattle.std.proofs.lemmas.List.{nil_from_length, drop-drop, take_at, take_all}
-use Rattle.std.proofs.lemmas.Bool.{cases_eq, ltb-true}
+use Rattle.std.proofs.Common.{nat_lt, ◌≡◌, ◌≤◌, ◌<◌, ℕ, ◌+◌, ◌^◌, List, [], ◌∷◌, ◌++◌, length, get_or, take, drop, Some, None, Ok, Err, sym, ap, subst, ◌∙◌, arith, length-append, length-take, append_assoc, append-nil, take-append-drop}
+use Rattle.std.proofs.lemmas.List.{nil_from_length, drop-drop}
+use Rattle.std.proofs.lemmas.Bool.{ltb-true}
 use Rattle.byteorder.specs.Endian.{big_number}
 use Rattle.byte_fields.specs.declared.fault.FieldFault.TheVariants.{Short}
 use Rattle.byte_fields.proofs.Prompt.{guard_err}
@@ -13,7 +13,6 @@ use Rattle.byte_fields.proofs.Fields.{u32_is_field, ok_is}
 use Rattle.flow_types.specs.declared.records.Record.{Record}
 use Rattle.log_records.specs.Spelling.{spelling, most_spelled}
 use Rattle.txn_log.specs.Gates.{open_gate}
-use Rattle.outside.specs.Files.{Reads}
 use Rattle.log_recover.specs.Steps.{IsShut, IsShort, IsHead, BeginsSo, IsEntry, IsBroken, IsBody}
 use Rattle.log_recover.specs.declared.step.Head.{Head}
 use Rattle.log_recover.specs.declared.step.Head.TheVariants.{Shut, Length, Cut}

@@ -1,4 +1,3 @@
-use Rattle.std.proofs.Common.{refl}
 use Rattle.outside.specs.Files.{content}
 use Rattle.log_recover.specs.Windows.{bytes_in}
 use Rattle.log_recover.proofs.Windowing.{seen_covered}
