@@ -1,6 +1,8 @@
 ghost use Rattle.byte_fields.specs.Reading.{number_at};
+ghost use Rattle.byteorder.specs.Endian.{big_bytes};
 
 use super::*;
+use flow_types::Memory;
 use std::alloc::Global;
 use std::test::Fail;
 
@@ -22,6 +24,18 @@ impl PassedRow for Pairs {
     fn skip(bytes: &[u8]) -> Result<&[u8], FieldFault> {
         let (_, rest) = u16_field(bytes)?;
         Ok(rest)
+    }
+}
+
+impl PutRow for Pairs {
+    type Value = u16;
+
+    ghost spell = { λ number. big_bytes 2 number };
+
+    ghost fits = { λ number. Unit {0} };
+
+    fn put(row: &u16, out: &mut Vec<u8>) -> Result<(), Memory> {
+        put_u16(out, *row)
     }
 }
 
@@ -98,5 +112,13 @@ fn numbers_are_written_highest_byte_first(rt: HostRuntime) -> Result<(), Fail> {
     let end = place_bytes(&mut into, at, b"ab");
     assert_eq!(rt; end, 17);
     assert_eq!(rt; into.as_slice()[..15], want.as_slice()[..15]);
+    Ok(())
+}
+
+#[test]
+fn rows_are_written_behind_their_count(rt: HostRuntime) -> Result<(), Fail> {
+    let mut out = Vec::new(rt.alloc());
+    put_rows::<Pairs>(&mut out, &[258, 772])?;
+    assert_eq!(rt; out.as_slice(), b"\0\0\0\x02\x01\x02\x03\x04".as_slice());
     Ok(())
 }
