@@ -1,6 +1,10 @@
 mod Writing
+mod Scans
 mod ReadsBack
 mod Numbers
+mod Layers
+mod ValueLayers
+mod Values
 mod Complete
 mod Sound
 mod Decided

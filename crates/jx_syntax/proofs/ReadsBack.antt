@@ -1,6 +1,6 @@
 -- What is written for a text in quotes is read as that text.
 use lib.Utf8.{encode, encodes, scalars, scalar}
-use Rattle.std.proofs.Common.{◌≡◌, ℕ, zero, suc, ◌+◌, ◌*◌, ◌/◌, ◌%◌, ◌<◌, ◌≤◌, Bool, true, false, cond, ◌&&◌, ◌==◌, nat_lt, List, [], ◌∷◌, ◌++◌, length, get_or, Option, Some, None, Result, Ok, Err, ◌⊎◌, inl, inr, ◌-◌, refl, sym, ap, subst, ◌∙◌, append_assoc, arith}
+use Rattle.std.proofs.Common.{◌≡◌, ℕ, suc, ◌+◌, ◌*◌, ◌/◌, ◌%◌, ◌<◌, ◌≤◌, Bool, true, false, cond, ◌&&◌, ◌==◌, nat_lt, List, [], ◌∷◌, ◌++◌, length, get_or, Option, Some, None, Result, Ok, Err, ◌⊎◌, inl, inr, refl, sym, ap, subst, ◌∙◌, append_assoc, arith}
 use Rattle.std.proofs.lemmas.Bool.{eqb-true, le-ltb, lt-ltb}
 use Rattle.std.proofs.lemmas.Bool.Decides.{nat_tests}
 use Rattle.std.proofs.lemmas.List.{append-nil, length-append}
@@ -15,10 +15,10 @@ use Rattle.jx_tokens.specs.Texts.{content, before, escaped, escape, unit_at, uni
 use Rattle.std.specs.Str.{IsUtf8, is_utf8, chars}
 use Rattle.jx_tokens.specs.declared.token.Kind.TheVariants as kind
 use Rattle.jx_tokens.specs.declared.token.Piece.TheVariants as piece
-use Rattle.jx_tokens.specs.declared.token.Token.{Token}
 use Rattle.jx_tokens.specs.Tokens.{Scan, scan, scan_of, onto, front, literal, text_piece, tokens_of}
 use Rattle.jx_tokens.specs.Tokens as spec
 use Rattle.jx_syntax.specs.Written.{char_text, quoted}
+use Rattle.jx_syntax.proofs.Scans.{one_token}
 
 before-before : (a b : List ℕ) (r : Result (List ℕ) JxFault) → before a (before b r) ≡ before (a ++ b) r
 before-before a b (Ok s) = ap Ok (sym (append_assoc a b s))
@@ -240,51 +240,46 @@ char_closes c rest =
     choose_closes rest _ _ (nat_lt c 32) (λ e. let lt : c < 32 = grind (arith, nat_tests) in code_closes (c / 16) (c % 16) rest (omega arith) (omega arith))
     (λ low. shown_closes (encode c) rest (encode_is_shown c n34 n92)))))))
 
-closing-quote : closing false (34 ∷ []) ≡ Some 0
+closing-quote : (rest : List ℕ) → closing false (34 ∷ rest) ≡ Some 0
 unfolding closing
-closing-quote = refl
+closing-quote rest = refl
 
-pub closing-written : (cs : List ℕ) → closing false (flat_map char_text cs ++ 34 ∷ []) ≡ Some (length (flat_map char_text cs))
-closing-written [] = closing-quote
-closing-written (c ∷ cs) =
+pub closing-written : (cs rest : List ℕ) → closing false (flat_map char_text cs ++ 34 ∷ rest) ≡ Some (length (flat_map char_text cs))
+closing-written [] rest = closing-quote rest
+closing-written (c ∷ cs) rest =
     let more = flat_map char_text cs in
     let sum : length more + length (char_text c) ≡ length (char_text c ++ more) = omega (arith, length-append (char_text c) more) in
-    ap (closing false) (append_assoc (char_text c) more (34 ∷ [])) ∙ char_closes c (more ++ 34 ∷ []) ∙ ap (longer (length (char_text c))) (closing-written cs) ∙ ap Some sum
+    ap (closing false) (append_assoc (char_text c) more (34 ∷ rest)) ∙ char_closes c (more ++ 34 ∷ rest) ∙ ap (longer (length (char_text c))) (closing-written cs rest) ∙ ap Some sum
 
 -- ---- the one token
 
-pub scan-past : (k at : ℕ) (bs : List ℕ) → length bs ≤ k → scan k at bs ≡ record { tokens = []; fault = None }
-unfolding scan
-scan-past zero at [] h = refl
-scan-past (suc k) at [] h = refl
-scan-past zero at (b ∷ bs) h = absurd (omega arith)
-scan-past (suc k) at (b ∷ bs) h = scan-past k (at + 1) bs (omega arith)
-
-literal_reads : (cs : List ℕ) → literal 0 (flat_map char_text cs ++ 34 ∷ []) ≡ Ok (piece.Token (kind.Text (encodes cs)) (length (flat_map char_text cs) + 2))
+literal_reads : (cs rest : List ℕ) (at : ℕ) → literal at (flat_map char_text cs ++ 34 ∷ rest) ≡ Ok (piece.Token (kind.Text (encodes cs)) (length (flat_map char_text cs) + 2))
 unfolding literal
-literal_reads cs =
+literal_reads cs rest at =
     let w = flat_map char_text cs in
-    let rest : List ℕ = w ++ 34 ∷ [] in
-    ap (spec.quoted 0 rest) (closing-written cs)
-    ∙ ap (λ l. text_piece (length w) (content 0 (0 + 1) l)) (take-append_seam w (34 ∷ []))
-    ∙ ap (text_piece (length w)) (content-written cs 1)
+    let all : List ℕ = w ++ 34 ∷ rest in
+    ap (spec.quoted at all) (closing-written cs rest)
+    ∙ ap (λ l. text_piece (length w) (content 0 (at + 1) l)) (take-append_seam w (34 ∷ rest))
+    ∙ ap (text_piece (length w)) (content-written cs (at + 1))
 
-quoted_scans : (cs : List ℕ) → scan 0 0 (34 ∷ (flat_map char_text cs ++ 34 ∷ [])) ≡ record { tokens = record { place = 0; kind = kind.Text (encodes cs) } ∷ []; fault = None }
-unfolding scan front
-quoted_scans cs =
+-- a text in quotes stands in front, whatever follows
+pub quoted_front : (t rest : List ℕ) (at : ℕ) → is_utf8 t ≡ true → front at (quoted t ++ rest) ≡ Ok (piece.Token (kind.Text t) (length (quoted t)))
+unfolding front
+quoted_front t rest at u =
+    let cs = chars t in
     let w = flat_map char_text cs in
-    let rest : List ℕ = w ++ 34 ∷ [] in
-    let long : length rest ≤ length w + 2 - 1 = omega (arith, length-append w (34 ∷ [])) in
-    ap (λ r. onto 0 r (λ k. scan k (0 + 1) rest)) (literal_reads cs)
-    ∙ ap (λ (s : Scan). let r : Scan = record { tokens = record { place = 0; kind = kind.Text (encodes cs) } ∷ s.tokens; fault = s.fault } in r) (scan-past (length w + 2 - 1) (0 + 1) rest long)
+    let same : encodes cs ≡ t = encodes-chars t (IsUtf8-from_is_utf8 t u) in
+    let size : length w + 2 ≡ length (quoted t) = omega (arith, length-append w (34 ∷ [])) in
+    ap (λ l. literal at l) (append_assoc w (34 ∷ []) rest) ∙ literal_reads cs rest at
+    ∙ ap (λ x. Ok (piece.Token (kind.Text x) (length w + 2))) same ∙ ap (λ n. Ok (piece.Token (kind.Text t) n)) size
 
 -- ---- UTF-8
 
-abbrev AllAscii : List ℕ → Type 0
+abbrev pub AllAscii : List ℕ → Type 0
 AllAscii [] = Unit {0}
 AllAscii (x ∷ xs) = (x < 128) × AllAscii xs
 
-ascii_is_utf8 : (xs : List ℕ) → AllAscii xs → IsUtf8 xs
+pub ascii_is_utf8 : (xs : List ℕ) → AllAscii xs → IsUtf8 xs
 ascii_is_utf8 [] h = IsUtf8-nil
 ascii_is_utf8 (x ∷ xs) h =
     let s : scalar x ≡ true = grind (arith, nat_tests) in
@@ -317,7 +312,7 @@ written_is_utf8 c s =
     (omega arith, (omega arith, (omega arith, (omega arith, (digit_is_ascii (c / 16) (omega arith), (digit_is_ascii (c % 16) (omega arith), tt)))))))
     (λ low. char_is_utf8 c s))))))
 
-both_of : (a b : Bool) → (a && b) ≡ true → (a ≡ true) × (b ≡ true)
+pub both_of : (a b : Bool) → (a && b) ≡ true → (a ≡ true) × (b ≡ true)
 both_of true b h = (refl, h)
 both_of false b h = (h, absurd cc)
 
@@ -332,12 +327,14 @@ quoted_is_utf8 cs h =
     let mark : IsUtf8 (34 ∷ []) = ascii_is_utf8 (34 ∷ []) (omega arith, tt) in
     IsUtf8-append (34 ∷ []) (flat_map char_text cs ++ 34 ∷ []) mark (IsUtf8-append (flat_map char_text cs) (34 ∷ []) (all_written_are_utf8 cs h) mark)
 
+pub quoted_text_is_utf8 : (t : List ℕ) → is_utf8 t ≡ true → IsUtf8 (quoted t)
+quoted_text_is_utf8 t u = quoted_is_utf8 (chars t) (scalars-chars t (IsUtf8-from_is_utf8 t u))
+
 -- the text of a text is one token, which holds it
 pub texts-read_back : (t : List ℕ) → is_utf8 t ≡ true → length (quoted t) ≤ 16777216 → tokens_of (quoted t) ≡ Ok (record { place = 0; kind = kind.Text t } ∷ [])
 unfolding scan_of
 texts-read_back t u le =
-    let utf8 = IsUtf8-from_is_utf8 t u in
-    let same : encodes (chars t) ≡ t = encodes-chars t utf8 in
-    let good : is_utf8 (quoted t) ≡ true = is_utf8-from_IsUtf8 (quoted t) (quoted_is_utf8 (chars t) (scalars-chars t utf8)) in
+    let good : is_utf8 (quoted t) ≡ true = is_utf8-from_IsUtf8 (quoted t) (quoted_text_is_utf8 t u) in
     let small : nat_lt 16777216 (length (quoted t)) ≡ false = le-ltb 16777216 (length (quoted t)) le in
-    rw (small, good) (ap (λ (s : Scan). spec.result_of s.tokens s.fault) (quoted_scans (chars t)) ∙ ap (λ (x : List ℕ). let one : List Token = record { place = 0; kind = kind.Text x } ∷ [] in Ok one) same)
+    let some : 0 < length (quoted t) = omega arith in
+    rw (small, good) (ap (λ (s : Scan). spec.result_of s.tokens s.fault) (one_token (quoted t) (kind.Text t) some (quoted_front t [] 0 u)))

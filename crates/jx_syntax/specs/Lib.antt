@@ -6,3 +6,5 @@ pub mod Tree
 pub mod Shown
 pub mod GrammarLaws
 pub mod Examples
+pub mod Values
+pub mod ValueLaws

@@ -2,6 +2,7 @@
 ghost use Rattle.jx_syntax.specs.Laws.{NumbersReadBack, TextsReadBack};
 ghost use Rattle.jx_syntax.specs.GrammarLaws.{IsUnambiguous, IsDecided, IsOneOrTheOther};
 ghost use Rattle.jx_syntax.specs.GrammarLaws.{HasOneReason};
+ghost use Rattle.jx_syntax.specs.ValueLaws.{ValuesAreWritten, ValuesReadBack};
 
 /// What is written for a text is read as that text.
 pub fn texts_read_back()
@@ -11,6 +12,13 @@ pub fn texts_read_back()
 /// What is written for a number is read as that number.
 pub fn numbers_read_back()
     ensures { NumbersReadBack }
+{}
+
+/// What is written for a value is read as an expression of that value, exactly where its text has
+/// at most 16,777,216 bytes and opens at most 128 levels.
+pub fn values_read_back()
+    ensures written { ValuesAreWritten }
+    ensures read { ValuesReadBack }
 {}
 
 /// Two expressions that are written alike are one.

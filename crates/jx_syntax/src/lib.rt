@@ -3,8 +3,8 @@
 //! `parse` reads a text as the expression that the grammar derives from its tokens, or says why
 //! there is none. `value_text` writes a value's text. The laws say that the grammar is
 //! unambiguous, that each text is an expression or is refused for one reason, and that the text of
-//! a text and of a number is read again as one token of `jx_tokens`. What an expression evaluates
-//! to isn't here.
+//! a value is an expression of that value, exactly within the limits of length and nesting. What
+//! an expression evaluates to isn't here.
 #![tactic(auto)]
 
 mod behind;
@@ -29,7 +29,7 @@ pub use examples::{
 pub use expr::Expr;
 pub use laws::{
     a_refusal_has_one_reason, a_text_is_an_expression_or_refused, no_text_is_both,
-    numbers_read_back, texts_read_back, the_grammar_is_unambiguous,
+    numbers_read_back, texts_read_back, the_grammar_is_unambiguous, values_read_back,
 };
 pub use node::{Condition, Field, Form, Item, Loop, Node};
 pub use operator::{Operator, Sign};

@@ -1,0 +1,8 @@
+use Rattle.jx_syntax.proofs.Values.{values-are_written, values-read_back}
+use Rattle.jx_syntax.proofs.laws.values_read_back.Goals as goal
+
+pub returns-clause-written : goal.returns-clause-written
+returns-clause-written c = values-are_written
+
+pub returns-clause-read : goal.returns-clause-read
+returns-clause-read c = values-read_back
