@@ -135,7 +135,7 @@ at_end : (len : ℕ) (fs : List Frame) (x : Derivation) (tokens : List Token) (r
 at_end len fs x tokens ([], y) q r h e = ((record { level = r.level; nesting = omega (arith, r.nesting, h.nesting) }, r.same [] ∙ e), refl)
 at_end len fs x tokens (f ∷ gs, y) q r h e = unfinished len (has fs x) tokens h e (ap (alone len) (sym q))
 
-means_finished : (len : ℕ) (st : State) (tokens : List Token) → IsReached st → seen st [] ≡ tokens → Means len tokens None (finished len st)
+pub means_finished : (len : ℕ) (st : State) (tokens : List Token) → IsReached st → seen st [] ≡ tokens → Means len tokens None (finished len st)
 means_finished len (wants fs) tokens h e = unfinished len (wants fs) tokens h e refl
 means_finished len (has fs x) tokens h e = at_end len fs x tokens (reduce 1 fs x) refl (reduced 1 fs x h.good.1 (h.good.0 _) (h.good.0 1)) h e
 means_finished len (wants_key fs from ps) tokens h e = unfinished len (wants_key fs from ps) tokens h e refl

@@ -9,6 +9,7 @@ mod Complete
 mod Sound
 mod Decided
 mod Unique
+mod TooDeep
 mod Nodes
 mod Steps
 mod Applied

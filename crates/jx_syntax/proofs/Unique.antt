@@ -36,7 +36,7 @@ one_stop tokens t u s r =
     same_stop (IsViable 128) (shorter 128) s.before r.before s.behind r.behind t u (sym s.split ∙ r.split) s.viable r.viable s.stuck r.stuck
 
 -- tokens that begin an expression don't stop
-goes_on : (tokens : List Token) (t : Token) → StopsAt tokens t → IsViable 128 tokens → ⊥
+pub goes_on : (tokens : List Token) (t : Token) → StopsAt tokens t → IsViable 128 tokens → ⊥
 goes_on tokens t s v =
     s.stuck (shorter 128 (s.before ++ t ∷ []) s.behind (subst (IsViable 128) (s.split ∙ sym (append_assoc s.before (t ∷ []) s.behind)) v))
 

@@ -1,14 +1,14 @@
 -- What is written for a value is read as an expression of that value.
 use Rattle.std.proofs.Common.{◌≡◌, ℕ, suc, ◌+◌, ◌-◌, ◌<◌, ◌≤◌, ◌^◌, max, nat_lt, ℤ, pos, negsuc, Bool, true, false, List, [], ◌∷◌, ◌++◌, length, map, Option, Some, None, Ok, inl, inr, refl, sym, ap, subst, ◌∙◌, append_assoc, arith}
 use Rattle.std.proofs.lemmas.Bool.Decides.{nat_tests}
-use Rattle.std.proofs.lemmas.Bool.{le-ltb}
+use Rattle.std.proofs.lemmas.Bool.{le-ltb, lt-ltb}
 use Rattle.std.proofs.lemmas.List.{append-nil, length-append}
 use Rattle.std.proofs.lemmas.Str.{IsUtf8-append, IsUtf8-from_ascii, is_utf8-from_IsUtf8}
 use Rattle.std.proofs.lemmas.Fmt.{IsAscii-decimal}
 use Rattle.std.specs.Prelude.{codes, decimal, option_map}
 use Rattle.std.specs.Str.{IsUtf8, is_utf8}
 use Rattle.jx_tokens.specs.declared.fault.JxFault.{JxFault}
-use Rattle.jx_tokens.specs.declared.fault.JxFault.TheVariants.{TooLarge}
+use Rattle.jx_tokens.specs.declared.fault.JxFault.TheVariants.{TooDeep, TooLarge}
 use Rattle.jx_tokens.specs.declared.token.Kind.{Kind}
 use Rattle.jx_tokens.specs.declared.token.Kind.TheVariants as kind
 use Rattle.jx_tokens.specs.declared.token.Piece.TheVariants as piece
@@ -19,11 +19,11 @@ use Rattle.jx_syntax.specs.declared.value.JxValue.{JxValue}
 use Rattle.jx_syntax.specs.declared.value.JxValue.TheVariants as value
 use Rattle.jx_syntax.specs.declared.value.JxPair.{JxPair}
 use Rattle.jx_syntax.specs.Grammar as jx
-use Rattle.jx_syntax.specs.Grammar.{Derivation, Items, Item, Pairs, IsOfLevel, AreItems, IsItem, ArePairs, nests, items_nest, item_nests, pairs_nest, token, spells, items_spell, item_spells, pairs_spell}
+use Rattle.jx_syntax.specs.Grammar.{Refusal, Derivation, Items, Item, Pairs, IsOfLevel, AreItems, IsItem, ArePairs, nests, items_nest, item_nests, pairs_nest, token, spells, items_spell, item_spells, pairs_spell}
 use Rattle.jx_syntax.specs.Tree.{Entries, Fields, no_entries, no_loops, no_fields, entry, field, tree_of, entries_of, entry_of, fields_of}
 use Rattle.jx_syntax.specs.Written.{value_text, pair_text, separated, quoted}
 use Rattle.jx_syntax.specs.Values.{value_of, items_of, pairs_of, joined, paired, levels, pair_levels, greatest, is_held, pair_is_held, all_hold, in_range}
-use Rattle.jx_syntax.specs.ValueLaws.{ValuesAreWritten, ValuesReadBack}
+use Rattle.jx_syntax.specs.ValueLaws.{ValuesAreWritten, ValuesReadBack, DeepValuesAreRefused, LongValuesAreRefused}
 use Rattle.jx_syntax.proofs.Writing.{text-list, text-object, text-pair}
 use Rattle.jx_syntax.proofs.ValueLayers.{levels-list, levels-object, levels-pair, held-list, held-object, held-pair, null_text, null_levels, truth_text, truth_levels, number_text, plain_levels, minus_levels, number_held, text_text, text_levels, text_held}
 use Rattle.jx_syntax.proofs.Scans.{put, token_scans, scan-nil}
@@ -31,6 +31,10 @@ use Rattle.jx_syntax.proofs.ReadsBack.{quoted_front, quoted_text_is_utf8, ascii_
 use Rattle.jx_syntax.proofs.Numbers.{IsEnd, goes_on_with_none, decimal_front, decimal_some}
 use Rattle.jx_syntax.proofs.Layers.{by_layers}
 use Rattle.jx_syntax.proofs.Complete.{unambiguous}
+use Rattle.jx_syntax.proofs.TooDeep.{deep_is_refused}
+use Rattle.jx_syntax.proofs.Sound.{viable}
+use Rattle.jx_syntax.proofs.Decided.{begins}
+use Rattle.jx_syntax.specs.Reading.{wants}
 
 -- ---- tokens in front
 
@@ -492,3 +496,17 @@ values-read_back v d h w =
     (ap (λ (s : Scan). s.tokens) (sym s) ∙ sym w.0.1) in
     let deep : levels v ≤ 128 = omega (arith, x.nesting, ap nests same, w.0.0.nesting) in
     ((fits, deep), ap (λ (e : Derivation). value_of (tree_of e)) (sym same) ∙ x.says)
+
+pub deep-values_are_refused : DeepValuesAreRefused
+deep-values_are_refused v h fits deep =
+    let x = readable v h 0 in
+    let d = x.expression in
+    let s = whole_text v x fits in
+    let r = deep_is_refused (nests d) (length (value_text v)) d (record { level = x.level; nesting = omega arith }) (omega (arith, x.nesting, deep)) in
+    (r.0, subst (λ (s : Scan). Refusal (length (value_text v)) s.tokens s.fault (TooDeep r.0)) (sym s) r.1)
+
+pub long-values_are_refused : LongValuesAreRefused
+unfolding scan_of
+long-values_are_refused v long =
+    let large : nat_lt 16777216 (length (value_text v)) ≡ true = lt-ltb 16777216 (length (value_text v)) long in
+    rw large (inl (viable 128 (wants []) begins.good begins.nesting, refl))

@@ -3,6 +3,7 @@ ghost use Rattle.jx_syntax.specs.Laws.{NumbersReadBack, TextsReadBack};
 ghost use Rattle.jx_syntax.specs.GrammarLaws.{IsUnambiguous, IsDecided, IsOneOrTheOther};
 ghost use Rattle.jx_syntax.specs.GrammarLaws.{HasOneReason};
 ghost use Rattle.jx_syntax.specs.ValueLaws.{ValuesAreWritten, ValuesReadBack};
+ghost use Rattle.jx_syntax.specs.ValueLaws.{DeepValuesAreRefused, LongValuesAreRefused};
 
 /// What is written for a text is read as that text.
 pub fn texts_read_back()
@@ -15,10 +16,13 @@ pub fn numbers_read_back()
 {}
 
 /// What is written for a value is read as an expression of that value, exactly where its text has
-/// at most 16,777,216 bytes and opens at most 128 levels.
+/// at most 16,777,216 bytes and opens at most 128 levels. A longer one is too large, and one that
+/// only opens more levels is too deep.
 pub fn values_read_back()
     ensures written { ValuesAreWritten }
     ensures read { ValuesReadBack }
+    ensures deep { DeepValuesAreRefused }
+    ensures long { LongValuesAreRefused }
 {}
 
 /// Two expressions that are written alike are one.
