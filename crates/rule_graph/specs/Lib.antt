@@ -11,3 +11,4 @@ pub mod Examples
 pub mod Loops
 pub mod Walking
 pub mod Laws
+pub mod Limits

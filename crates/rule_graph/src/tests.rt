@@ -1,6 +1,10 @@
-use crate::{GraphFault, plan};
+ghost use Rattle.std.specs.Prelude.{IfOk};
+ghost use Rattle.flow_types.specs.Plans.{IsValid};
+
+use crate::{GraphFault, fits_limits, plan_digest, plan_of, serial_order};
 use flow_types::{
-    Memory, Name, Needs, Plan, RawFile, RawFlow, RawRule, Rows, RuleNo, SizeBound, Text,
+    Amounts, Memory, Name, Needs, Pair, Plan, RawFile, RawFlow, RawRule, Rows, RuleNo, SizeBound,
+    Text,
 };
 use std::alloc::Global;
 use std::test::Fail;
@@ -57,11 +61,14 @@ fn flow(alloc: Global, lines: &[&str]) -> Result<RawFlow, Memory> {
     })
 }
 
-// What `plan_of` answers; the limits of commands and amounts, which it requires, have no part in that.
-fn plan_of(alloc: Global, flow: RawFlow) -> Result<Plan, GraphFault> {
-    match plan::planned(alloc, flow) {
-        Ok(answer) => answer,
-        Err(_) => Err(GraphFault::Memory),
+// What `plan_of` answers for a flow that keeps its limits.
+fn answer(alloc: Global, flow: RawFlow) -> Result<Plan, GraphFault>
+    ensures { IfOk result IsValid }
+{
+    if fits_limits(&flow) {
+        plan_of(alloc, flow)
+    } else {
+        Err(GraphFault::Memory)
     }
 }
 
@@ -145,7 +152,7 @@ fn a_flow_is_refused_by_its_first_fault(rt: HostRuntime) -> Result<(), Fail> {
         (&["p: q", "q: r", "r: q", "s: t"], "cycle: 1 2"),
     ];
     for (lines, expected) in cases.iter() {
-        match plan_of(alloc, flow(alloc, lines)?) {
+        match answer(alloc, flow(alloc, lines)?) {
             Ok(_) => assert_eq!(rt; "none", *expected),
             Err(fault) => assert_eq!(rt; said(alloc, &fault)?.as_str(), *expected),
         }
@@ -178,21 +185,40 @@ fn many_inputs(alloc: Global, count: usize) -> Result<RawFlow, Memory> {
 #[test]
 fn a_rule_has_4096_inputs_at_most(rt: HostRuntime) -> Result<(), Fail> {
     let alloc = rt.alloc();
-    assert!(rt; plan_of(alloc, many_inputs(alloc, 4096)?).is_ok());
+    assert!(rt; answer(alloc, many_inputs(alloc, 4096)?).is_ok());
     assert!(rt;
         matches!(
-            plan_of(alloc, many_inputs(alloc, 4097)?),
+            answer(alloc, many_inputs(alloc, 4097)?),
             Err(GraphFault::TooMany(4096))
         )
     );
     Ok(())
 }
 
-fn planned(alloc: Global, flow: RawFlow) -> Result<Plan, Fail> {
-    match plan_of(alloc, flow) {
+fn planned(alloc: Global, flow: RawFlow) -> Result<Plan, Fail>
+    ensures { IfOk result IsValid }
+{
+    match answer(alloc, flow) {
         Ok(plan) => Ok(plan),
         Err(fault) => Err(Fail::from(said(alloc, &fault)?)),
     }
+}
+
+#[test]
+fn rules_run_when_their_inputs_are_there(rt: HostRuntime) -> Result<(), Fail> {
+    let alloc = rt.alloc();
+    let cases: [(&[&str], &str); 4] = [
+        (&[], ""),
+        (&["c: b", "b: a"], " 1 0"),
+        (&["b: s", "a: s", "c: a b"], " 0 1 2"),
+        (&["d: c", "e: s", "c: a", "a: s"], " 1 3 2 0"),
+    ];
+    for (lines, expected) in cases.iter() {
+        let plan = planned(alloc, flow(alloc, lines)?)?;
+        let order = serial_order(alloc, &plan)?;
+        assert_eq!(rt; numbers_of(alloc, order.as_slice())?.as_str(), *expected);
+    }
+    Ok(())
 }
 
 // Each file's name, maker, whether it is kept, and its bound.
@@ -270,5 +296,91 @@ fn a_name_is_taken_in_its_one_form(rt: HostRuntime) -> Result<(), Fail> {
         files_shown(alloc, &plan)?.as_str(),
         "a by 0 true 67108864;b/c false 67108864;"
     );
+    Ok(())
+}
+
+// `out: in` and `cat in > out`, spelled by hand, and its SHA-256 by another program:
+// 00000001                                          one rule
+// 0000000c 636174 20 696e 20 3e 20 6f7574           its command
+// 00000000                                          no variable
+// 00000001 00000000 00000002 696e                   one input: file 0, `in`
+// 00000001 00000001 00000003 6f7574                 one output: file 1, `out`
+// 0000000004000000                                  its bound
+// 00000002                                          two files
+// 00000002 696e 00 00 0000000004000000              `in`: a source, not kept
+// 00000003 6f7574 01 00000000 01 0000000004000000   `out`: made by rule 0, kept
+#[test]
+fn the_digest_is_that_of_the_spelling(rt: HostRuntime) -> Result<(), Fail> {
+    let alloc = rt.alloc();
+    let plan = planned(alloc, flow(alloc, &["out: in"])?)?;
+    let expected: [u8; 32] = [
+        0x14, 0xe3, 0x30, 0xe0, 0x9b, 0x76, 0x37, 0xf8, 0xe4, 0x45, 0x53, 0x9a, 0x53, 0xd8, 0x16,
+        0xf9, 0x67, 0x0b, 0x32, 0x14, 0xca, 0x0b, 0x8a, 0xc3, 0x5e, 0x66, 0x62, 0x4b, 0x24, 0x16,
+        0x3f, 0xfe,
+    ];
+    assert_eq!(rt; plan_digest(&plan).0.as_slice(), expected.as_slice());
+    Ok(())
+}
+
+// A text of so many bytes.
+fn long_text(alloc: Global, count: usize) -> Result<Text, Memory> {
+    let mut text = String::new(alloc);
+    for _ in 0..count {
+        if text.push('x').is_err() {
+            return Err(Memory);
+        }
+    }
+    Text::of(alloc, text.as_str())
+}
+
+// A flow of one rule with a command and a value of a variable of so many bytes, these needs, and this bound.
+fn limited(
+    alloc: Global,
+    command: usize,
+    value: usize,
+    cores: u32,
+    bytes: u64,
+) -> Result<RawFlow, Memory> {
+    let mut only = rule(alloc, "a", "b")?;
+    only.command = long_text(alloc, command)?;
+    only.needs = Needs::Stated(Amounts {
+        cores,
+        memory: 1,
+        disk: 1,
+    });
+    let pair = Pair {
+        name: Text::of(alloc, "N")?,
+        value: long_text(alloc, value)?,
+    };
+    let line = SizeBound {
+        name: Text::of(alloc, "a")?,
+        bytes,
+    };
+    if only.env.push(pair).is_err() {
+        return Err(Memory);
+    }
+    let mut flow = flow(alloc, &[])?;
+    if flow.rules.push(only).is_err() {
+        return Err(Memory);
+    }
+    if flow.bounds.push(line).is_err() {
+        return Err(Memory);
+    }
+    Ok(flow)
+}
+
+#[test]
+fn a_flow_at_its_limits_fits_them(rt: HostRuntime) -> Result<(), Fail> {
+    let cases = [
+        (1_048_576, 1_048_567, 1_000_000_000, 67_108_864, true),
+        (1_048_577, 0, 1, 1, false),
+        (1, 1_048_568, 1, 1, false),
+        (1, 1, 1_000_000_001, 1, false),
+        (1, 1, 1, 67_108_865, false),
+    ];
+    for (command, value, cores, bytes, expected) in cases {
+        let flow = limited(rt.alloc(), command, value, cores, bytes)?;
+        assert_eq!(rt; fits_limits(&flow), expected);
+    }
     Ok(())
 }
