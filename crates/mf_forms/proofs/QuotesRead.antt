@@ -1,12 +1,12 @@
 -- Runs of bytes outside and inside quotes.
-use Rattle.std.proofs.Common.{◌≡◌, ℕ, Bool, true, false, ◌||◌, eqb, List, [], ◌∷◌, ◌++◌, map, Option, Some, None, refl, sym, ap, ◌∙◌, arith}
+use Rattle.std.proofs.Common.{◌≡◌, ℕ, true, false, eqb, List, [], ◌∷◌, ◌++◌, Option, Some, None, refl, sym, ap, ◌∙◌}
 use Rattle.std.proofs.lemmas.Bool.{or_parts, eq-eqb}
 use Rattle.std.proofs.lemmas.List.{append-nil}
 use Rattle.std.specs.Prelude.{fold, is_some}
 use Rattle.std.specs.List.{list_any}
 use Rattle.mf_text.specs.Expansion.{holds}
 use Rattle.mf_forms.specs.Laws.{all_at, TextsWithoutMarks, QuotesThatEnd, QuotesThatStayOpen}
-use Rattle.mf_forms.specs.Quotes.{Place, bare, quoted, mark, is_quote, open_behind, place_behind, placed, placed_behind, is_open_at_end}
+use Rattle.mf_forms.specs.Quotes.{bare, quoted, mark, is_quote, open_behind, placed, placed_behind, is_open_at_end}
 
 bare-run : (front rest : List ℕ) → list_any is_quote front ≡ false → placed (front ++ rest) ≡ all_at bare front ++ placed rest
 bare-run [] rest h = refl

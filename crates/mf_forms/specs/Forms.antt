@@ -94,12 +94,20 @@ abbrev pub form_or_head : List ℕ → Option Form → Form
 form_or_head text None = Head text
 form_or_head text (Some form) = form
 
+-- the form of a line that begins with no tab, by its text before the comment, whether a quote stays open in it or not
+abbrev pub bare_form : List ℕ → Form
+bare_form text =
+    if not (is_filled (trimmed text)) then Passed
+    else form_or_head text (or_else (as_assignment false text) (or_else (as_export text) (as_setting text)))
+
+-- the form is that of a head
+abbrev pub is_head : Form → Bool
+is_head (Head text) = true
+is_head _ = false
+
 -- the form of a line that begins with no tab, by its text before the comment
 abbrev pub plain_form : List ℕ → Form
-plain_form text =
-    if is_open_at_end text then OpenQuote
-    else (if not (is_filled (trimmed text)) then Passed
-    else form_or_head text (or_else (as_assignment false text) (or_else (as_export text) (as_setting text))))
+plain_form text = if is_open_at_end text then OpenQuote (is_head (bare_form text)) else bare_form text
 
 -- the form of a line that begins with a tab, by its text without the blanks at both ends
 abbrev pub tab_form : List ℕ → Form

@@ -1,6 +1,6 @@
 //! The form of a line, which its own text decides.
 ghost use Rattle.std.specs.Prelude.{◌≡◌, IfOk};
-ghost use Rattle.mf_forms.specs.Forms.{uncommented, tab_form, plain_form, form_of};
+ghost use Rattle.mf_forms.specs.Forms.{uncommented, is_head, bare_form, tab_form, plain_form, form_of};
 
 use crate::assignments::{as_assignment, as_export};
 use crate::blanks::{first_byte, trimmed};
@@ -22,8 +22,10 @@ pub enum Resource {
 pub enum Form {
     /// Nothing but blanks and a comment, or a setting that says nothing here.
     Passed,
-    /// A quote stays open.
-    OpenQuote,
+    /// A quote stays open, in a line that is a head otherwise or not.
+    OpenQuote {
+        is_head: bool,
+    },
     /// The command of a rule, without the blanks around it.
     Command(Text),
     /// A variable and the text of its value, without the blanks and the quotes around it.
@@ -80,9 +82,25 @@ fn tab_form(alloc: Global, inside: &str) -> Result<Form, Memory>
 fn plain_form(alloc: Global, text: &str) -> Result<Form, Memory>
     ensures { IfOk result (λ form. form ≡ plain_form text.now) }
 {
+    let form = bare_form(alloc, text)?;
     if is_open_at_end(text) {
-        return Ok(Form::OpenQuote);
+        return Ok(Form::OpenQuote {
+            is_head: is_head(&form),
+        });
     }
+    Ok(form)
+}
+
+fn is_head(form: &Form) -> bool
+    ensures { result ≡ is_head form.now }
+{
+    matches!(form, Form::Head(_))
+}
+
+// The form of such a line, whether a quote stays open in it or not.
+fn bare_form(alloc: Global, text: &str) -> Result<Form, Memory>
+    ensures { IfOk result (λ form. form ≡ bare_form text.now) }
+{
     if trimmed(text).is_empty() {
         return Ok(Form::Passed);
     }

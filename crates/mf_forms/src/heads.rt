@@ -32,7 +32,7 @@ pub fn files_of_head(alloc: Global, text: &str) -> Result<Option<HeadFiles>, Mem
 fn files_in(alloc: Global, text: &str) -> Result<Rows<RawFile>, Memory>
     ensures { IfOk result (λ files. files ≡ files_in text.now) }
 {
-    let mut files = Rows::new(alloc);
+    let mut files = Vec::new(alloc);
     let mut rest = text;
     while let Some((item, behind)) = next_item(rest) {
         if files.push(file_of(alloc, item)?).is_err() {
@@ -40,7 +40,8 @@ fn files_in(alloc: Global, text: &str) -> Result<Rows<RawFile>, Memory>
         }
         rest = behind;
     }
-    Ok(files)
+    files.shrink_to_fit();
+    Ok(Rows::of(files))
 }
 
 // The first item with its quotation marks, and what follows it; none where there is no item.

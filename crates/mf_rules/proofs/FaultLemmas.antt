@@ -72,6 +72,15 @@ early line [] false None fault e small =
     absurd (small (16777216, sym is))
 early line [] false (Some t) fault e small = cc
 
+early_made : {X : Type 0} (line : ℕ) (unknown : List (List ℕ)) (is_open : Bool) (x : X) (fault : MakeFault) → settled line unknown is_open (Some x) ≡ Err fault → rank fault ≤ 4
+early_made line (name ∷ names) is_open x fault e =
+    let is : UnknownName line name ≡ fault = cc in
+    subst (λ (f : MakeFault). rank f ≤ 4) is (omega arith)
+early_made line [] true x fault e =
+    let is : OpenParen line ≡ fault = cc in
+    subst (λ (f : MakeFault). rank f ≤ 4) is (omega arith)
+early_made line [] false x fault e = absurd cc
+
 in_time : (line : ℕ) (unknown : List (List ℕ)) (is_open : Bool) (text : Option (List ℕ)) (fault : MakeFault)
     → settled line unknown is_open text ≡ Err fault → rank fault ≤ 9
 in_time line (name ∷ names) is_open text fault e =
@@ -99,6 +108,15 @@ keeps fault other true true h k =
 keeps fault other true false h k = let first = at_most (rank fault) (rank other) h in rw first refl
 keeps fault other false true h k = let first = at_most (rank fault) 9 k in rw first refl
 keeps fault other false false h k = refl
+
+-- a text that isn't made has the first fault of its line
+pub early_first : {X : Type 0} (line : ℕ) (unknown : List (List ℕ)) (is_open : Bool) (x : X) (fault other : MakeFault) (b large : Bool) (all : List MakeFault) → 4 < rank other
+    → Fails fault (settled line unknown is_open (Some x)) → ((f : MakeFault) → settled line unknown is_open (Some x) ≡ Err f → all ≡ f ∷ (where_true b other ++ where_true large (TooLarge 1048576)))
+    → Fails fault (refused (least all))
+early_first line unknown is_open x fault other b large all above fails is =
+    along fault (settled line unknown is_open (Some x)) (refused (least all)) (λ e.
+    let low : rank fault ≤ 4 = early_made line unknown is_open x fault e in
+    ap (λ (l : List MakeFault). refused (least l)) (is fault e) ∙ ap refused (keeps fault other b large (omega arith) (omega arith))) fails
 
 -- a fault that is not one of size comes first
 pub small_first : (fault other : MakeFault) (b : Bool) → 4 < rank other → (IsLarge fault → ⊥) → IsFirstOf fault b other fault

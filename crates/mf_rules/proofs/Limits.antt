@@ -1,5 +1,5 @@
 -- A flow whose lines have no fault keeps its limits.
-use Rattle.std.proofs.Common.{◌≡◌, ℕ, Bool, true, false, cond, not, ◌&&◌, nat_lt, nat_le, List, [], ◌∷◌, ◌++◌, map, reverse, length, Option, Some, None, is_some, unwrap_or, Result, Ok, Err, IfOk, IsTrue, All, refl, sym, subst, arith}
+use Rattle.std.proofs.Common.{◌≡◌, ℕ, Bool, true, false, cond, not, ◌&&◌, nat_lt, nat_le, List, [], ◌∷◌, ◌++◌, map, reverse, length, Option, Some, None, is_some, unwrap_or, Result, Ok, Err, IfOk, IsTrue, All, refl, sym, ap, subst, arith}
 use Rattle.std.proofs.lemmas.Bool.{ltb-false, le-leb}
 use Rattle.std.proofs.lemmas.List.{append-nil}
 use Rattle.std.proofs.lemmas.List.Elements.{All-nil, All-cons, All-append, All-map, All-weaker}
@@ -15,6 +15,8 @@ use Rattle.mf_text.specs.declared.lines.Line.{Line}
 use Rattle.mf_text.specs.declared.fault.MakeFault.{MakeFault}
 use Rattle.mf_text.specs.declared.fault.MakeFault.TheVariants.{NoCommand, StrayCommand, TooLarge}
 use Rattle.mf_text.specs.Answers.{Gives}
+use Rattle.mf_text.specs.declared.output.Expanded.{Expanded}
+use Rattle.mf_rules.proofs.Standing.{whole_at}
 use Rattle.mf_forms.specs.declared.form.Form.{Form}
 use Rattle.mf_forms.specs.declared.form.Form.TheVariants as form
 use Rattle.mf_forms.specs.declared.form.Resource.{Resource}
@@ -28,7 +30,7 @@ use Rattle.mf_rules.specs.declared.steps.Formed.{Formed}
 use Rattle.mf_rules.specs.declared.drafts.Head.{Head}
 use Rattle.mf_rules.specs.declared.drafts.Draft.{Draft}
 use Rattle.mf_rules.specs.Tables.{environment_size}
-use Rattle.mf_rules.specs.Values.{or_text, expanded_at, environment_at}
+use Rattle.mf_rules.specs.Values.{or_text, expanded_at, made_at, environment_at}
 use Rattle.mf_rules.specs.Categories.{is_same, amount_in, amount_by, amount_at, setting_by, category_at, needs_by, needs_at}
 use Rattle.mf_rules.specs.Rules.{head_at, draft_of, drafts_by, drafts_at, rule_of, bounds_by, bounds_at}
 use Rattle.mf_rules.specs.Faults.{lower, rank, least, where_true, is_answered, command_faults, faults_by, line_fault, first_fault}
@@ -169,7 +171,7 @@ module _ (env : List (List ℕ × List ℕ)) where
 
   bounds_of_line : (f : Form) (n : ℕ) (earlier : List Formed) → All FitsBound (bounds_by env f n earlier)
   bounds_of_line form.Passed n earlier = All-nil FitsBound
-  bounds_of_line form.OpenQuote n earlier = All-nil FitsBound
+  bounds_of_line (form.OpenQuote is_head) n earlier = All-nil FitsBound
   bounds_of_line (form.Command text) n earlier = All-nil FitsBound
   bounds_of_line (form.Assignment marks name appends text) n earlier = All-nil FitsBound
   bounds_of_line (form.Marking names) n earlier = All-nil FitsBound
@@ -184,25 +186,30 @@ module _ (env : List (List ℕ × List ℕ)) where
       All-append FitsBound (bounds_at env earlier) (bounds_by env line.form line.number earlier) (bounds_fit earlier) (bounds_of_line line.form line.number earlier)
 
   -- a command without a fault is within its limits, and so is its environment
-  draft_fits : (n : ℕ) (head : Option Head) (r : Result (List ℕ) MakeFault) (earlier : List Formed)
+  draft_fits : (n : ℕ) (head : Option Head) (r : Result Expanded MakeFault) (text : List ℕ) (earlier : List Formed)
       → command_faults n r ++ where_true (not (is_some head)) (StrayCommand n) ++ where_true (nat_lt 1048576 (environment_size (environment_at env earlier))) (TooLarge 1048576) ≡ []
-      → All FitsDraft (draft_of env head (or_text r) earlier)
-  draft_fits n head (Err fault) earlier e = absurd cc
-  draft_fits n None (Ok text) earlier e = All-nil FitsDraft
-  draft_fits n (Some head) (Ok text) earlier e =
+      → ((made : Expanded) → r ≡ Ok made → made.is_too_large ≡ false → text ≡ made.text)
+      → All FitsDraft (draft_of env head text earlier)
+  draft_fits n head (Err fault) text earlier e whole = absurd cc
+  draft_fits n None (Ok made) text earlier e whole = All-nil FitsDraft
+  draft_fits n (Some head) (Ok made) text earlier e whole =
       let size : Bool = nat_lt 1048576 (environment_size (environment_at env earlier)) in
-      let parts = both_empty (command_faults n (Ok text) ++ where_true false (StrayCommand n)) (where_true size (TooLarge 1048576)) e in
-      let front = both_empty (command_faults n (Ok text)) (where_true false (StrayCommand n)) parts.0 in
-      let command = both_empty (where_true (is_no_command text) (NoCommand n)) (where_true (nat_lt 1048576 (length (command_in text))) (TooLarge 1048576)) front.0 in
+      let parts = both_empty (command_faults n (Ok made) ++ where_true false (StrayCommand n)) (where_true size (TooLarge 1048576)) e in
+      let first = both_empty (command_faults n (Ok made)) (where_true false (StrayCommand n)) parts.0 in
+      let command = both_empty (where_true (is_no_command made.text) (NoCommand n) ++ where_true made.is_too_large (TooLarge 16777216)) (where_true (nat_lt 1048576 (length (command_in made.text))) (TooLarge 1048576)) first.0 in
+      let large = both_empty (where_true (is_no_command made.text) (NoCommand n)) (where_true made.is_too_large (TooLarge 16777216)) command.0 in
+      let same : text ≡ made.text = whole made refl (where_false made.is_too_large (TooLarge 16777216) large.1) in
       All-cons FitsDraft _ [] (
-        not_above (length (command_in text)) (where_false _ (TooLarge 1048576) command.1),
+        subst (λ (t : List ℕ). nat_le (length (command_in t)) 1048576 ≡ true) (sym same) (not_above (length (command_in made.text)) (where_false _ (TooLarge 1048576) command.1)),
         not_above (environment_size (environment_at env earlier)) (where_false size (TooLarge 1048576) parts.1),
       ) (All-nil FitsDraft)
 
   drafts_of_line : (f : Form) (n : ℕ) (earlier : List Formed) (answered : Bool) → faults_by env f n earlier answered ≡ [] → All FitsDraft (drafts_by env f n earlier)
   drafts_of_line form.Passed n earlier answered e = All-nil FitsDraft
-  drafts_of_line form.OpenQuote n earlier answered e = All-nil FitsDraft
-  drafts_of_line (form.Command text) n earlier answered e = draft_fits n (head_at env earlier) (expanded_at env earlier n text) earlier e
+  drafts_of_line (form.OpenQuote is_head) n earlier answered e = All-nil FitsDraft
+  drafts_of_line (form.Command text) n earlier answered e =
+      draft_fits n (head_at env earlier) (made_at env earlier n text) (or_text (expanded_at env earlier n text)) earlier e
+      (λ made is small. ap or_text (whole_at env earlier n text made is small))
   drafts_of_line (form.Assignment marks name appends text) n earlier answered e = All-nil FitsDraft
   drafts_of_line (form.Marking names) n earlier answered e = All-nil FitsDraft
   drafts_of_line (form.Category text) n earlier answered e = All-nil FitsDraft

@@ -1,5 +1,5 @@
 -- What stands behind one more line of each form.
-use Rattle.std.proofs.Common.{◌≡◌, ℕ, Bool, List, [], ◌∷◌, ◌++◌, Option, Some, Result, Ok, Err, refl, sym, ap, subst, ◌∙◌}
+use Rattle.std.proofs.Common.{◌≡◌, ◌<◌, ℕ, Bool, false, cond, List, [], ◌∷◌, ◌++◌, Option, Some, Result, Ok, Err, refl, sym, ap, subst, ◌∙◌}
 use Rattle.std.proofs.lemmas.List.{append-nil}
 use Rattle.std.specs.List.{flat_map, list_any}
 use Rattle.std.specs.FinMap as finite
@@ -7,7 +7,10 @@ use Rattle.flow_types.specs.declared.flow.SizeBound.{SizeBound}
 use Rattle.mf_text.specs.declared.fault.MakeFault.{MakeFault}
 use Rattle.mf_text.specs.declared.fault.MakeFault.TheVariants.{TooLarge}
 use Rattle.mf_text.specs.Answers.{Fails}
-use Rattle.mf_text.specs.Expansion.{expansion, pieces, unknown_in, is_unclosed, becomes, limited}
+use Rattle.mf_text.specs.declared.output.Expanded.{Expanded}
+use Rattle.mf_text.proofs.Writing.{whole_expansion}
+use Rattle.mf_rules.proofs.FaultLemmas.{early_first}
+use Rattle.mf_text.specs.Expansion.{expansion, shortened_expansion, pieces, unknown_in, is_unclosed, becomes, limited}
 use Rattle.mf_forms.specs.declared.form.Form.TheVariants as form
 use Rattle.mf_forms.specs.declared.form.Resource.{Resource}
 use Rattle.mf_forms.specs.declared.form.Resource.TheVariants as resource
@@ -18,11 +21,17 @@ use Rattle.mf_forms.specs.Numbers.{bound_in}
 use Rattle.mf_rules.specs.declared.steps.Formed.{Formed}
 use Rattle.mf_rules.specs.declared.categories.Categories.{Categories}
 use Rattle.mf_rules.specs.declared.reader.Reader.{Reader}
-use Rattle.mf_rules.specs.Values.{expanded_at, or_text}
+use Rattle.mf_rules.specs.Values.{value_at, expanded_at, made_at, or_text}
 use Rattle.mf_rules.specs.Categories.{amount_by, amount_at, category_at}
 use Rattle.mf_rules.specs.Rules.{or_no_files}
-use Rattle.mf_rules.specs.Faults.{least, where_true}
+use Rattle.mf_rules.specs.Faults.{rank, least, where_true}
 use Rattle.mf_rules.specs.Progress.{Stands, SetsAmount, IsFirstOf, amounts_of, refused}
+
+-- a text that isn't too large was made whole
+pub whole_at : (env : List (List ℕ × List ℕ)) (earlier : List Formed) (n : ℕ) (text : List ℕ) (made : Expanded) → made_at env earlier n text ≡ Ok made → made.is_too_large ≡ false
+    → expanded_at env earlier n text ≡ Ok made.text
+whole_at env earlier n text made is small =
+    whole_expansion (value_at env earlier) n text made is ∙ ap (λ (b : Bool). cond b (Err (TooLarge 16777216)) (Ok made.text)) small
 
 module _ (env : List (List ℕ × List ℕ)) (earlier : List Formed) (old : Reader) (n : ℕ) where
   -- the table's values expand a text as those of the lines do
@@ -45,6 +54,24 @@ module _ (env : List (List ℕ × List ℕ)) (earlier : List Formed) (old : Read
       let v : List ℕ → Option (List ℕ) = finite.get old.variables.values in
       is_first n (flat_map (unknown_in v) (pieces t)) (list_any is_unclosed (pieces t)) (limited (flat_map (becomes v) (pieces t))) is_large all fails
       (λ f e. is f (sym (expands text t s same) ∙ e))
+
+  -- what the table's values make of a text is what the lines' do
+  made_same : (text t : List ℕ) → Stands env earlier old → t ≡ text → shortened_expansion (finite.get old.variables.values) n t ≡ made_at env earlier n text
+  made_same text t s same =
+      ap (λ (x : List ℕ). shortened_expansion (finite.get old.variables.values) n x) same
+      ∙ ap (λ (v : List ℕ → Option (List ℕ)). shortened_expansion v n text) s.variables.values
+
+  pub made_is : (text t : List ℕ) (made : Expanded) → Stands env earlier old → t ≡ text → shortened_expansion (finite.get old.variables.values) n t ≡ Ok made → made_at env earlier n text ≡ Ok made
+  made_is text t made s same is = sym (made_same text t s same) ∙ is
+
+  -- a text that isn't made has the first fault of its line
+  pub early_at : (text t : List ℕ) (fault other : MakeFault) (has_other is_large : Bool) (all : List MakeFault) → Stands env earlier old → t ≡ text
+      → Fails fault (shortened_expansion (finite.get old.variables.values) n t) → 4 < rank other
+      → ((f : MakeFault) → made_at env earlier n text ≡ Err f → all ≡ f ∷ (where_true has_other other ++ where_true is_large (TooLarge 1048576))) → Fails fault (refused (least all))
+  early_at text t fault other has_other is_large all s same fails above is =
+      let v : List ℕ → Option (List ℕ) = finite.get old.variables.values in
+      early_first n (flat_map (unknown_in v) (pieces t)) (list_any is_unclosed (pieces t)) _ fault other has_other is_large all above fails
+      (λ f e. is f (sym (made_same text t s same) ∙ e))
 
   pub stands_passed : Stands env earlier old → Stands env (record { number = n; form = form.Passed } ∷ earlier) old
   stands_passed s = record {

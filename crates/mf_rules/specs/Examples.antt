@@ -1,7 +1,7 @@
 -- Worked texts, with the flow or the fault that each gives.
-use Rattle.std.specs.Prelude.{◌≡◌, ℕ, false, true, List, [], ◌∷◌, ◌++◌, map, codes, None, Some, Result, Ok, Err}
+use Rattle.std.specs.Prelude.{◌≡◌, ℕ, false, true, List, [], ◌∷◌, map, codes, None, Some, Result, Ok, Err}
 use Rattle.flow_types.specs.declared.numbers.Needs.TheVariants.{Whole, Stated}
-use Rattle.mf_text.specs.declared.fault.MakeFault.TheVariants.{OpenQuote, UnknownName, OpenParen, NoColon, NoCommand, StrayCommand, BadNumber}
+use Rattle.mf_text.specs.declared.fault.MakeFault.TheVariants.{OpenQuote, UnknownName, NoColon, NoCommand, StrayCommand, BadNumber}
 use Rattle.flow_types.specs.declared.flow.RawFlow.{RawFlow}
 use Rattle.mf_text.specs.declared.fault.MakeFault.{MakeFault}
 use Rattle.mf_text.specs.Lines.{joined}
@@ -53,6 +53,7 @@ abbrev pub FirstFaults : Type 0
 FirstFaults =
     (flow_from [] ((codes "out:" ∷ command_line (codes "echo $(X) > out") ∷ [])) ≡ Err (UnknownName 2 (codes "X")))
     × (flow_from [] ((codes "a: b" ∷ codes "A='" ∷ codes "c: d" ∷ command_line (codes "x") ∷ [])) ≡ Err (NoCommand 1))
+    × (flow_from [] ((codes "a: b" ∷ codes "'c: d" ∷ command_line (codes "x") ∷ [])) ≡ Err (NoCommand 1))
     × (flow_from [] ((codes "a $X" ∷ codes "c: d" ∷ [])) ≡ Err (UnknownName 1 (codes "X")))
     × (flow_from [] ((codes "a" ∷ command_line (codes "x") ∷ [])) ≡ Err (NoColon 1))
     × (flow_from [] ((command_line (codes "x") ∷ [])) ≡ Err (StrayCommand 1))

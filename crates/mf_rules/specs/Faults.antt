@@ -1,6 +1,7 @@
 -- The faults of each line, and the first of a text. Lines before a line come the nearest first.
 use Rattle.std.specs.Prelude.{ℕ, Bool, true, false, not, List, [], ◌∷◌, ◌++◌, length, nat_lt, nat_le, if◌then◌else◌, Option, Some, None, Result, Ok, Err, is_some}
 use Rattle.mf_text.specs.declared.fault.MakeFault.{MakeFault}
+use Rattle.mf_text.specs.declared.output.Expanded.{Expanded}
 use Rattle.mf_text.specs.declared.fault.MakeFault.TheVariants.{NotUtf8, OpenQuote, UnknownName, OpenParen, NoColon, NoCommand, StrayCommand, BadNumber, TooLarge, Memory}
 use Rattle.mf_forms.specs.declared.form.Form.{Form}
 use Rattle.mf_forms.specs.declared.form.Form.TheVariants as form
@@ -12,7 +13,7 @@ use Rattle.mf_forms.specs.Commands.{command_in, is_no_command}
 use Rattle.mf_forms.specs.Numbers.{bound_in}
 use Rattle.mf_rules.specs.declared.steps.Formed.{Formed}
 use Rattle.mf_rules.specs.Tables.{environment_size}
-use Rattle.mf_rules.specs.Values.{or_text, value_at, expanded_at, environment_at}
+use Rattle.mf_rules.specs.Values.{value_at, expanded_at, made_at, environment_at}
 use Rattle.mf_rules.specs.Categories.{amount_in, setting_by}
 use Rattle.mf_rules.specs.Rules.{head_at}
 
@@ -52,6 +53,7 @@ where_true false fault = []
 -- a command comes before the next head behind a line, where it does so behind the next one
 abbrev pub is_answered_by : Form → Bool → Bool
 is_answered_by (form.Head text) behind = false
+is_answered_by (form.OpenQuote true) behind = false
 is_answered_by (form.Command text) behind = true
 is_answered_by _ behind = behind
 
@@ -66,16 +68,23 @@ setting_faults number None = []
 setting_faults number (Some setting) = where_true (not (is_some (amount_in setting.1))) (BadNumber number)
 
 -- the faults of an expanded head
-abbrev pub head_faults : ℕ → Result (List ℕ) MakeFault → List MakeFault
+abbrev pub head_faults : ℕ → Result Expanded MakeFault → List MakeFault
 head_faults number (Err fault) = fault ∷ []
-head_faults number (Ok text) =
-    where_true (is_open_at_end text) (OpenQuote number) ++ where_true (not (is_some (files_of_head text))) (NoColon number)
+head_faults number (Ok made) =
+    where_true (is_open_at_end made.text) (OpenQuote number) ++ where_true (not (is_some (files_of_head made.text))) (NoColon number)
+    ++ where_true made.is_too_large (TooLarge 16777216)
 
 -- the faults of an expanded command
-abbrev pub command_faults : ℕ → Result (List ℕ) MakeFault → List MakeFault
+abbrev pub command_faults : ℕ → Result Expanded MakeFault → List MakeFault
 command_faults number (Err fault) = fault ∷ []
-command_faults number (Ok text) =
-    where_true (is_no_command text) (NoCommand number) ++ where_true (nat_lt 1048576 (length (command_in text))) (TooLarge 1048576)
+command_faults number (Ok made) =
+    where_true (is_no_command made.text) (NoCommand number) ++ where_true made.is_too_large (TooLarge 16777216)
+    ++ where_true (nat_lt 1048576 (length (command_in made.text))) (TooLarge 1048576)
+
+-- the faults of an expanded bound
+abbrev pub bound_faults : ℕ → Result Expanded MakeFault → List MakeFault
+bound_faults number (Err fault) = fault ∷ []
+bound_faults number (Ok made) = where_true (not (is_some (bound_in made.text))) (BadNumber number) ++ where_true made.is_too_large (TooLarge 16777216)
 
 -- the first of these names without a value
 abbrev pub first_unknown : (List ℕ → Option (List ℕ)) → ℕ → List (List ℕ) → List MakeFault
@@ -87,9 +96,9 @@ module _ (env : List (List ℕ × List ℕ)) where
   -- the faults that stand on a line, behind these lines, where a command comes before the next head or not
   abbrev pub faults_by : Form → ℕ → List Formed → Bool → List MakeFault
   faults_by form.Passed number earlier answered = []
-  faults_by form.OpenQuote number earlier answered = OpenQuote number ∷ []
+  faults_by (form.OpenQuote is_head) number earlier answered = OpenQuote number ∷ []
   faults_by (form.Command text) number earlier answered =
-      command_faults number (expanded_at env earlier number text)
+      command_faults number (made_at env earlier number text)
       ++ where_true (not (is_some (head_at env earlier))) (StrayCommand number)
       ++ where_true (nat_lt 1048576 (environment_size (environment_at env earlier))) (TooLarge 1048576)
   faults_by (form.Assignment marks name appends text) number earlier answered =
@@ -99,11 +108,9 @@ module _ (env : List (List ℕ × List ℕ)) where
   faults_by (form.Category text) number earlier answered = fault_in (expanded_at env earlier number text)
   faults_by (form.Amount set text) number earlier answered =
       fault_in (expanded_at env earlier number text) ++ setting_faults number (setting_by env (form.Amount set text) number earlier)
-  faults_by (form.SizeBound text) number earlier answered =
-      fault_in (expanded_at env earlier number text)
-      ++ where_true (not (is_some (bound_in (or_text (expanded_at env earlier number text))))) (BadNumber number)
+  faults_by (form.SizeBound text) number earlier answered = bound_faults number (made_at env earlier number text)
   faults_by (form.Head text) number earlier answered =
-      head_faults number (expanded_at env earlier number text) ++ where_true (not answered) (NoCommand number)
+      head_faults number (made_at env earlier number text) ++ where_true (not answered) (NoCommand number)
 
   -- the fault of the least rank on a line
   abbrev pub line_fault : List Formed → Formed → Bool → Option MakeFault

@@ -7,6 +7,7 @@ use Rattle.flow_types.specs.declared.flow.Pair.{Pair}
 use Rattle.flow_types.specs.declared.flow.RawRule.{RawRule}
 use Rattle.mf_text.specs.declared.fault.MakeFault.{MakeFault}
 use Rattle.mf_text.specs.declared.fault.MakeFault.TheVariants.{StrayCommand, TooLarge}
+use Rattle.mf_text.specs.declared.output.Expanded.{Expanded}
 use Rattle.mf_text.specs.Names.{behind_old}
 use Rattle.mf_forms.specs.Commands.{is_local, command_in}
 use Rattle.mf_text.specs.Answers.{Fails}
@@ -128,9 +129,9 @@ pub record Drafts (old : Reader) (text : List ℕ) (pairs : List Pair) (new : Re
   pub drafts : new.drafts.items ≡ old.drafts.items ++ drafted old.waiting text pairs
 
 -- the faults of an expanded command, where a head waits or not and its environment is too large or not
-abbrev pub all_of_command : ℕ → List ℕ → Bool → Bool → List MakeFault
-all_of_command number text is_waiting is_large =
-    command_faults number (Ok text) ++ where_true (not is_waiting) (StrayCommand number) ++ where_true is_large (TooLarge 1048576)
+abbrev pub all_of_command : ℕ → Expanded → Bool → Bool → List MakeFault
+all_of_command number made is_waiting is_large =
+    command_faults number (Ok made) ++ where_true (not is_waiting) (StrayCommand number) ++ where_true is_large (TooLarge 1048576)
 
 -- the steps over these lines, of which the next one comes last
 abbrev pub stack_of : List Formed → List Step

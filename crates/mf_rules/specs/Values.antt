@@ -4,8 +4,9 @@ use Rattle.std.specs.List.{flat_map}
 use Rattle.std.specs.Str.{bytes_eq}
 use Rattle.flow_types.specs.declared.flow.Pair.{Pair}
 use Rattle.mf_text.specs.declared.fault.MakeFault.{MakeFault}
+use Rattle.mf_text.specs.declared.output.Expanded.{Expanded}
 use Rattle.mf_text.specs.Names.{behind_old}
-use Rattle.mf_text.specs.Expansion.{expansion}
+use Rattle.mf_text.specs.Expansion.{expansion, shortened_expansion}
 use Rattle.mf_forms.specs.declared.form.Form.{Form}
 use Rattle.mf_forms.specs.declared.form.Form.TheVariants as form
 use Rattle.mf_rules.specs.declared.steps.Formed.{Formed}
@@ -64,6 +65,10 @@ module _ (env : List (List ℕ × List ℕ)) where
   -- a text of a line, expanded by the values there
   abbrev pub expanded_at : List Formed → ℕ → List ℕ → Result (List ℕ) MakeFault
   expanded_at earlier number text = expansion (value_at earlier) number text
+
+  -- the same text as far as the limit of values goes, by which other faults of its line are told
+  abbrev pub made_at : List Formed → ℕ → List ℕ → Result Expanded MakeFault
+  made_at earlier number text = shortened_expansion (value_at earlier) number text
 
   -- the marked names, each once and in byte order, with their values
   abbrev pub environment_at : List Formed → List Pair

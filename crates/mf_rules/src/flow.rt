@@ -35,5 +35,6 @@ fn read_lines(
             Err(fault) => return Err(fault),
         }
     }
+    drop(steps);
     Ok(reader.finish(alloc)?)
 }

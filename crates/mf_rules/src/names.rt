@@ -85,6 +85,7 @@ impl Names {
                 return Err(Memory);
             };
         }
+        pairs.shrink_to_fit();
         Ok(Some(Rows::of(pairs)))
     }
 }

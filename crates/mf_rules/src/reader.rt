@@ -4,22 +4,18 @@ ghost use Rattle.mf_rules.specs.declared.steps.Formed.{Formed};
 ghost use Rattle.mf_rules.specs.Tables.{environment_size};
 ghost use Rattle.mf_rules.specs.Flow.{given_pairs, flow_at};
 ghost use Rattle.mf_text.specs.Answers.{Fails};
-ghost use Rattle.mf_forms.specs.Heads.{files_of_head};
-ghost use Rattle.mf_rules.specs.Faults.{least, head_faults, where_true};
-ghost use Rattle.mf_rules.specs.Progress.{Goes, Stands, Drafts, all_of_command, table_pairs, refused, with_needs};
+ghost use Rattle.mf_rules.specs.Faults.{least, where_true};
+ghost use Rattle.mf_rules.specs.Progress.{Goes, Stands, Drafts, table_pairs, refused, with_needs};
 
 use crate::categories::{Categories, resource_of};
 use crate::drafts::{Draft, Head};
-use crate::faults::first_of;
+use crate::faults::{check_command, first_of, head_files, stated_bound};
 use crate::names::{MAX_COMMAND, value_or_empty};
 use crate::steps::{Formed, Step};
 use crate::variables::Variables;
 use flow_types::{Memory, Pair, RawFlow, RawRule, Rows, SizeBound, Text};
-use mf_forms::{
-    Form, HeadFiles, Resource, command_in, files_of_head, is_local, is_no_command, is_open_at_end,
-    size_bound_in, words,
-};
-use mf_text::{MakeFault, expand};
+use mf_forms::{Form, HeadFiles, Resource, command_in, is_local, words};
+use mf_text::{MakeFault, expand, expand_shortened};
 use std::alloc::Global;
 
 /// What the lines read so far say.
@@ -56,7 +52,7 @@ impl Reader {
         let Formed { number, form } = line;
         match form {
             Form::Passed => Ok(()),
-            Form::OpenQuote => Err(MakeFault::OpenQuote(number)),
+            Form::OpenQuote { is_head: _ } => Err(MakeFault::OpenQuote(number)),
             Form::Command(text) => self.command(alloc, number, &text),
             Form::Assignment {
                 marks,
@@ -77,15 +73,12 @@ impl Reader {
             (record { number = number; form = Form.Command text.now }) answered result self.new }
     {
         let is_waiting = self.waiting.is_some();
-        match expand(alloc, &self.variables.values, number, text.as_str()) {
-            Ok(expanded) => {
-                let expanded = expanded.as_str();
-                match check_command(number, expanded, is_waiting) {
-                    Ok(()) => self.draft(alloc, expanded),
-                    Err(fault) => Err(fault),
-                }
-            }
-            Err(fault) => Err(first_of(fault, !is_waiting, MakeFault::StrayCommand(number))),
+        match expand_shortened(alloc, &self.variables.values, number, text.as_str()) {
+            Ok(made) => match check_command(number, &made, is_waiting) {
+                Ok(()) => self.draft(alloc, made.text.as_str()),
+                Err(fault) => Err(fault),
+            },
+            Err(fault) => Err(fault),
         }
     }
 
@@ -200,12 +193,12 @@ impl Reader {
         ensures { (answered : Bool) → Goes self.old
             (record { number = number; form = Form.SizeBound text.now }) answered result self.new }
     {
-        match expand(alloc, &self.variables.values, number, text.as_str()) {
-            Ok(text) => match size_bound_in(alloc, text.as_str()) {
-                Ok(found) => self.push_bound(number, found),
-                Err(_) => Err(MakeFault::Memory),
+        match expand_shortened(alloc, &self.variables.values, number, text.as_str()) {
+            Ok(made) => match stated_bound(alloc, number, &made) {
+                Ok(bound) => self.push_bound(bound),
+                Err(fault) => Err(fault),
             },
-            Err(fault) => Err(first_of(fault, true, MakeFault::BadNumber(number))),
+            Err(fault) => Err(fault),
         }
     }
 
@@ -219,12 +212,12 @@ impl Reader {
         ensures { Goes self.old (record { number = number; form = Form.Head text.now })
             is_answered result self.new }
     {
-        match expand(alloc, &self.variables.values, number, text.as_str()) {
-            Ok(text) => match head_files(alloc, number, text.as_str(), is_answered) {
+        match expand_shortened(alloc, &self.variables.values, number, text.as_str()) {
+            Ok(made) => match head_files(alloc, number, &made, is_answered) {
                 Ok(files) => self.wait(alloc, number, files),
                 Err(fault) => Err(fault),
             },
-            Err(fault) => Err(first_of(fault, !is_answered, MakeFault::NoCommand(number))),
+            Err(fault) => Err(fault),
         }
     }
 
@@ -253,21 +246,15 @@ impl Reader {
         }
     }
 
-    // One bound more, or the fault of a line without one.
-    fn push_bound(&mut self, number: u32, found: Option<SizeBound>) -> Result<(), MakeFault>
+    fn push_bound(&mut self, bound: SizeBound) -> Result<(), MakeFault>
         ensures rest { self.new ≡ record self.old { bounds = self.new.bounds } }
-        ensures bounds { MatchOption found
-            (Fails {Y = Unit {0}} (MakeFault.BadNumber number) result)
-            (λ bound. MatchResult result
+        ensures bounds { MatchResult result
             (λ _. self.new.bounds.items ≡ self.old.bounds.items ++ bound ∷ [])
-            (λ fault. fault ≡ MakeFault.Memory)) }
+            (λ fault. fault ≡ MakeFault.Memory) }
     {
-        match found {
-            Some(bound) => match self.bounds.push(bound) {
-                Ok(()) => Ok(()),
-                Err(_) => Err(MakeFault::Memory),
-            },
-            None => Err(MakeFault::BadNumber(number)),
+        match self.bounds.push(bound) {
+            Ok(()) => Ok(()),
+            Err(_) => Err(MakeFault::Memory),
         }
     }
 
@@ -302,7 +289,11 @@ fn rules_of(
 ) -> Result<Vec<RawRule>, Memory>
     ensures { IfOk result (λ rules. rules.items ≡ map (with_needs categories.now) drafts.items) }
 {
-    let mut rules = Vec::new(alloc);
+    let mut drafts = drafts;
+    drafts.shrink_to_fit();
+    let Ok(mut rules) = Vec::with_capacity(alloc, drafts.len()) else {
+        return Err(Memory);
+    };
     for draft in drafts {
         let rule = with_needs(categories, draft);
         let Ok(()) = rules.push(rule) else {
@@ -335,49 +326,5 @@ fn with_needs(categories: &Categories, draft: Draft) -> RawRule
         local,
         needs: categories.needs(category.as_str()),
         env,
-    }
-}
-
-// The first fault of an expanded command, but for an environment that is too large.
-fn check_command(number: u32, text: &str, is_waiting: bool) -> Result<(), MakeFault>
-    ensures { (is_large : Bool) → MatchResult result
-        (λ _. least (all_of_command number text.now is_waiting is_large)
-        ≡ least (where_true is_large (MakeFault.TooLarge 1048576)))
-        (λ fault. Fails fault
-        (refused (least (all_of_command number text.now is_waiting is_large)))) }
-{
-    if is_no_command(text) {
-        return Err(MakeFault::NoCommand(number));
-    }
-    if !is_waiting {
-        return Err(MakeFault::StrayCommand(number));
-    }
-    if command_in(text).len() as u64 > MAX_COMMAND {
-        return Err(MakeFault::TooLarge(MAX_COMMAND));
-    }
-    Ok(())
-}
-
-// The files that an expanded head names, or the first fault of its line.
-fn head_files(
-    alloc: Global,
-    number: u32,
-    text: &str,
-    is_answered: bool,
-) -> Result<HeadFiles, MakeFault>
-    ensures { MatchResult result
-        (λ files. (files_of_head text.now ≡ Some files) × (least (head_faults number (Ok text.now)
-        ++ where_true (not is_answered) (MakeFault.NoCommand number)) ≡ None))
-        (λ fault. Fails fault (refused (least (head_faults number (Ok text.now)
-        ++ where_true (not is_answered) (MakeFault.NoCommand number))))) }
-{
-    if is_open_at_end(text) {
-        return Err(MakeFault::OpenQuote(number));
-    }
-    match files_of_head(alloc, text) {
-        Ok(Some(files)) if is_answered => Ok(files),
-        Ok(Some(_)) => Err(MakeFault::NoCommand(number)),
-        Ok(None) => Err(MakeFault::NoColon(number)),
-        Err(_) => Err(MakeFault::Memory),
     }
 }

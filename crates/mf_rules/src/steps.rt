@@ -56,7 +56,7 @@ fn answers_before(form: &Form, behind: bool) -> bool
     ensures { result ≡ is_answered_by form.now behind }
 {
     match form {
-        Form::Head(_) => false,
+        Form::Head(_) | Form::OpenQuote { is_head: true } => false,
         Form::Command(_) => true,
         _ => behind,
     }

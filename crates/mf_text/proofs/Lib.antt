@@ -3,3 +3,4 @@ pub mod ScopeLemmas
 pub mod Cutting
 pub mod Writing
 pub mod CuttingOnce
+pub mod Fronts

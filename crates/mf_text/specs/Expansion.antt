@@ -1,8 +1,10 @@
 -- The expansion of a text: the pieces that it consists of, and what they become.
-use Rattle.std.specs.Prelude.{ℕ, suc, zero, ◌+◌, Bool, true, false, List, [], ◌∷◌, length, nat_lt, ◌==◌, if◌then◌else◌, Option, Some, None, Result, Ok, Err, unwrap_or}
+use Rattle.std.specs.Prelude.{ℕ, suc, zero, ◌+◌, ◌-◌, Bool, true, false, List, [], ◌∷◌, ◌++◌, length, take, nat_lt, ◌==◌, if◌then◌else◌, Option, Some, None, Result, Ok, Err, unwrap_or}
 use Rattle.std.specs.List.{flat_map, list_any, position_or_len, before_first, take_while, prefix_len}
+use Rattle.std.specs.Fmt.Cut.{floor_char_boundary}
 use Rattle.mf_text.specs.declared.fault.MakeFault.{MakeFault}
 use Rattle.mf_text.specs.declared.fault.MakeFault.TheVariants.{UnknownName, OpenParen, TooLarge}
+use Rattle.mf_text.specs.declared.output.Expanded.{Expanded}
 use Rattle.mf_text.specs.Names.{begins_name, continues_name, is_variable}
 
 -- A text's pieces, in order.
@@ -66,6 +68,10 @@ abbrev pub without_value : List ℕ → Option (List ℕ) → List (List ℕ)
 without_value text None = text ∷ []
 without_value text (Some v) = []
 
+-- the whole characters at the beginning of a longer text that have at most this many bytes
+abbrev pub front : ℕ → List ℕ → List ℕ
+front room text = take (floor_char_boundary text room) text
+
 module _ (value : List ℕ → Option (List ℕ)) where
   -- the value of the name that a text is, none where it is no name
   abbrev pub value_in : List ℕ → Option (List ℕ)
@@ -83,14 +89,32 @@ module _ (value : List ℕ → Option (List ℕ)) where
   becomes (named text) = unwrap_or (value_in text) []
   becomes unclosed = []
 
--- the least fault by its number, the leftmost unknown text first; without a fault what was written
-abbrev pub settled : ℕ → List (List ℕ) → Bool → Option (List ℕ) → Result (List ℕ) MakeFault
-settled line (name ∷ names) is_open written = Err (UnknownName line name)
-settled line [] true written = Err (OpenParen line)
+  -- what pieces become where their values may have this many bytes; what passes them is left out, by whole characters
+  abbrev pub shortened : ℕ → List Piece → List ℕ
+  shortened room [] = []
+  shortened room (plain b ∷ more) = b ∷ shortened room more
+  shortened room (dollar ∷ more) = 36 ∷ shortened room more
+  shortened room (unclosed ∷ more) = shortened room more
+  shortened room (named text ∷ more) =
+      if nat_lt room (length (becomes (named text))) then (front room (becomes (named text)) ++ shortened 0 more)
+      else (becomes (named text) ++ shortened (room - length (becomes (named text))) more)
+
+-- the least fault by its number, the leftmost unknown text first; without a fault what was made, if it keeps the limit
+abbrev pub settled : {X : Type 0} → ℕ → List (List ℕ) → Bool → Option X → Result X MakeFault
+settled line (name ∷ names) is_open made = Err (UnknownName line name)
+settled line [] true made = Err (OpenParen line)
 settled line [] false None = Err (TooLarge 16777216)
-settled line [] false (Some text) = Ok text
+settled line [] false (Some x) = Ok x
 
 -- a text of the line, expanded once from left to right by the values of names
 abbrev pub expansion : (List ℕ → Option (List ℕ)) → ℕ → List ℕ → Result (List ℕ) MakeFault
 expansion value line text =
     settled line (flat_map (unknown_in value) (pieces text)) (list_any is_unclosed (pieces text)) (limited (flat_map (becomes value) (pieces text)))
+
+-- the same with values of at most 16,777,216 bytes together, and whether the whole text has more
+abbrev pub shortened_expansion : (List ℕ → Option (List ℕ)) → ℕ → List ℕ → Result Expanded MakeFault
+shortened_expansion value line text =
+    settled line (flat_map (unknown_in value) (pieces text)) (list_any is_unclosed (pieces text)) (Some (record {
+      text = shortened value 16777216 (pieces text);
+      is_too_large = nat_lt 16777216 (length (flat_map (becomes value) (pieces text)));
+    }))

@@ -6,7 +6,7 @@ use Rattle.mf_forms.proofs.heads.files_in.Given as goal
 
 -- what is left decides
 abbrev pub invariant-loop-item : goal.invariant-loop-item
-invariant-loop-item l = shadow (Utf8 l.rest) × (l.files ++ files_in l.rest ≡ files_in l.text)
+invariant-loop-item l = shadow (Utf8 l.rest) × (l.files.items ++ files_in l.rest ≡ files_in l.text)
 
 abbrev pub decreases-loop-item : goal.decreases-loop-item
 decreases-loop-item l = length l.rest

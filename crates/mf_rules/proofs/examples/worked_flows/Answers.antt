@@ -15,4 +15,4 @@ returns-clause-many_forms c = rw (no_entries, no_entries) refl
 
 pub returns-clause-first_faults : goal.returns-clause-first_faults
 unfolding begins_name continues_name joined pieces_from
-returns-clause-first_faults c = (rw no_entries refl, refl, refl, refl, rw no_entries refl, rw no_entries refl, refl, refl, refl, refl)
+returns-clause-first_faults c = (rw no_entries refl, refl, refl, refl, refl, rw no_entries refl, rw no_entries refl, refl, refl, refl, refl)

@@ -80,6 +80,6 @@ returns c =
     let all : List Pair = pairs_of value (names_in c.args.self.now) in
     let done = rest_all deref c.loop-name.name-iterator c.next.new.self c.next.result c.in-None.is c.next.ensures.steps in
     let whole : ps ≡ all = sym (append-nil ps) ∙ ap (λ (l : List (String Global)). ps ++ pairs_of value (map string_bytes l)) (sym done) ∙ c.loop-name.invariant.whole in
-    let is : c.of.result ≡ all = c.of.ensures ∙ whole in
+    let is : c.of.result ≡ all = c.of.ensures ∙ c.shrink_to_fit.ensures.items ∙ whole in
     let fits : environment_size all ≤ 1048576 = omega (arith, ap environment_size whole, c.loop-name.invariant.counted, c.loop-name.invariant.small) in
     ap (λ (l : List Pair). Some l) is ∙ sym (small all fits)

@@ -1,4 +1,4 @@
-use Rattle.std.proofs.Common.{rules, ◌≡◌, ◌++◌, ◌∷◌, ℕ, List, String, Global, Option, Some, None, sym, ap, ◌∙◌, string_bytes}
+use Rattle.std.proofs.Common.{rules, ◌≡◌, ℕ, List, String, Global, Option, Some, None, sym, ap, ◌∙◌, string_bytes}
 use Rattle.std.specs.Option.{option_map}
 use Rattle.std.specs.FinMap as map
 use Rattle.mf_text.specs.Names.{Values, behind_old}
