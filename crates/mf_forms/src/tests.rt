@@ -1,6 +1,7 @@
 use super::*;
 use flow_types::{RawFile, Text};
 use std::alloc::Global;
+use std::process::Abort;
 use std::test::Fail;
 
 // Texts, each in brackets.
@@ -12,6 +13,193 @@ fn bracketed(alloc: Global, texts: &[Text]) -> Result<String, Fail> {
         shown.push_str(&piece)?;
     }
     Ok(shown)
+}
+
+fn resource_word(resource: Resource) -> &'static str {
+    match resource {
+        Resource::Cores => "cores",
+        Resource::Memory => "memory",
+        Resource::Disk => "disk",
+    }
+}
+
+fn shown_form(alloc: Global, form: &Form) -> Result<String, Fail> {
+    let shown = match form {
+        Form::Passed => format!(in alloc; "passed")?,
+        Form::OpenQuote { is_head } => {
+            let kind = if *is_head { "head" } else { "line" };
+            format!(in alloc; "open quote in a {kind}")?
+        }
+        Form::Command(text) => {
+            let text = text.as_str();
+            format!(in alloc; "command [{text}]")?
+        }
+        Form::Assignment {
+            marks,
+            name,
+            appends,
+            value,
+        } => {
+            let marks = if *marks { "export " } else { "" };
+            let sign = if *appends { "+=" } else { "=" };
+            let name = name.as_str();
+            let value = value.as_str();
+            format!(in alloc; "{marks}{name}{sign}[{value}]")?
+        }
+        Form::Marking(names) => {
+            let names = bracketed(alloc, names.as_slice())?;
+            format!(in alloc; "export {names}")?
+        }
+        Form::Category(text) => {
+            let text = text.as_str();
+            format!(in alloc; "category [{text}]")?
+        }
+        Form::Amount(resource, text) => {
+            let word = resource_word(*resource);
+            let text = text.as_str();
+            format!(in alloc; "{word} [{text}]")?
+        }
+        Form::SizeBound(text) => {
+            let text = text.as_str();
+            format!(in alloc; "size [{text}]")?
+        }
+        Form::Head(text) => {
+            let text = text.as_str();
+            format!(in alloc; "head [{text}]")?
+        }
+    };
+    Ok(shown)
+}
+
+fn expect_forms(rt: &impl Abort, alloc: Global, cases: &[(&str, &str)]) -> Result<(), Fail> {
+    for (line, wanted) in cases.iter() {
+        let form = form_of(alloc, line)?;
+        let shown = shown_form(alloc, &form)?;
+        assert_eq!(rt; shown.as_str(), *wanted);
+    }
+    Ok(())
+}
+
+#[test]
+fn lines_that_are_passed_over(rt: HostRuntime) -> Result<(), Fail> {
+    let cases: [(&str, &str); 8] = [
+        ("", "passed"),
+        (" \t ", "passed"),
+        ("# a: b", "passed"),
+        ("  # a: b", "passed"),
+        ("\t", "passed"),
+        ("\t \t", "passed"),
+        ("\t# echo", "passed"),
+        ("\t  # echo", "passed"),
+    ];
+    expect_forms(&rt, rt.alloc(), &cases)
+}
+
+#[test]
+fn commands_begin_with_a_tab(rt: HostRuntime) -> Result<(), Fail> {
+    let cases: [(&str, &str); 3] = [
+        ("\t  echo '# x' # y ", "command [echo '# x' # y]"),
+        ("\techo it's", "command [echo it's]"),
+        ("\tA=1", "command [A=1]"),
+    ];
+    expect_forms(&rt, rt.alloc(), &cases)
+}
+
+#[test]
+fn assignments_have_a_name_and_a_sign(rt: HostRuntime) -> Result<(), Fail> {
+    let cases: [(&str, &str); 8] = [
+        ("A=1", "A=[1]"),
+        ("A = 1 2 ", "A=[1 2]"),
+        ("A\t=\t$B", "A=[$B]"),
+        ("A+=1", "A+=[1]"),
+        ("_a9=", "_a9=[]"),
+        ("A==b", "A=[=b]"),
+        ("A=+b", "A=[+b]"),
+        ("A=b: c", "A=[b: c]"),
+    ];
+    expect_forms(&rt, rt.alloc(), &cases)
+}
+
+#[test]
+fn values_lose_one_pair_of_quotes(rt: HostRuntime) -> Result<(), Fail> {
+    let cases: [(&str, &str); 8] = [
+        ("A += 'x y' ", "A+=[x y]"),
+        ("A=\"1 # 2\" # 3", "A=[1 # 2]"),
+        ("A=\"\"", "A=[]"),
+        ("A='\"'", "A=[\"]"),
+        ("A='x' y", "A=['x' y]"),
+        ("A=x 'y'", "A=[x 'y']"),
+        ("A='x\"'", "A=[x\"]"),
+        ("A=it # it's", "A=[it]"),
+    ];
+    expect_forms(&rt, rt.alloc(), &cases)
+}
+
+#[test]
+fn exports_mark_names(rt: HostRuntime) -> Result<(), Fail> {
+    let cases: [(&str, &str); 9] = [
+        ("export=1", "export=[1]"),
+        ("export A", "export [A]"),
+        ("export\tA _b  C9 # D", "export [A][_b][C9]"),
+        ("export A=1", "export A=[1]"),
+        ("export A += \"1 2\"", "export A+=[1 2]"),
+        ("export A 9", "head [export A 9]"),
+        ("export", "head [export]"),
+        (" export A", "head [ export A]"),
+        ("exports A", "head [exports A]"),
+    ];
+    expect_forms(&rt, rt.alloc(), &cases)
+}
+
+#[test]
+fn settings_begin_with_a_dot(rt: HostRuntime) -> Result<(), Fail> {
+    let cases: [(&str, &str); 11] = [
+        (".MAKEFLOW CATEGORY a", "category [a]"),
+        (".MAKEFLOW  CORES\t2 # n", "cores [2]"),
+        (".MAKEFLOW MEMORY $M", "memory [$M]"),
+        (".MAKEFLOW DISK 3", "disk [3]"),
+        (".MAKEFLOW SIZE 3", "passed"),
+        (".MAKEFLOW CORES ", "passed"),
+        (".MAKEFLOW", "passed"),
+        (".MAKEFLOWS CORES 2", "head [.MAKEFLOWS CORES 2]"),
+        (".SIZE out 7 ", "size [out 7]"),
+        (".SIZE", "size []"),
+        (".SIZES out 7", "head [.SIZES out 7]"),
+    ];
+    expect_forms(&rt, rt.alloc(), &cases)
+}
+
+#[test]
+fn open_quotes_keep_their_form(rt: HostRuntime) -> Result<(), Fail> {
+    let cases: [(&str, &str); 11] = [
+        ("A='b", "open quote in a line"),
+        ("A=it's", "open quote in a line"),
+        ("export A=\"b", "open quote in a line"),
+        (".SIZE 'o 7", "open quote in a line"),
+        (".MAKEFLOW X '", "open quote in a line"),
+        ("a: \"b # 'c'", "open quote in a head"),
+        ("'a: b", "open quote in a head"),
+        ("'", "open quote in a head"),
+        (" A='", "open quote in a head"),
+        ("export 'A", "open quote in a head"),
+        ("A=it # it's", "A=[it]"),
+    ];
+    expect_forms(&rt, rt.alloc(), &cases)
+}
+
+#[test]
+fn other_lines_are_heads(rt: HostRuntime) -> Result<(), Fail> {
+    let cases: [(&str, &str); 8] = [
+        ("A+ =b", "head [A+ =b]"),
+        ("1A=b", "head [1A=b]"),
+        (" A=b", "head [ A=b]"),
+        ("A-B=c", "head [A-B=c]"),
+        ("out: in", "head [out: in]"),
+        ("'a#b': c #d", "head ['a#b': c ]"),
+        ("\u{e9}: \u{df}", "head [\u{e9}: \u{df}]"),
+        ("$A", "head [$A]"),
+    ];
+    expect_forms(&rt, rt.alloc(), &cases)
 }
 
 // Files, each in brackets, with the remote name where there is one.

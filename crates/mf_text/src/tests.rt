@@ -161,6 +161,37 @@ fn a_text_that_doubles_ends_too_large(rt: HostRuntime) -> Result<(), Fail> {
 }
 
 #[test]
+fn values_have_room_together(rt: HostRuntime) -> Result<(), Fail> {
+    let alloc = rt.alloc();
+    let mut scope = Scope::new(alloc);
+    assert!(rt; scope.set("V", "x").is_ok());
+    for _ in 0..24 {
+        let text = expand(alloc, &scope, 1, "$V$V")?;
+        assert!(rt; scope.set("V", text.as_str()).is_ok());
+    }
+    let wide = expand(alloc, &scope, 1, "$V")?
+        .into_string()
+        .replace(alloc, "xx", "\u{e9}")?;
+    let mut value = String::from_str(alloc, "a")?;
+    value.push_str(&wide)?;
+    assert!(rt; scope.set("W", value.as_str()).is_ok());
+    let cases: [(&str, bool, usize); 6] = [
+        ("", false, 0),
+        ("$V", false, 16_777_216),
+        ("o$$ $V", true, 16_777_219),
+        ("$V$V 7", true, 16_777_218),
+        ("$W", true, 16_777_215),
+        ("$W$V$W:", true, 16_777_216),
+    ];
+    for (text, is_too_large, len) in cases.iter() {
+        let made = expand_shortened(alloc, &scope, 1, text)?;
+        assert_eq!(rt; made.is_too_large, *is_too_large);
+        assert_eq!(rt; made.text.as_str().len(), *len);
+    }
+    Ok(())
+}
+
+#[test]
 fn open_marks_are_looked_for_once(rt: HostRuntime) -> Result<(), Fail> {
     let alloc = rt.alloc();
     let scope = Scope::new(alloc);
