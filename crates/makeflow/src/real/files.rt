@@ -28,9 +28,24 @@ pub fn read_from<R: Files>(rt: &R, path: &str, at: u64, into: &mut [u8]) -> io::
     if file_len(rt, path)?.is_none() {
         return Ok(0);
     }
+    read_seen(rt, path, at, into)
+}
+
+/// As [`read_from`], where a regular file was just seen.
+pub fn read_seen<R: Files>(rt: &R, path: &str, at: u64, into: &mut [u8]) -> io::Result<usize>
+    ensures { IfOk result (λ count. count ≤ length into.new) }
+{
     let mut file = fs::open(rt, path)?;
-    file.seek(SeekFrom::Start(at))?;
+    go_to(&mut file, at)?;
     fill(&mut file, into)
+}
+
+// Goes to an offset of a file that was just opened, which stands at its beginning.
+fn go_to<F: Seek>(file: &mut F, at: u64) -> io::Result<()> {
+    if at > 0 {
+        file.seek(SeekFrom::Start(at))?;
+    }
+    Ok(())
 }
 
 // Reads until the room is full or the reader ends.
@@ -57,7 +72,7 @@ pub fn write_from<R: Files>(rt: &R, path: &str, at: u64, bytes: &[u8]) -> io::Re
     make_folders_of(rt, path)?;
     file_len(rt, path)?;
     let mut file = File::options().write(true).create(true).open(rt, path)?;
-    file.seek(SeekFrom::Start(at))?;
+    go_to(&mut file, at)?;
     file.write_all(bytes)
 }
 
@@ -69,9 +84,11 @@ pub fn make_folders_of<R: Files>(rt: &R, path: &str) -> io::Result<()> {
     }
 }
 
-/// Sets the length of a file that is there.
+/// Sets the length of a file that is there. One that has it already is left alone.
 pub fn set_len<R: Files>(rt: &R, path: &str, len: u64) -> io::Result<()> {
-    file_len(rt, path)?;
+    if file_len(rt, path)? == Some(len) {
+        return Ok(());
+    }
     let file = File::options().write(true).open(rt, path)?;
     file.set_len(len)
 }

@@ -4,8 +4,8 @@ use super::folder_site::path_of;
 use super::programs::program;
 use flow_types::{Given, Job, Name};
 use std::alloc::Global;
-use std::fs::{DirBuilder, Permissions};
-use std::io::ErrorKind;
+use std::fs::{DirBuilder, OpenFile, Permissions};
+use std::io::{ErrorKind, Write};
 use std::os::unix::fs::{DirBuilderExt, PermissionsExt};
 use std::process::Processes;
 use std::rt::{Env, Files};
@@ -49,18 +49,26 @@ pub fn fill_folder<R: Files>(rt: &R, alloc: Global, folder: &str, job: &Job) -> 
         put_input(rt, alloc, folder, given)?;
     }
     for want in job.outputs.as_slice() {
-        let path = place_of(alloc, folder, &want.remote)?;
-        make_folders_of(rt, path.as_str())?;
+        room_for(rt, alloc, folder, &want.remote)?;
     }
     Ok(())
 }
 
+// Where a remote name stands in the folder, with the folders between them made.
+fn room_for<R: Files>(rt: &R, alloc: Global, folder: &str, remote: &Name) -> io::Result<String> {
+    let path = place_of(alloc, folder, remote)?;
+    if remote.as_bytes().contains(&b'/') {
+        make_folders_of(rt, path.as_str())?;
+    }
+    Ok(path)
+}
+
 // Each input may be run, since commands say `./program`.
 fn put_input<R: Files>(rt: &R, alloc: Global, folder: &str, given: &Given) -> io::Result<()> {
-    let path = place_of(alloc, folder, &given.remote)?;
-    make_folders_of(rt, path.as_str())?;
-    fs::write(rt, path.as_str(), given.content.as_slice())?;
-    fs::set_permissions(rt, path.as_str(), Permissions::from_mode(RUNNABLE))
+    let path = room_for(rt, alloc, folder, &given.remote)?;
+    let mut file = fs::create(rt, path.as_str())?;
+    file.write_all(given.content.as_slice())?;
+    file.set_permissions(Permissions::from_mode(RUNNABLE))
 }
 
 /// Removes the folder with all that the command left there.

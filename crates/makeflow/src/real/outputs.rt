@@ -3,7 +3,7 @@ ghost use Rattle.std.specs.Prelude.{◌≤◌, length, IfOk, IfErr, vec_len};
 ghost use Rattle.outside.specs.Jobs.{IsShaped};
 ghost use Rattle.makeflow.specs.Outputs.{IsRefused};
 
-use super::files::{is_absent, read_from};
+use super::files::{is_absent, read_seen};
 use super::job_folder::place_of;
 use flow_types::{Bytes, Failure, Job, Outcome, Rows};
 use std::alloc::Global;
@@ -76,9 +76,7 @@ fn read_whole<R: Files>(rt: &R, alloc: Global, path: &str, size: u64) -> io::Res
     };
     let mut bytes = Vec::new(alloc);
     bytes.resize(room, 0)?;
-    let count = read_from(rt, path, 0, bytes.as_mut_slice())?;
-    match Bytes::of(alloc, &bytes[..count]) {
-        Ok(content) => Ok(content),
-        Err(_) => Err(io::Error::from(ErrorKind::OutOfMemory)),
-    }
+    let count = read_seen(rt, path, 0, bytes.as_mut_slice())?;
+    bytes.truncate(count);
+    Ok(Bytes::from_vec(bytes))
 }
