@@ -2,6 +2,7 @@ use crate::read_make;
 use flow_types::{Needs, Pair, RawFile, RawFlow, Rows, Text};
 use mf_text::MakeFault;
 use std::alloc::Global;
+use std::process::Abort;
 use std::test::Fail;
 
 fn show_files(shown: &mut String, files: &Rows<RawFile>) -> Result<(), Fail> {
@@ -157,48 +158,8 @@ fn names_to_keep_may_come_from_outside(rt: HostRuntime) -> Result<(), Fail> {
     Ok(())
 }
 
-#[test]
-fn texts_give_their_first_faults(rt: HostRuntime) -> Result<(), Fail> {
-    let alloc = rt.alloc();
-    let env = given(alloc, &[("E", "one")])?;
-    let cases: [(&[u8], &str); 36] = [
-        (b"A=x\na:", "! line 2: no command"),
-        (b"a:\nb:\n\tx\n", "! line 1: no command"),
-        (b"a:\n\tx\nb:\n# c\nc:\n\ty\n", "! line 3: no command"),
-        (b"a:\nA='\nb:\n\tx\n", "! line 1: no command"),
-        (b"a:\nA='\n\tx\n", "! line 2: open quote"),
-        (b"a $X\nb:\n", "! line 1: unknown name X"),
-        (b"a $(X\nb:\n", "! line 1: open parenthesis"),
-        (b"a\n\tx\n", "! line 1: no colon"),
-        (b"a\n", "! line 1: no colon"),
-        (b"\tx\n", "! line 1: stray command"),
-        (b"a:\n\tx\n\ty\n", "! line 3: stray command"),
-        (b"\tMAKEFLOW x\n", "! line 1: no command"),
-        (b"a:\n\tLOCAL MAKEFLOW\n", "! line 2: no command"),
-        (b"a:\n\tLOCAL \n", "! line 2: no command"),
-        (b"\t$X\n", "! line 1: unknown name X"),
-        (b"\t$(\n", "! line 1: open parenthesis"),
-        (b"a:\n\t$()\n", "! line 2: unknown name "),
-        (b"a:\n\techo $(X $Y\n", "! line 2: unknown name Y"),
-        (b"A=1\\\n2\nB=$X\n", "! line 3: unknown name X"),
-        (b"A=\\\n$X\n", "! line 1: unknown name X"),
-        (b"A=$X", "! line 1: unknown name X"),
-        (b"A=\"$(A\n", "! line 1: open quote"),
-        (b"A=$(A\n", "! line 1: open parenthesis"),
-        (b"CORES=x\n", "! line 1: bad number"),
-        (b"CORES=$X\n", "! line 1: unknown name X"),
-        (b"DISK=1000000001\n", "! line 1: bad number"),
-        (b"MEMORY=00000000001\n", "! line 1: bad number"),
-        (b"CORES=1\nCORES+=2\n", "! line 2: bad number"),
-        (b".MAKEFLOW DISK -1\n", "! line 1: bad number"),
-        (b".SIZE a\n", "! line 1: bad number"),
-        (b".SIZE a 67108865\n", "! line 1: bad number"),
-        (b"export N\n", "! line 1: unknown name N"),
-        (b"export E N M\n", "! line 1: unknown name N"),
-        (b"CATEGORY=$X\n", "! line 1: unknown name X"),
-        (b"A=$X\nB='\n\xff", "! not UTF-8 at 9"),
-        (b".MAKEFLOW CATEGORY $X\n", "! line 1: unknown name X"),
-    ];
+fn expect_faults(rt: &impl Abort, alloc: Global, cases: &[(&[u8], &str)]) -> Result<(), Fail> {
+    let env = given(alloc, &[("E", "one"), ("N", ""), ("Q", "'")])?;
     for (text, wanted) in cases.iter() {
         let answer = shown(alloc, text, &env)?;
         assert_eq!(rt; answer.as_str(), *wanted);
@@ -207,15 +168,129 @@ fn texts_give_their_first_faults(rt: HostRuntime) -> Result<(), Fail> {
 }
 
 #[test]
+fn open_quotes_come_first_on_their_line(rt: HostRuntime) -> Result<(), Fail> {
+    let cases: [(&[u8], &str); 11] = [
+        (b"A='\n", "! line 1: open quote"),
+        (b"\n\"a: b\n\tx\n", "! line 2: open quote"),
+        (b"a:\n\tx\n.SIZE \"a 7", "! line 3: open quote"),
+        (b"A=1\\\n2\nB='", "! line 3: open quote"),
+        (b"a: 'b\\\n c\n\tx\n", "! line 1: open quote"),
+        (b"a:\nA='\n\tx\n", "! line 2: open quote"),
+        (b"a:\nexport B='\n\tx\n", "! line 2: open quote"),
+        (b"A=\"$(A\n", "! line 1: open quote"),
+        (b"'a $X\nb:\n\tx\n", "! line 1: open quote"),
+        (b"a: b$Q\n\tx\n", "! line 1: open quote"),
+        (b"a$Q\nb:\n", "! line 1: open quote"),
+    ];
+    expect_faults(&rt, rt.alloc(), &cases)
+}
+
+#[test]
+fn unknown_names_come_before_open_marks(rt: HostRuntime) -> Result<(), Fail> {
+    let cases: [(&[u8], &str); 12] = [
+        (b"A=$X", "! line 1: unknown name X"),
+        (b"A=\\\n$X\n", "! line 1: unknown name X"),
+        (b"A=1\\\n2\nB=$X\n", "! line 3: unknown name X"),
+        (b"a:\n\t$()\n", "! line 2: unknown name "),
+        (b"a:\n\techo $(X $Y\n", "! line 2: unknown name Y"),
+        (b"a $X\nb:\n", "! line 1: unknown name X"),
+        (b"\t$X\n", "! line 1: unknown name X"),
+        (b"CORES=$X\n", "! line 1: unknown name X"),
+        (b"CATEGORY=$X\n", "! line 1: unknown name X"),
+        (b".MAKEFLOW CATEGORY $X\n", "! line 1: unknown name X"),
+        (b".SIZE $X\n", "! line 1: unknown name X"),
+        (b"export E M O\n", "! line 1: unknown name M"),
+    ];
+    expect_faults(&rt, rt.alloc(), &cases)
+}
+
+#[test]
+fn open_marks_come_before_missing_parts(rt: HostRuntime) -> Result<(), Fail> {
+    let cases: [(&[u8], &str); 6] = [
+        (b"A=$(A\n", "! line 1: open parenthesis"),
+        (b"A=${E)", "! line 1: open parenthesis"),
+        (b"a $(X\nb:\n", "! line 1: open parenthesis"),
+        (b"\t$(\n", "! line 1: open parenthesis"),
+        (b".SIZE $(\n", "! line 1: open parenthesis"),
+        (b"a:\\\n b\n\tx\\\n$(\n", "! line 3: open parenthesis"),
+    ];
+    expect_faults(&rt, rt.alloc(), &cases)
+}
+
+#[test]
+fn heads_need_a_colon_and_a_command(rt: HostRuntime) -> Result<(), Fail> {
+    let cases: [(&[u8], &str); 12] = [
+        (b"a\n\tx\n", "! line 1: no colon"),
+        (b"A=x\\\ny\na", "! line 3: no colon"),
+        (b"a\nb:\n", "! line 1: no colon"),
+        (b"A=x\na:", "! line 2: no command"),
+        (b"a:\nb:\n\tx\n", "! line 1: no command"),
+        (b"a:\n\tx\nb:\\\n c\n# d\ne:\n\ty\n", "! line 3: no command"),
+        (b"a:\nA='\nb:\n\tx\n", "! line 1: no command"),
+        (b"a:\n'b: c\n\tx\n", "! line 1: no command"),
+        (b"a:\nb 'c", "! line 1: no command"),
+        (b"a:\nexport 'B\n\tx\n", "! line 1: no command"),
+        (b"a:\n\tx\n'b:\n\ty\n", "! line 3: open quote"),
+        (b"a:\nb $X\n", "! line 1: no command"),
+    ];
+    expect_faults(&rt, rt.alloc(), &cases)
+}
+
+#[test]
+fn commands_need_a_head_and_a_word(rt: HostRuntime) -> Result<(), Fail> {
+    let cases: [(&[u8], &str); 7] = [
+        (b"\tx", "! line 1: stray command"),
+        (b"a:\n\tx\\\n\ty\n\tz\n", "! line 4: stray command"),
+        (b"a:\n\tx\n# b\n\n\ty\n", "! line 5: stray command"),
+        (b"\tMAKEFLOW x\n", "! line 1: no command"),
+        (b"a:\n\tLOCAL MAKEFLOW\n", "! line 2: no command"),
+        (b"a:\n\tLOCAL \n", "! line 2: no command"),
+        (b"a:\\\nb\n\t$N", "! line 3: no command"),
+    ];
+    expect_faults(&rt, rt.alloc(), &cases)
+}
+
+#[test]
+fn amounts_and_bounds_need_numbers(rt: HostRuntime) -> Result<(), Fail> {
+    let cases: [(&[u8], &str); 10] = [
+        (b"CORES=x\n", "! line 1: bad number"),
+        (b"DISK=1000000001\n", "! line 1: bad number"),
+        (b"MEMORY=00000000001\n", "! line 1: bad number"),
+        (b"CORES=1\nCORES+=2\n", "! line 2: bad number"),
+        (b"A=\\\n\n.MAKEFLOW DISK -1", "! line 3: bad number"),
+        (b"export CORES=", "! line 1: bad number"),
+        (b".SIZE a\n", "! line 1: bad number"),
+        (b".SIZE a 67108865\n", "! line 1: bad number"),
+        (b".SIZE a b 7\n", "! line 1: bad number"),
+        (b".SIZE $N 7\n", "! line 1: bad number"),
+    ];
+    expect_faults(&rt, rt.alloc(), &cases)
+}
+
+#[test]
+fn the_text_comes_before_its_lines(rt: HostRuntime) -> Result<(), Fail> {
+    let cases: [(&[u8], &str); 5] = [
+        (b"\xff", "! not UTF-8 at 0"),
+        (b"A=$X\nB='\n\xff", "! not UTF-8 at 9"),
+        (b"a\0: \xc3\n\tx\n", "! not UTF-8 at 4"),
+        (b"a\0\n", "! line 1: no colon"),
+        (b"A=$(\0)\n", "! line 1: unknown name \0"),
+    ];
+    expect_faults(&rt, rt.alloc(), &cases)
+}
+
+#[test]
 fn a_text_of_too_many_bytes_is_refused(rt: HostRuntime) -> Result<(), Fail> {
     let alloc = rt.alloc();
-    let text = vec![in alloc; b'\n'; 16_777_217]?;
-    assert!(rt;
-        matches!(
-            read_make(alloc, &text, &[]),
-            Err(MakeFault::TooLarge(16_777_216))
-        )
-    );
+    for byte in [b'\n', 0, 0xff] {
+        let text = vec![in alloc; byte; 16_777_217]?;
+        assert!(rt;
+            matches!(
+                read_make(alloc, &text, &[]),
+                Err(MakeFault::TooLarge(16_777_216))
+            )
+        );
+    }
     Ok(())
 }
 
@@ -225,6 +300,39 @@ fn repeated(alloc: Global, piece: &str, count: u32) -> Result<String, Fail> {
         text.push_str(piece)?;
     }
     Ok(text)
+}
+
+#[test]
+fn lower_faults_come_before_a_line_too_large(rt: HostRuntime) -> Result<(), Fail> {
+    let alloc = rt.alloc();
+    let run = repeated(alloc, "x", 4_096)?;
+    let mut long = repeated(alloc, run.as_str(), 4_096)?;
+    long.push_str("x")?;
+    let env = given(alloc, &[("L", long.as_str()), ("Q", "'")])?;
+    let large = "! too large, at most 16777216 bytes";
+    let cases: [(&[u8], &str); 16] = [
+        (b".SIZE $L 7\n", large),
+        (b".SIZE o$L$L 7\n", large),
+        (b".SIZE $L x\n", "! line 1: bad number"),
+        (b".SIZE o 7 $L\n", "! line 1: bad number"),
+        (b"\techo $L\n", "! line 1: stray command"),
+        (b"a:\n\tMAKEFLOW $L\n", "! line 2: no command"),
+        (b"a:\n\tLOCAL $L\n", large),
+        (b"a:\n\t$L$L\n", large),
+        (b"$L: x\n\ty\n", large),
+        (b"$L: x\n", "! line 1: no command"),
+        (b"a: $L$L\n\ty\n", large),
+        (b"a $L$L\n\ty\n", "! line 1: no colon"),
+        (b"a$Q: $L\n\ty\n", "! line 1: open quote"),
+        (b"A=$L\n", large),
+        (b"CORES=$L\n", "! line 1: bad number"),
+        (b".MAKEFLOW DISK $L\n", "! line 1: bad number"),
+    ];
+    for (text, wanted) in cases.iter() {
+        let answer = shown(alloc, text, &env)?;
+        assert_eq!(rt; answer.as_str(), *wanted);
+    }
+    Ok(())
 }
 
 #[test]
