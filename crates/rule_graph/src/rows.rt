@@ -62,7 +62,7 @@ fn rows_of(alloc: Global, tables: &Tables) -> Result<Rows<FileRow>, AllocError>
     requires { AreLevel tables.now }
     ensures { IfOk result (AreRowsOf tables.now) }
 {
-    let mut rows = Vec::new(alloc);
+    let mut rows = Vec::with_capacity(alloc, tables.names.len())?;
     'files: for file in 0..tables.names.len() {
         rows.push(row_of(alloc, tables, file)?)?;
     }
@@ -89,7 +89,7 @@ fn ports_of(alloc: Global, names: &[Bytes], ports: &[RawPort]) -> Result<Rows<Po
     requires among { All (IsPortAmong names.now) ports.now }
     ensures { IfOk result (λ made. made ≡ map (port_for names.now) ports.now) }
 {
-    let mut made = Vec::new(alloc);
+    let mut made = Vec::with_capacity(alloc, ports.len())?;
     for port in ports {
         made.push(port_of(alloc, names, port)?)?;
     }
@@ -147,7 +147,7 @@ fn rules_of(alloc: Global, tables: &Tables, raw: Rows<RawRule>) -> Result<Rows<R
     requires among { All (IsRuleAmong tables.now.names.items) raw }
     ensures { IfOk result (AreRulesOf tables.now raw) }
 {
-    let mut rules = Vec::new(alloc);
+    let mut rules = Vec::with_capacity(alloc, raw.len())?;
     for rule in raw.into_vec() {
         rules.push(rule_of(alloc, tables, rule)?)?;
     }
