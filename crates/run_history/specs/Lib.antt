@@ -5,3 +5,5 @@ pub mod Legal
 pub mod Links
 pub mod Moves
 pub mod Answers
+pub mod Examples
+pub mod Laws

@@ -1,5 +1,5 @@
 -- What is ready, stored, reserved, free and wanted after a history.
-use Rattle.std.specs.Prelude.{ℕ, ◌+◌, Bool, true, false, not, ◌&&◌, List, Option, Some, None, nat_le, if◌then◌else◌, filter, find, slice_get, sum_by, is_some}
+use Rattle.std.specs.Prelude.{ℕ, ◌+◌, Bool, true, false, not, ◌&&◌, List, Option, Some, None, nat_le, if◌then◌else◌, filter, find, slice_get, sum_by, is_some, count_by}
 use Rattle.std.specs.List.{list_any, list_all}
 use Rattle.std.specs.Option.{option_map_or}
 use Rattle.flow_types.specs.declared.plan.Plan.{Plan}
@@ -52,6 +52,10 @@ has_failed H r = is_failed_state (rule_state H r)
 -- the rules that run, ascending
 abbrev pub running_rules : Plan → List Record → List ℕ
 running_rules P H = filter (is_running H) (rule_numbers P)
+
+-- how many rules are complete
+abbrev pub complete_count : Plan → List Record → ℕ
+complete_count P H = count_by (is_complete H) (rule_numbers P)
 
 -- the size of what is present
 abbrev pub size_in : FileState → Option ℕ

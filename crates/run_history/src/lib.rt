@@ -2,12 +2,22 @@
 #![tactic(auto)]
 
 mod answers;
+mod examples;
+mod laws;
 mod links;
 mod moves;
 mod options;
 mod states;
 
 pub use answers::{Check, Next, Nothing, Stop, Wait};
+pub use examples::{
+    failures_of_a_rule, one_run_of_one_rule, packing_of_a_link, resumed_run, run_that_collects,
+    runs_without_room, stops_for_waiting,
+};
+pub use laws::{
+    answers_may_follow, complete_rule_is_final, dropped_file_is_not_needed,
+    history_grows_by_what_is_allowed, storage_stays_within_its_limit,
+};
 pub use links::JoinRefused;
 pub use moves::{Move, Task};
 pub use options::{Mode, Options};
