@@ -1,0 +1,121 @@
+//! One link and what runs on it.
+ghost use Rattle.std.specs.Prelude.{◌≡◌, ◌<◌, length, IfOk};
+ghost use Rattle.run_history.specs.Links.{has_room, is_at_most, leaves_amounts, leaves_bytes, taken_on, with_amounts};
+ghost use Rattle.resource_pack.specs.Packing.{empty_link, loaded, row_on, stating, unloaded};
+
+use crate::load::{Load, bytes_of, place_of};
+use crate::sums::{amounts_for, is_within, taken, with};
+use flow_types::{Amounts, LinkNo, Needs};
+use std::alloc::{AllocError, Global};
+use std::marker::Model;
+
+/// The most tasks that run on a link.
+const MOST_TASKS: usize = 64;
+
+/// A link, and room for what may run on it.
+#[derive(Drop)]
+pub(crate) struct Held {
+    link: LinkNo,
+    total: Amounts,
+    largest: Amounts,
+    cache: u64,
+    loads: Vec<Load>,
+}
+
+impl Model for Held {
+    ghost use Rattle.std.specs.Prelude.{◌≤◌, length};
+    ghost use Rattle.std.specs.Vec.{vec_capacity};
+    ghost use Rattle.resource_pack.specs.Packing.{PackedLink, row_on};
+
+    ghost Value = { PackedLink };
+
+    ghost view = { λ h. record {
+      link = h.link.0;
+      row = row_on h.link.0 h.total h.largest h.cache;
+      loads = h.loads.items;
+    } };
+
+    ghost invariant = { λ h. (length h.loads.items ≤ 64) × (64 ≤ vec_capacity h.loads) };
+}
+
+impl Held {
+    pub(crate) fn new(
+        alloc: Global,
+        link: LinkNo,
+        total: Amounts,
+        largest: Amounts,
+        cache: u64,
+    ) -> Result<Held, AllocError>
+        ensures { IfOk result (λ held. held ≡ empty_link link.0 total largest cache) }
+    {
+        let loads = Vec::with_capacity(alloc, MOST_TASKS)?;
+        Ok(Held {
+            link,
+            total,
+            largest,
+            cache,
+            loads,
+        })
+    }
+
+    pub(crate) fn link(&self) -> LinkNo
+        ensures { result.0 ≡ self.now.link }
+    {
+        self.link
+    }
+
+    pub(crate) fn change(&mut self, total: Amounts, largest: Amounts, cache: u64)
+        ensures { self.new ≡ stating (row_on self.old.link total largest cache) self.old }
+    {
+        self.total = total;
+        self.largest = largest;
+        self.cache = cache;
+    }
+
+    pub(crate) fn has_room(&self, needs: Needs, bytes: u64) -> bool
+        ensures { result ≡ has_room self.now.link self.now.row self.now.loads (record { needs = needs; bytes = bytes }) }
+    {
+        self.loads.len() < MOST_TASKS && self.leaves_amounts(needs) && self.leaves_bytes(bytes)
+    }
+
+    fn leaves_amounts(&self, needs: Needs) -> bool
+        ensures { result ≡ leaves_amounts self.now.link self.now.row self.now.loads needs }
+    {
+        if matches!(needs, Needs::Whole) && self.link.0 != 0 {
+            return self.loads.is_empty();
+        }
+        let amounts = amounts_for(self.link, self.total, needs);
+        is_within(amounts, self.largest) && self.is_left(amounts)
+    }
+
+    fn is_left(&self, amounts: Amounts) -> bool
+        ensures { result ≡ is_at_most (with_amounts (taken_on self.now.link self.now.row.total self.now.loads) amounts) self.now.row.total }
+    {
+        let sums = with(taken(&self.loads, self.link, self.total), amounts);
+        sums.cores <= u64::from(self.total.cores)
+            && sums.memory <= u64::from(self.total.memory)
+            && sums.disk <= u64::from(self.total.disk)
+    }
+
+    fn leaves_bytes(&self, bytes: u64) -> bool
+        ensures { result ≡ leaves_bytes self.now.row.cache self.now.loads bytes }
+    {
+        self.link.0 == 0 || bytes_of(&self.loads) + u128::from(bytes) <= u128::from(self.cache)
+    }
+
+    pub(crate) fn take(&mut self, needs: Needs, bytes: u64)
+        requires { length self.old.loads < 64 }
+        ensures { self.new ≡ loaded (record { needs = needs; bytes = bytes }) self.old }
+    {
+        let _ = self.loads.push(Load::new(needs, bytes));
+    }
+
+    pub(crate) fn give(&mut self, needs: Needs, bytes: u64)
+        ensures { self.new ≡ unloaded (record { needs = needs; bytes = bytes }) self.old }
+    {
+        let at = place_of(&self.loads, needs, bytes);
+        if at < self.loads.len() {
+            let _ = self.loads.remove(at);
+        }
+    }
+}
