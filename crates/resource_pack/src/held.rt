@@ -1,10 +1,11 @@
 //! One link and what runs on it.
 ghost use Rattle.std.specs.Prelude.{◌≡◌, ◌<◌, length, IfOk};
-ghost use Rattle.run_history.specs.Links.{has_room, is_at_most, leaves_amounts, leaves_bytes, taken_on, with_amounts};
+ghost use Rattle.run_history.specs.Links.{has_room};
+ghost use Rattle.resource_pack.specs.Occupancy.{stated_row};
 ghost use Rattle.resource_pack.specs.Packing.{empty_link, loaded, row_on, stating, unloaded};
 
-use crate::load::{Load, bytes_of, place_of};
-use crate::sums::{amounts_for, is_within, taken, with};
+use crate::load::{Load, occupied_by, place_of};
+use crate::occupied::Stated;
 use flow_types::{Amounts, LinkNo, Needs};
 use std::alloc::{AllocError, Global};
 use std::marker::Model;
@@ -75,32 +76,26 @@ impl Held {
     pub(crate) fn has_room(&self, needs: Needs, bytes: u64) -> bool
         ensures { result ≡ has_room self.now.link self.now.row self.now.loads (record { needs = needs; bytes = bytes }) }
     {
-        self.loads.len() < MOST_TASKS && self.leaves_amounts(needs) && self.leaves_bytes(bytes)
+        occupied_by(&self.loads, self.link, self.total).has_room(
+            self.link,
+            self.stated(),
+            needs,
+            bytes,
+        )
     }
 
-    fn leaves_amounts(&self, needs: Needs) -> bool
-        ensures { result ≡ leaves_amounts self.now.link self.now.row self.now.loads needs }
+    fn stated(&self) -> Stated
+        ensures { stated_row result ≡ self.now.row }
     {
-        if matches!(needs, Needs::Whole) && self.link.0 != 0 {
-            return self.loads.is_empty();
+        Stated {
+            total: self.total,
+            largest: self.largest,
+            cache: if self.link.0 == 0 {
+                None
+            } else {
+                Some(self.cache)
+            },
         }
-        let amounts = amounts_for(self.link, self.total, needs);
-        is_within(amounts, self.largest) && self.is_left(amounts)
-    }
-
-    fn is_left(&self, amounts: Amounts) -> bool
-        ensures { result ≡ is_at_most (with_amounts (taken_on self.now.link self.now.row.total self.now.loads) amounts) self.now.row.total }
-    {
-        let sums = with(taken(&self.loads, self.link, self.total), amounts);
-        sums.cores <= u64::from(self.total.cores)
-            && sums.memory <= u64::from(self.total.memory)
-            && sums.disk <= u64::from(self.total.disk)
-    }
-
-    fn leaves_bytes(&self, bytes: u64) -> bool
-        ensures { result ≡ leaves_bytes self.now.row.cache self.now.loads bytes }
-    {
-        self.link.0 == 0 || bytes_of(&self.loads) + u128::from(bytes) <= u128::from(self.cache)
     }
 
     pub(crate) fn take(&mut self, needs: Needs, bytes: u64)

@@ -3,7 +3,8 @@
 
 mod held;
 mod load;
+mod occupied;
 mod pack;
-mod sums;
 
+pub use occupied::{Occupied, Stated};
 pub use pack::Pack;

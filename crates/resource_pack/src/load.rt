@@ -1,9 +1,11 @@
 //! What a task takes of a link.
-ghost use Rattle.std.specs.Prelude.{◌≡◌, ◌+◌, ◌≤◌, ◌<◌, ◌^◌, length, sum_by};
+ghost use Rattle.std.specs.Prelude.{◌≡◌, ◌≤◌, length};
 ghost use Rattle.std.specs.List.{position_or_len};
+ghost use Rattle.resource_pack.specs.Occupancy.{occupancy_of};
 ghost use Rattle.resource_pack.specs.Packing.{are_same_needs, is_load};
 
-use flow_types::Needs;
+use crate::occupied::Occupied;
+use flow_types::{Amounts, LinkNo, Needs};
 use std::marker::Model;
 
 /// What a task needs of its link, and the bytes that it takes there.
@@ -59,17 +61,16 @@ pub(crate) fn place_of(loads: &[Load], needs: Needs, bytes: u64) -> usize
     loads.len()
 }
 
-// The bytes of these loads together.
-pub(crate) fn bytes_of(loads: &[Load]) -> u128
+// What these loads take of the link.
+pub(crate) fn occupied_by(loads: &[Load], link: LinkNo, total: Amounts) -> Occupied
     requires { length loads.now ≤ 64 }
-    ensures sum { result ≡ sum_by (λ load. load.bytes) loads.now }
-    ensures small { result < 2 ^ 100 }
+    ensures { result ≡ occupancy_of link.0 total loads.now }
 {
-    let mut sum = 0;
+    let mut occupied = Occupied::nothing();
     for load in loads {
-        sum += u128::from(load.bytes());
+        occupied.add(link, total, load.needs(), load.bytes());
     }
-    sum
+    occupied
 }
 
 fn are_same(needs: Needs, others: Needs) -> bool

@@ -1,0 +1,10 @@
+pub mod Same
+pub mod Numbers
+pub mod Inputs
+pub mod LinkLoads
+pub mod Choosing
+pub mod Pushing
+pub mod Standing
+pub mod Counting
+pub mod Keeping
+pub mod Closing

@@ -1,0 +1,24 @@
+use Rattle.std.proofs.Common.{◌<◌, ◌∙◌, length, sym, subst}
+use Rattle.flow_types.specs.declared.records.Record.TheVariants as records
+use Rattle.task_core.specs.States.{TableState}
+use Rattle.task_core.specs.Stands.{Stands, logged}
+use Rattle.task_core.proofs.Closing.{failed-stands, runs-known}
+use Rattle.task_core.proofs.table.Table.fail.Goals as goal
+
+pub returns-then-has_failed-clause-closed : goal.returns-then-has_failed-clause-closed
+returns-then-has_failed-clause-closed c moves stands =
+    let t : TableState = c.args.self.now in
+    let inside : c.args.rule.0 < length t.rules = subst (λ n. c.args.rule.0 < n) (sym c.note_failure.ensures.rows) c.requires.rule in (
+      runs-known t moves c.args.rule.0 c.args.attempt.0 c.requires.rule stands ∙ sym c.runs_with.ensures.runs ∙ c.if-not-runs_with.false,
+      λ moment. subst (λ (v : TableState). Stands v (logged moves (records.Failed moment c.args.rule c.args.attempt c.args.why))) (sym c.note_failure.ensures.table)
+          (failed-stands t moves c.args.rule c.args.attempt c.args.why moment inside stands),
+    )
+
+pub returns-else-has_failed-clause-closed : goal.returns-else-has_failed-clause-closed
+returns-else-has_failed-clause-closed c moves stands =
+    let t : TableState = c.args.self.now in
+    let inside : c.args.rule.0 < length t.rules = subst (λ n. c.args.rule.0 < n) (sym c.note_failure.ensures.rows) c.requires.rule in (
+      runs-known t moves c.args.rule.0 c.args.attempt.0 c.requires.rule stands ∙ sym c.runs_with.ensures.runs ∙ c.if-not-runs_with.false,
+      λ moment. subst (λ (v : TableState). Stands v (logged moves (records.Failed moment c.args.rule c.args.attempt c.args.why))) (sym c.note_failure.ensures.table)
+          (failed-stands t moves c.args.rule c.args.attempt c.args.why moment inside stands),
+    )

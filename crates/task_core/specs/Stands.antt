@@ -1,0 +1,85 @@
+-- After which moves a table stands, and what its calls answer and leave.
+use Rattle.std.specs.Prelude.{◌≡◌, ℕ, ◌+◌, Bool, true, false, List, [], ◌∷◌, ◌++◌, length, Some, None, Result, Ok, Err, count_by, is_some, slice_set}
+use Rattle.flow_types.specs.declared.job.Failure.{Failure}
+use Rattle.flow_types.specs.declared.numbers.RuleNo.{RuleNo}
+use Rattle.flow_types.specs.declared.numbers.AttemptNo.{AttemptNo}
+use Rattle.flow_types.specs.declared.numbers.LinkNo.{LinkNo}
+use Rattle.flow_types.specs.declared.records.Record.{Record}
+use Rattle.flow_types.specs.declared.records.Record.TheVariants as records
+use Rattle.flow_types.specs.Plans.{is_empty}
+use Rattle.run_history.specs.declared.moves.Move.{Move}
+use Rattle.run_history.specs.declared.moves.Move.TheVariants as moves
+use Rattle.run_history.specs.declared.states.RuleState.{RuleState}
+use Rattle.run_history.specs.declared.answers.Next.{Next}
+use Rattle.run_history.specs.declared.answers.Next.TheVariants as next
+use Rattle.run_history.specs.declared.answers.Nothing.{Nothing}
+use Rattle.run_history.specs.History.{part, next_attempt}
+use Rattle.run_history.specs.States.{rule_state, file_state, running_in, outs_of, failures_of, retries_of, limit_of}
+use Rattle.run_history.specs.Legal.{runs}
+use Rattle.run_history.specs.Links.{records_of, link_row}
+use Rattle.run_history.specs.Moves.{is_change, live_links, next_link}
+use Rattle.run_history.specs.Answers.{claim_of, has_ended, last_why}
+use Rattle.task_core.specs.declared.rows.RuleRow.{RuleRow}
+use Rattle.task_core.specs.declared.table.Started.{Started}
+use Rattle.task_core.specs.States.{TableState, known_in, row_at, file_at, link_at}
+
+-- the row says of the rule what the history does
+pub record IsRow (H : List Record) (r : ℕ) (row : RuleRow) : Type 0 where
+  pub place : row.place ≡ running_in H r
+  pub done : row.done ≡ is_some (outs_of H r)
+  pub failures : row.failures ≡ failures_of H r
+  pub why : row.why ≡ last_why H r
+
+-- The table stands after these moves of a run that was opened without a limit.
+pub record Stands (t : TableState) (M : List Move) : Type 0 where
+  pub begun : is_empty (part (records_of M)) ≡ false
+  pub rules : (r : ℕ) → IsRow (records_of M) r (row_at t r)
+  pub files : (f : ℕ) → file_at t f ≡ file_state t.plan (records_of M) f
+  pub records : t.records ≡ length (records_of M)
+  pub starts : t.starts ≡ next_attempt (records_of M)
+  pub retries : t.retries ≡ retries_of (records_of M)
+  pub no_limit : limit_of (records_of M) ≡ None
+  pub ended : t.ended ≡ has_ended (records_of M)
+  pub rows : (k : ℕ) → link_at t k ≡ link_row t.options M k
+  pub live : (known_in t).live ≡ live_links t.options M
+  pub joins : t.joins + 1 ≡ next_link M
+  pub changes : t.changes ≡ count_by is_change M
+
+-- with one more record
+abbrev pub logged : List Move → Record → List Move
+logged M x = M ++ (moves.Logged x ∷ [])
+
+-- rule r has this row after one more record
+abbrev pub with_row : TableState → ℕ → RuleRow → TableState
+with_row t r row = record t { rules = slice_set t.rules r row; records = t.records + 1 }
+
+-- attempt a of rule r starts on link k
+abbrev pub after_start : TableState → ℕ → AttemptNo → LinkNo → TableState
+after_start t r a k = record (with_row t r (record (row_at t r) { place = Some (a, k) })) { starts = t.starts + 1 }
+
+-- the attempt of rule r is lost
+abbrev pub after_loss : TableState → ℕ → TableState
+after_loss t r = with_row t r (record (row_at t r) { place = None })
+
+-- the attempt of rule r failed so
+abbrev pub after_failure : TableState → ℕ → Failure → TableState
+after_failure t r why = with_row t r (record (row_at t r) { place = None; failures = (row_at t r).failures + 1; why = Some why })
+
+-- What a claim answers, and where the table stands then.
+abbrev pub Claims : TableState → List Move → LinkNo → Result Started Nothing → TableState → Type 0
+Claims t M link (Ok started) after =
+    (claim_of t.plan t.options M t.stop link.0 ≡ Ok started.rule.0) × (started.attempt.0 ≡ next_attempt (records_of M))
+    × ((moment : ℕ) → Stands after (logged M (records.Started moment started.rule started.attempt link)))
+Claims t M link (Err nothing) after = (claim_of t.plan t.options M t.stop link.0 ≡ Err nothing) × (after ≡ t)
+
+-- What the closing of an attempt answers: it is closed by such a record, or the rule doesn't run with it and nothing changes.
+abbrev pub Closes : {A : Type 0} → TableState → List Move → RuleNo → AttemptNo → (ℕ → Record) → Result A RuleState → TableState → Type 0
+Closes t M rule attempt entry (Ok done) after =
+    (runs t.plan (records_of M) rule.0 attempt.0 ≡ true) × ((moment : ℕ) → Stands after (logged M (entry moment)))
+Closes t M rule attempt entry (Err state) after =
+    (runs t.plan (records_of M) rule.0 attempt.0 ≡ false) × (state ≡ rule_state (records_of M) rule.0) × (after ≡ t)
+
+-- whether a rule has failed
+abbrev pub is_final : Next → Bool
+is_final next.Final = true
+is_final next.Again = false

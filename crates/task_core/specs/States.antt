@@ -1,0 +1,84 @@
+-- A table as contracts see it, and what it knows.
+use Rattle.std.specs.Prelude.{◌≡◌, ◌≤◌, ℕ, ◌+◌, Bool, false, List, ◌∷◌, length, Option, Some, None, ◌==◌, if◌then◌else◌, find, map, nat_le, slice_index_or}
+use Rattle.std.specs.Option.{option_map_or}
+use Rattle.flow_types.specs.declared.plan.Plan.{Plan}
+use Rattle.flow_types.specs.Plans.{IsValid, most_bytes}
+use Rattle.run_history.specs.declared.options.Options.{Options}
+use Rattle.run_history.specs.declared.options.Mode.TheVariants.{Never}
+use Rattle.run_history.specs.declared.states.RuleState.{RuleState}
+use Rattle.run_history.specs.declared.states.RuleState.TheVariants as rule
+use Rattle.run_history.specs.declared.states.FileState.{FileState}
+use Rattle.run_history.specs.declared.states.FileState.TheVariants as file
+use Rattle.run_history.specs.declared.answers.Stop.{Stop}
+use Rattle.run_history.specs.States.{unfinished_state}
+use Rattle.run_history.specs.Links.{LinkRow, local_row}
+use Rattle.task_core.specs.declared.rows.RuleRow.{RuleRow}
+use Rattle.task_core.specs.declared.rows.LinkEntry.{LinkEntry}
+use Rattle.task_core.specs.Known.{Known, running, known_bytes}
+
+-- The rows of rules and files by their numbers, the links that live beside the local place, and the numbers of records, starts, joins and changes.
+pub record TableState : Type 0 where
+  pub plan : Plan
+  pub options : Options
+  pub rules : List RuleRow
+  pub files : List FileState
+  pub links : List LinkEntry
+  pub records : ℕ
+  pub starts : ℕ
+  pub retries : ℕ
+  pub ended : Bool
+  pub joins : ℕ
+  pub changes : ℕ
+  pub stop : Option Stop
+
+-- a rule of which nothing is recorded
+abbrev pub blank_row : RuleRow
+blank_row = record { place = None; done = false; failures = 0; why = None }
+
+abbrev pub row_at : TableState → ℕ → RuleRow
+row_at t r = slice_index_or t.rules r blank_row
+
+abbrev pub file_at : TableState → ℕ → FileState
+file_at t f = slice_index_or t.files f file.Absent
+
+-- the state of a rule with this row, under so many retries
+abbrev pub state_of : ℕ → RuleRow → RuleState
+state_of retries row = if row.done then rule.Complete else unfinished_state row.place (nat_le (retries + 1) row.failures)
+
+-- what a link states
+abbrev pub entry_row : LinkEntry → LinkRow
+entry_row entry = record { total = entry.total; largest = entry.largest; cache = Some entry.cache }
+
+abbrev pub is_entry : ℕ → LinkEntry → Bool
+is_entry k entry = entry.link.0 == k
+
+abbrev pub link_at : TableState → ℕ → Option LinkRow
+link_at t k = if k == 0 then Some (local_row t.options) else option_map_or (λ entry. Some (entry_row entry)) (find (is_entry k) t.links) None
+
+-- What a table knows.
+abbrev pub known_in : TableState → Known
+known_in t = record {
+  plan = t.plan;
+  options = t.options;
+  rules = λ r. state_of t.retries (row_at t r);
+  places = λ r. (row_at t r).place;
+  whys = λ r. (row_at t r).why;
+  files = file_at t;
+  records = t.records;
+  limit = None;
+  ended = t.ended;
+  rows = link_at t;
+  live = 0 ∷ map (λ entry. entry.link.0) t.links;
+}
+
+-- What holds of every table.
+pub record IsTable (t : TableState) : Type 0 where
+  pub valid : IsValid t.plan
+  pub mode : t.options.mode ≡ Never
+  pub rules : length t.rules ≡ length t.plan.rules
+  pub files : length t.files ≡ length t.plan.files
+  pub small : (f : ℕ) → known_bytes (known_in t) f ≤ most_bytes
+  -- There is room for the end of each attempt that runs, and for that of the run.
+  pub places : t.records + length (running (known_in t)) + (if t.ended then 0 else 1) ≤ 1000000
+  pub starts : t.starts ≤ t.records
+  pub failures : (r : ℕ) → (row_at t r).failures ≤ t.records

@@ -1,0 +1,198 @@
+//! The table.
+ghost use Rattle.std.specs.Prelude.{◌≡◌, ◌<◌, ◌≤◌, ◌+◌, length, is_some, true, false};
+ghost use Rattle.run_history.specs.declared.options.Mode.TheVariants.{Never};
+ghost use Rattle.flow_types.specs.Plans.{IsValid, most_bytes, most_rules};
+ghost use Rattle.task_core.specs.Known.{known_bytes, leaves_places, runs_now};
+ghost use Rattle.task_core.specs.States.{known_in, row_at, file_at};
+ghost use Rattle.task_core.specs.Stands.{after_failure, after_loss, after_start};
+
+use crate::rows::{LinkEntry, RuleRow};
+use file_states::FileStates;
+use flow_types::{AttemptNo, Failure, FileNo, LinkNo, Plan, Rule, RuleNo};
+use run_history::{FileState, Options, RuleState, Stop};
+use std::marker::Model;
+
+/// What each rule and file is doing, which links live, and which stop stands.
+#[derive(Drop)]
+pub struct Table {
+    plan: Plan,
+    options: Options,
+    rules: Vec<RuleRow>,
+    files: FileStates,
+    links: Vec<LinkEntry>,
+    records: u64,
+    starts: u64,
+    retries: u32,
+    ended: bool,
+    joins: u64,
+    changes: u64,
+    stop: Option<Stop>,
+}
+
+impl Model for Table {
+    ghost use Rattle.task_core.specs.States.{TableState, IsTable};
+
+    ghost Value = { TableState };
+
+    ghost view = { λ t. record {
+      plan = t.plan;
+      options = t.options;
+      rules = t.rules.items;
+      files = t.files;
+      links = t.links.items;
+      records = t.records;
+      starts = t.starts;
+      retries = t.retries;
+      ended = t.ended;
+      joins = t.joins;
+      changes = t.changes;
+      stop = t.stop;
+    } };
+
+    ghost invariant = { λ t. IsTable (record {
+      plan = t.plan;
+      options = t.options;
+      rules = t.rules.items;
+      files = t.files;
+      links = t.links.items;
+      records = t.records;
+      starts = t.starts;
+      retries = t.retries;
+      ended = t.ended;
+      joins = t.joins;
+      changes = t.changes;
+      stop = t.stop;
+    }) };
+}
+
+/// A rule that was claimed, and the attempt that runs it from now on.
+#[derive(Clone, Copy, Debug, PartialEq, Eq)]
+pub struct Started {
+    pub rule: RuleNo,
+    pub attempt: AttemptNo,
+}
+
+impl Table {
+    pub(crate) fn plan(&self) -> &Plan
+        ensures plan { result.now ≡ self.now.plan }
+        ensures valid { IsValid self.now.plan }
+    {
+        &self.plan
+    }
+
+    pub(crate) fn options(&self) -> Options
+        ensures options { result ≡ self.now.options }
+        ensures mode { self.now.options.mode ≡ Never }
+    {
+        self.options
+    }
+
+    pub(crate) fn links(&self) -> &[LinkEntry]
+        ensures { result.now ≡ self.now.links }
+    {
+        &self.links
+    }
+
+    pub(crate) fn rule_count(&self) -> u32
+        ensures count { result ≡ length self.now.plan.rules }
+        ensures few { result ≤ most_rules }
+    {
+        self.rules.len() as u32
+    }
+
+    pub(crate) fn row(&self, rule: RuleNo) -> RuleRow
+        requires { rule.0 < length self.now.plan.rules }
+        ensures { result ≡ row_at self.now rule.0 }
+    {
+        self.rules[rule.0 as usize]
+    }
+
+    /// What a rule is doing.
+    pub fn state(&self, rule: RuleNo) -> RuleState
+        requires { rule.0 < length self.now.plan.rules }
+        ensures { result ≡ (known_in self.now).rules rule.0 }
+    {
+        let row = self.row(rule);
+        if row.done {
+            return RuleState::Complete;
+        }
+        match row.place {
+            Some((attempt, _)) => RuleState::Running(attempt),
+            None if row.failures > u64::from(self.retries) => RuleState::Failed,
+            None => RuleState::Waiting,
+        }
+    }
+
+    pub(crate) fn file(&self, file: FileNo) -> FileState
+        requires { file.0 < length self.now.plan.files }
+        ensures state { result ≡ file_at self.now file.0 }
+        ensures small { known_bytes (known_in self.now) file.0 ≤ most_bytes }
+    {
+        self.files.state(file)
+    }
+
+    pub(crate) fn records(&self) -> u64
+        ensures records { result ≡ self.now.records }
+        ensures few { result ≤ 1000000 }
+    {
+        self.records
+    }
+
+    pub(crate) fn has_ended(&self) -> bool
+        ensures { result ≡ self.now.ended }
+    {
+        self.ended
+    }
+
+    // A stop stands. Nothing is collected, so the mode is told here too.
+    pub(crate) fn is_stopped(&self) -> bool
+        ensures stop { result ≡ is_some self.now.stop }
+        ensures mode { self.now.options.mode ≡ Never }
+    {
+        self.stop.is_some()
+    }
+
+    pub(crate) fn next_attempt(&self) -> AttemptNo
+        ensures { result.0 ≡ self.now.starts }
+    {
+        AttemptNo(self.starts)
+    }
+
+    // The attempt runs on the link from now on.
+    pub(crate) fn place(&mut self, rule: RuleNo, attempt: AttemptNo, link: LinkNo)
+        requires inside { rule.0 < length self.old.plan.rules }
+        requires goes_on { self.old.ended ≡ false }
+        requires places { leaves_places (known_in self.old) 2 ≡ true }
+        ensures table { self.new ≡ after_start self.old rule.0 attempt link }
+        ensures rows { length self.old.rules ≡ length self.old.plan.rules }
+    {
+        self.rules[rule.0 as usize].place = Some((attempt, link));
+        self.records += 1;
+        self.starts += 1;
+    }
+
+    // The attempt runs no more.
+    pub(crate) fn note_loss(&mut self, rule: RuleNo)
+        requires inside { rule.0 < length self.old.plan.rules }
+        requires runs { runs_now (known_in self.old) rule.0 ≡ true }
+        ensures table { self.new ≡ after_loss self.old rule.0 }
+        ensures rows { length self.old.rules ≡ length self.old.plan.rules }
+    {
+        self.rules[rule.0 as usize].place = None;
+        self.records += 1;
+    }
+
+    // The attempt runs no more, and failed.
+    pub(crate) fn note_failure(&mut self, rule: RuleNo, why: Failure)
+        requires inside { rule.0 < length self.old.plan.rules }
+        requires runs { runs_now (known_in self.old) rule.0 ≡ true }
+        ensures table { self.new ≡ after_failure self.old rule.0 why }
+        ensures rows { length self.old.rules ≡ length self.old.plan.rules }
+    {
+        let row = &mut self.rules[rule.0 as usize];
+        row.place = None;
+        row.failures += 1;
+        row.why = Some(why);
+        self.records += 1;
+    }
+}
