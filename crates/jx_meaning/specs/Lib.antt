@@ -1,0 +1,11 @@
+pub mod Values
+pub mod Answers
+pub mod Numbers
+pub mod Lists
+pub mod Texts
+pub mod Functions
+pub mod Operations
+pub mod Meaning
+pub mod Laws
+pub mod Examples
+pub mod Scopes
