@@ -68,12 +68,18 @@ end_in len (negsuc i) = len - suc i
 abbrev pub between : {A : Type 0} → ℕ → ℕ → List A → List A
 between from to xs = take (to - from) (drop from xs)
 
--- what stands between two ends; where one isn't given, it is the list's
+-- where a slice begins and where it stops; an end that isn't given is the list's
+abbrev pub start_in : ℕ → Option ℤ → ℕ
+start_in len None = 0
+start_in len (Some i) = end_in len i
+
+abbrev pub stop_in : ℕ → Option ℤ → ℕ
+stop_in len None = len
+stop_in len (Some i) = end_in len i
+
+-- what stands between two ends
 abbrev pub cut : {A : Type 0} → List A → Option ℤ → Option ℤ → List A
-cut xs None None = xs
-cut xs (Some i) None = drop (end_in (length xs) i) xs
-cut xs None (Some j) = take (end_in (length xs) j) xs
-cut xs (Some i) (Some j) = between (end_in (length xs) i) (end_in (length xs) j) xs
+cut xs from to = between (start_in (length xs) from) (stop_in (length xs) to) xs
 
 -- ends that are numbers
 abbrev pub number_ends : ℕ → Option Value → (Option ℤ → Answer) → Answer

@@ -1,5 +1,6 @@
 -- Arithmetic and ranges.
 use Rattle.std.specs.Prelude.{ℕ, zero, suc, ◌+◌, ◌-◌, ◌/◌, ◌^◌, Bool, true, false, nat_lt, nat_le, List, [], ◌∷◌, Result, Ok, Err, if◌then◌else◌, ℤ, pos, negsuc, ◌+ℤ◌, ◌-ℤ◌, ◌*ℤ◌, int_div, int_rem}
+use Rattle.std.specs.Int.Signed.{mag}
 use Rattle.jx_syntax.specs.declared.operator.Operator.{Operator}
 use Rattle.jx_syntax.specs.declared.operator.Operator.TheVariants.{Add, Subtract, Multiply, Divide, Remainder}
 use Rattle.jx_meaning.specs.declared.fault.EvalFault.{EvalFault}
@@ -10,14 +11,9 @@ use Rattle.jx_meaning.specs.Values.{Value, number, list, values}
 abbrev pub Answer : Type 0
 Answer = Result Value EvalFault
 
--- whether a number has 64 bits with its sign
-abbrev pub is_signed_word : ℤ → Bool
-is_signed_word (pos n) = nat_lt n (2 ^ 63)
-is_signed_word (negsuc n) = nat_lt n (2 ^ 63)
-
--- the number, where it has 64 bits
+-- the number, where it has 64 bits with its sign
 abbrev pub in_range : ℕ → ℤ → Answer
-in_range at z = if is_signed_word z then Ok (number z) else Err (Overflow at)
+in_range at z = if nat_lt (mag z) (2 ^ 63) then Ok (number z) else Err (Overflow at)
 
 abbrev pub is_zero : ℤ → Bool
 is_zero (pos zero) = true

@@ -1,0 +1,5 @@
+pub mod Plain
+pub mod Signs
+pub mod Orders
+pub mod SizeLemmas
+pub mod Equalities

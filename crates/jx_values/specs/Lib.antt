@@ -1,0 +1,3 @@
+pub mod Kinds
+pub mod Sizes
+pub mod Found

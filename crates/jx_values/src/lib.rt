@@ -1,0 +1,16 @@
+//! The operations of JX on values.
+#![tactic(auto)]
+
+mod copy;
+mod equality;
+mod kinds;
+mod numbers;
+mod order;
+mod size;
+
+pub use copy::copied;
+pub use equality::{are_equal, find};
+pub use kinds::{entries_in, is_null, items_in, number_in, text_in, truth_in};
+pub use numbers::{arithmetic, signed};
+pub use order::compared;
+pub use size::{Size, size_of};
