@@ -162,3 +162,5 @@ pub some_null : (v : JxValue) → v ≡ value.Null → null_test (plain v) ≡ t
 some_null v e = ap (λ (w : JxValue). null_test (plain w)) e ∙ ap null_test plain-null
 
 pub ruleset views = (not_null, some_null, no_truth, no_number, no_text, no_items, no_entries, some_truth, some_number, some_text, some_items, some_entries)
+
+pub ruleset plain_laws = (plain-null, plain-truth, plain-number, plain-text, plain-list, plain-object)

@@ -4,13 +4,17 @@
 mod copy;
 mod equality;
 mod kinds;
+mod limits;
 mod numbers;
+mod operators;
 mod order;
 mod size;
 
 pub use copy::copied;
 pub use equality::{are_equal, find};
 pub use kinds::{entries_in, is_null, items_in, number_in, text_in, truth_in};
+pub use limits::{Items, MOST_BYTES, MOST_ITEMS, may_be_list, text_value};
 pub use numbers::{arithmetic, signed};
+pub use operators::{added, operated};
 pub use order::compared;
 pub use size::{Size, size_of};

@@ -1,7 +1,7 @@
 //! The size of a value, as far as the limits need it.
-ghost use Rattle.std.specs.Prelude.{◌≡◌, ◌≤◌, ◌+◌, min, max};
-ghost use Rattle.jx_meaning.specs.Values.{plain};
-ghost use Rattle.jx_values.specs.Sizes.{sized, size_of};
+ghost use Rattle.std.specs.Prelude.{◌≡◌, map, ◌≤◌, ◌+◌, min, max};
+ghost use Rattle.jx_meaning.specs.Values.{plain, values};
+ghost use Rattle.jx_values.specs.Sizes.{sized, size_of, items_size};
 
 use jx_syntax::JxValue;
 
@@ -52,6 +52,17 @@ impl Size {
         let count = self.count.saturating_add(1).min(TOO_MANY);
         Size { depth, count }
     }
+}
+
+/// The size of these values beside one another.
+pub fn items_size(items: &[JxValue]) -> Size
+    ensures { result ≡ items_size (values (map plain items.now)) }
+{
+    let mut inside = Size::nothing();
+    for item in items {
+        inside = inside.beside(size_of(item));
+    }
+    inside
 }
 
 /// The size of a value.
