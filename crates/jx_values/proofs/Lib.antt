@@ -6,3 +6,5 @@ pub mod Equalities
 pub mod Calculation
 pub mod Room
 pub mod Sums
+pub mod Places
+pub mod Cuts

@@ -1,3 +1,4 @@
 pub mod Kinds
 pub mod Sizes
 pub mod Found
+pub mod Ends

@@ -8,7 +8,9 @@ mod limits;
 mod numbers;
 mod operators;
 mod order;
+mod parts;
 mod size;
+mod slices;
 
 pub use copy::copied;
 pub use equality::{are_equal, find};
@@ -17,4 +19,6 @@ pub use limits::{Items, MOST_BYTES, MOST_ITEMS, may_be_list, text_value};
 pub use numbers::{arithmetic, signed};
 pub use operators::{added, operated};
 pub use order::compared;
+pub use parts::{char_at, char_count, end_in, indexed};
 pub use size::{Size, size_of};
+pub use slices::sliced;
