@@ -1,0 +1,4 @@
+pub mod Kept
+pub mod Woven
+pub mod State
+pub mod Places

@@ -1,0 +1,16 @@
+//! The desk: attempts, files and the log, kept in agreement at every moment.
+#![tactic(auto)]
+
+mod answers;
+mod attempt;
+mod contents;
+mod desk;
+mod entry;
+mod seen;
+mod step;
+mod terms;
+
+pub use answers::{CloseRefused, Trouble};
+pub use attempt::Attempt;
+pub use desk::Desk;
+pub use terms::Terms;
