@@ -1,5 +1,6 @@
 -- A desk by its fields: the records and the steps in place of its moves.
-use Rattle.std.proofs.Common.{◌≡◌, ◌≢◌, ◌≤◌, ◌∙◌, ℕ, List, [], ◌∷◌, ◌++◌, length, drop, Option, sym, ap, subst}
+use Rattle.std.proofs.Common.{◌≡◌, ◌≢◌, ◌≤◌, ◌∙◌, ℕ, List, [], ◌∷◌, ◌++◌, length, drop, Option, sym, ap, subst, true≢false}
+use Rattle.std.specs.Prelude.{is_some}
 use Rattle.flow_types.specs.declared.plan.Plan.{Plan}
 use Rattle.flow_types.specs.declared.numbers.Content.{Content}
 use Rattle.flow_types.specs.declared.records.Record.{Record}
@@ -7,7 +8,8 @@ use Rattle.flow_types.specs.Plans.{makes}
 use Rattle.run_history.specs.declared.moves.Move.{Move}
 use Rattle.run_history.specs.declared.moves.Move.TheVariants as moves
 use Rattle.run_history.specs.Links.{records_of}
-use Rattle.outside.specs.Disk.{Outcomes, LeavesOnly}
+use Rattle.outside.specs.Disk.{Outcomes, IsImage, LeavesOnly, Within}
+use Rattle.outside.proofs.Moments.{weakened}
 use Rattle.outside.specs.Files.{Files}
 use Rattle.txn_log.specs.Logs.{LogState, IsAt, IsAppended}
 use Rattle.file_store.specs.Outputs.{IsBeside, StayBeside}
@@ -21,6 +23,13 @@ use Rattle.desk.proofs.Woven.{moves_records, moves_logged, drop_woven}
 use Rattle.desk.proofs.Keeping.{MayStand, recording, recorded, troubled, putting, put}
 
 -- a desk whose log is named as it is
+-- no file is written
+nothing_written : {S : Type 0} (d : DeskState S) → CanWrite d []
+nothing_written d = record {
+  inside = λ k f is. absurd (true≢false (sym (ap is_some is)));
+  absent = λ k f content is present. true≢false (sym (ap is_some is));
+}
+
 module _ {S : Type 0} (fits : Plan → ℕ → Content → Option (List ℕ) → Type 0) (tells keeps : Type 0) (may_leave : S → Outcomes) (moment : S → ℕ) (images_since : S → ℕ → Files → Type 0)
     (count : S → ℕ) (born : ℕ) where
   renamed : (d : DeskState S) (log : LogState) → IsDesk fits tells keeps may_leave moment images_since count born log d → IsDesk fits tells keeps may_leave moment images_since count born log (record d { log = log.name })
@@ -115,3 +124,21 @@ module _ {S : Type 0} (fits : Plan → ℕ → Content → Option (List ℕ) →
   put_in d v log site t r same is fine can =
       put fits tells keeps may_leave moment images_since count born d log site t (makes d.plan r) is (subst (λ (w : DeskState S). IsFine w.trouble) (sym same) fine)
       (subst (λ (w : DeskState S). CanWrite w (makes w.plan r)) (sym same) can)
+
+  -- while nothing is written, and behind it
+  pub looking_in : (d v : DeskState S) (log : LogState) (site : S) → d ≡ v → IsDesk fits tells keeps may_leave moment images_since count born log d → IsFine v.trouble
+      → (tells → LeavesOnly moment images_since d.site site (IsImage (may_leave d.site)))
+      → tells × keeps → LeavesOnly moment images_since v.site site (Keeps fits v.plan v.log (records_of v.moves))
+  looking_in d v log site same is fine run =
+      subst (λ (w : DeskState S). tells × keeps → LeavesOnly moment images_since w.site site (Keeps fits w.plan w.log (records_of w.moves))) same
+      (putting fits tells keeps may_leave moment images_since count born d log site [] is (subst (λ (w : DeskState S). IsFine w.trouble) (sym same) fine) (nothing_written d)
+      (λ told. weakened moment images_since d.site site (IsImage (may_leave d.site)) (IsBeside d.plan [] (may_leave d.site)) (run told) (λ image now name beside. now name)))
+
+  pub looked_in : (d v : DeskState S) (log : LogState) (site : S) (t : Trouble) → d ≡ v → IsDesk fits tells keeps may_leave moment images_since count born log d → IsFine v.trouble
+      → (tells → LeavesOnly moment images_since d.site site (IsImage (may_leave d.site))) → (tells → Within (may_leave d.site) (may_leave site))
+      → count d.site ≤ count site → HasCounts d.faults (count site) t
+      → IsDesk fits tells keeps may_leave moment images_since count born log (record d { trouble = t; site = site })
+  looked_in d v log site t same is fine run within =
+      put fits tells keeps may_leave moment images_since count born d log site t [] is (subst (λ (w : DeskState S). IsFine w.trouble) (sym same) fine) (nothing_written d)
+      (λ told. weakened moment images_since d.site site (IsImage (may_leave d.site)) (IsBeside d.plan [] (may_leave d.site)) (run told) (λ image now name beside. now name))
+      (λ told name file beside left. within told name file left)

@@ -5,7 +5,7 @@ use mathlib.Core.List.{IsPrefix}
 use Rattle.flow_types.specs.declared.plan.Plan.{Plan}
 use Rattle.flow_types.specs.declared.numbers.Content.{Content}
 use Rattle.flow_types.specs.declared.records.Record.{Record}
-use Rattle.flow_types.specs.Plans.{is_empty}
+use Rattle.flow_types.specs.Plans.{IsValid, is_empty}
 use Rattle.run_history.specs.declared.moves.Move.{Move}
 use Rattle.run_history.specs.declared.moves.Move.TheVariants as moves
 use Rattle.run_history.specs.History.{is_cleaned, part}
@@ -21,6 +21,7 @@ use Rattle.outside.proofs.Moments.{started, weakened}
 use Rattle.txn_log.specs.Spells.{Spells, IsLogOf}
 use Rattle.txn_log.specs.Logs.{LogState, IsAt, IsAppended}
 use Rattle.file_store.specs.Outputs.{file_name, IsOther, IsBeside, StayBeside}
+use Rattle.desk.proofs.Named.{named}
 use Rattle.desk.specs.declared.answers.Trouble.{Trouble}
 use Rattle.desk.specs.declared.answers.Trouble.TheVariants as trouble
 use Rattle.desk.specs.Kept.{IsLegal, Keeps, Rests, WasKept, FilesHold, KeepsEither}
@@ -271,4 +272,75 @@ module _ {S : Type 0} (fits : Plan → ℕ → Content → Option (List ℕ) →
             (λ (was : images_since d.site born image). was_kept fits d.plan d.log d.base H [] (IsCut d.trouble) (IsCut t) image (not_cut d.trouble fine) (is.kept told image was))
             (λ (now : Keeps fits d.plan d.log H image). kept_now fits d.plan d.log d.base H [] (IsCut t) image is.based now)
             ((putting d log site fs is fine can run told).before born image (is.later told) left));
+      }
+
+-- why a desk may begin with a record: the site kept the records before it at every moment since the start, and has its files
+pub record MayBegin {S : Type 0} (fits : Plan → ℕ → Content → Option (List ℕ) → Type 0) (tells keeps : Type 0) (may_leave : S → Outcomes) (moment : S → ℕ)
+    (images_since : S → ℕ → Files → Type 0) (born : ℕ) (P : Plan) (log : List ℕ) (H : List Record) (x : Record) (site : S) : Type 0 where
+  pub valid : IsValid P
+  pub apart : (f : ℕ) → file_name P f ≢ log
+  pub legal : IsLegal P H
+  pub allowed : is_allowed P (plan_digest P) H x ≡ true
+  pub goes_on : is_cleaned x ≡ false
+  pub places : has_places P (H ++ (x ∷ [])) 0 ≡ true
+  pub files : tells × keeps → FilesHold fits P H (may_leave site)
+  pub next_files : tells × keeps → FilesHold fits P (H ++ (x ∷ [])) (may_leave site)
+  pub later : tells × keeps → born ≤ moment site
+  pub since : tells × keeps → (image : Files) → images_since site born image → Keeps fits P log H image
+
+module _ {S : Type 0} (fits : Plan → ℕ → Content → Option (List ℕ) → Type 0) (tells keeps : Type 0) (may_leave : S → Outcomes) (moment : S → ℕ) (images_since : S → ℕ → Files → Type 0)
+    (count : S → ℕ) (born : ℕ) where
+  -- what a crash may leave while the first record is added
+  pub beginning : (P : Plan) (log : LogState) (H : List Record) (x : Record) (old new : S) → MayBegin fits tells keeps may_leave moment images_since born P log.name H x old
+      → (tells → IsAt H log.gate (may_leave old log.name))
+      → (tells → LeavesOnly moment images_since old new (IsAppended log.name H x (may_leave old)))
+      → tells × keeps → LeavesOnly moment images_since old new (KeepsEither fits P log.name H x)
+  beginning P log H x old new may at run told =
+      weakened moment images_since old new (IsAppended log.name H x (may_leave old)) (KeepsEither fits P log.name H x) (run told.0)
+      (λ image l. appended_keeps fits P log.name H x (may_leave old) image (record { spells = (at told.0).each; files = may.files told }) may.legal
+      (legal-push P (plan_digest P) H x may.legal may.goes_on may.allowed) (may.next_files told) may.apart l)
+
+  -- the desk that begins with it
+  pub begun : (d : DeskState S) (log log2 : LogState) (H : List Record) (x : Record) (old : S) → MayBegin fits tells keeps may_leave moment images_since born d.plan log.name H x old
+      → d.trouble ≡ trouble.Fine → d.log ≡ log2.name → d.base ≡ length H → records_of d.moves ≡ H ++ (x ∷ []) → d.faults ≤ count d.site
+      → (tells → IsAt H log.gate (may_leave old log.name))
+      → (tells → LeavesOnly moment images_since old d.site (IsAppended log.name H x (may_leave old)))
+      → Takes log2 (H ++ (x ∷ [])) → log2.name ≡ log.name → (tells → IsAt (H ++ (x ∷ [])) log2.gate (may_leave d.site log.name))
+      → (tells → (m : List ℕ) (file : Option (List ℕ)) → m ≢ log.name → may_leave d.site m file → may_leave old m file)
+      → IsDesk fits tells keeps may_leave moment images_since count born log2 d
+  begun d log log2 H x old may works log_is base_is records rises at run takes name next_at crash =
+      let name_is : log.name ≡ d.log = sym (log_is ∙ name) in
+      let back = sym records in
+      record {
+        valid = may.valid;
+        legal = subst (IsLegal d.plan) back (legal-push d.plan (plan_digest d.plan) H x may.legal may.goes_on may.allowed);
+        opened = ap (λ (G : List Record). is_empty (part G)) records ∙ still_opened H x may.goes_on;
+        based = let long = ap (λ (l : List Record). length l) records in omega (arith, base_is, long, length-append H (x ∷ []));
+        places = ap (λ (G : List Record). has_places d.plan G 0) records ∙ may.places;
+        apart = λ f here. may.apart f (here ∙ sym name_is);
+        named = named d.plan may.valid;
+        log_name = sym log_is;
+        takes = λ fine. subst (Takes log2) back takes;
+        gate = λ told fine. subst (λ (G : List Record). IsAt G log2.gate (may_leave d.site d.log)) back (subst (λ (n : List ℕ). IsAt (H ++ (x ∷ [])) log2.gate (may_leave d.site n)) name_is (next_at told));
+        rises = rises;
+        counts = subst (HasCounts d.faults (count d.site)) (sym works) tt;
+        rests = λ told fine. subst (λ (G : List Record). Rests fits d.plan d.log G (may_leave d.site)) back (record {
+          spells = λ file left. (next_at told.0).each file (subst (λ (n : List ℕ). may_leave d.site n file) (sym name_is) left);
+          files = λ f content present file left. may.next_files told f content present file (crash told.0 (file_name d.plan f) file (may.apart f) left);
+        });
+        later = λ told. let le = may.later told in let on = (run told.0).later in omega (arith, le, on);
+        kept = λ told image left. subst (λ (G : List Record). WasKept fits d.plan d.log d.base G (IsCut d.trouble) image) back
+            (subst (λ (n : List ℕ). WasKept fits d.plan n d.base (H ++ (x ∷ [])) (IsCut d.trouble) image) name_is
+            (⊎_elim
+            (λ (was : images_since old born image). kept_now fits d.plan log.name d.base H (x ∷ []) (IsCut d.trouble) image (omega (arith, base_is)) (may.since told image was))
+            (λ (now : KeepsEither fits d.plan log.name H x image). ⊎_elim
+            (λ (k : Keeps fits d.plan log.name H image). kept_now fits d.plan log.name d.base H (x ∷ []) (IsCut d.trouble) image (omega (arith, base_is)) k)
+            (λ (k : Keeps fits d.plan log.name (H ++ (x ∷ [])) image). record {
+              records = H ++ (x ∷ []);
+              since = omega (arith, base_is, length-append H (x ∷ []));
+              kept = k;
+              known = inl ([], append-nil (H ++ (x ∷ [])));
+            })
+            now)
+            ((beginning d.plan log H x old d.site may at run told).before born image (may.later told) left)));
       }

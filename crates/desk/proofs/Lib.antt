@@ -6,3 +6,6 @@ pub mod Keeping
 pub mod Outputs
 pub mod Named
 pub mod Fields
+pub mod Counting
+pub mod Quiets
+pub mod Damage

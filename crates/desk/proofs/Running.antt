@@ -10,9 +10,10 @@ use Rattle.flow_types.specs.declared.records.Record.{Record}
 use Rattle.flow_types.specs.declared.records.Record.TheVariants as records
 use Rattle.flow_types.specs.declared.numbers.RuleNo.{RuleNo}
 use Rattle.flow_types.specs.declared.numbers.AttemptNo.{AttemptNo}
+use Rattle.flow_types.specs.declared.numbers.LinkNo.{LinkNo}
 use Rattle.flow_types.specs.declared.job.Failure.{Failure}
 use Rattle.flow_types.specs.Plans.{rule_numbers}
-use Rattle.flow_types.proofs.Totals.{total, total-is, total-take, at_place, place-inside}
+use Rattle.flow_types.proofs.Totals.{total, total-is, total-add, total-take, at_place, place-once, place-inside}
 use Rattle.run_history.specs.declared.states.RuleState.{RuleState}
 use Rattle.run_history.specs.declared.states.RuleState.TheVariants as rule
 use Rattle.run_history.specs.History.{is_cleaned, is_opening}
@@ -103,3 +104,24 @@ pub lost_places : (P : Plan) (H : List Record) (moment : ℕ) (rule : RuleNo) (a
     → has_places P (H ++ (records.Lost moment rule attempt ∷ [])) 0 ≡ true
 lost_places P H moment rule attempt running places =
     closing_places P H (records.Lost moment rule attempt) (closing P H (records.Lost moment rule attempt) rule.0 attempt.0 None running refl refl (λ r. refl) (λ r. no_outs (rule.0 == r))) places
+
+starting_by : (H : List Record) (x : Record) (place r : ℕ) (b : Bool) → (place == r) ≡ b → is_cleaned x ≡ false → is_opening x ≡ false
+    → (b ≡ false → running_says r x ≡ None) → outs_in r x ≡ None → one (is_running (H ++ (x ∷ [])) r) ≤ one (is_running H r) + cond b 1 0
+starting_by H x place r true same more stays says logs = one_more (is_running (H ++ (x ∷ [])) r) (is_running H r)
+  where
+    one_more : (a b : Bool) → one a ≤ one b + 1
+    one_more true b = omega arith
+    one_more false b = omega arith
+starting_by H x place r false other more stays says logs =
+    let same : one (is_running (H ++ (x ∷ [])) r) ≡ one (is_running H r) = ap one (running_same H x r more stays logs (says refl)) in omega (arith, same)
+
+-- a start of a rule leaves a place for each running attempt where it needed two
+pub started_places : (P : Plan) (H : List Record) (moment : ℕ) (rule : RuleNo) (attempt : AttemptNo) (link : LinkNo) → has_places P H 2 ≡ true
+    → has_places P (H ++ (records.Started moment rule attempt link ∷ [])) 0 ≡ true
+started_places P H moment rule attempt link places =
+    let x : Record = records.Started moment rule attempt link in
+    let le : total (λ r. one (is_running (H ++ (x ∷ [])) r)) (rule_numbers P) ≤ total (λ r. one (is_running H r)) (rule_numbers P) + total (at_place 1 rule.0) (rule_numbers P) =
+    total-add (λ r. one (is_running (H ++ (x ∷ [])) r)) (λ r. one (is_running H r)) (at_place 1 rule.0) (rule_numbers P)
+    (λ r. starting_by H x rule.0 r (rule.0 == r) refl refl refl (λ other. ap (λ b. cond b (Some (Some (attempt, link))) None) other) refl) in
+    le-leb (length (H ++ (x ∷ [])) + length (running_rules P (H ++ (x ∷ []))) + 1 + 0) most_records
+    (omega (arith, le, place-once 1 rule.0 0 (length P.rules), count_is P H, count_is P (H ++ (x ∷ [])), length-append H (x ∷ []), leb-true (length H + length (running_rules P H) + 1 + 2) most_records places))

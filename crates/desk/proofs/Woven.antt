@@ -74,3 +74,14 @@ moves_logged base ss H x le are =
 
 pub drop_woven : (base : ℕ) (ss : List Step) (H : List Record) (x : Record) → base ≤ length H → AreWoven ss (drop base H) → AreWoven (ss ++ (steps.Logged ∷ [])) (drop base (H ++ (x ∷ [])))
 drop_woven base ss H x le are = subst (AreWoven (ss ++ (steps.Logged ∷ []))) (sym (drop_more base H x le)) (logged_woven ss (drop base H) x are)
+
+none_left : (H : List Record) → AreWoven [] (drop (length H) H)
+none_left [] = tt
+none_left (x ∷ H) = none_left H
+
+-- the first record since the start has the first step
+pub first_woven : (base : ℕ) (before ss : List Step) (H H2 : List Record) (x : Record) → base ≡ length H → before ≡ [] → (H2 ≡ H ++ (x ∷ [])) × (ss ≡ before ++ (steps.Logged ∷ [])) → AreWoven ss (drop base H2)
+first_woven base before ss H H2 x is none grew =
+    subst (λ (l : List Record). AreWoven ss (drop base l)) (sym grew.0)
+    (subst (λ (l : List Step). AreWoven l (drop base (H ++ (x ∷ [])))) (sym (grew.1 ∙ ap (λ (l : List Step). l ++ (steps.Logged ∷ [])) none))
+    (subst (λ (n : ℕ). AreWoven (steps.Logged ∷ []) (drop n (H ++ (x ∷ [])))) (sym is) (drop_woven (length H) [] H x (omega arith) (none_left H))))

@@ -1,6 +1,6 @@
 //! What a desk answers.
-use flow_types::RuleNo;
-use run_history::RuleState;
+use flow_types::{Content, FileNo, Record, Rows, RuleNo};
+use run_history::{Found, RuleState};
 
 /// Whether a desk works. The first fault of its site, or want of memory, ends its work for good.
 #[derive(Clone, Copy, Debug, PartialEq, Eq)]
@@ -18,5 +18,46 @@ pub enum CloseRefused {
     Stale { rule: RuleNo, state: RuleState },
     /// The site failed, in this call or in an earlier one.
     Broken { before: u64, after: u64 },
+    Memory,
+}
+
+/// Why a claim isn't answered.
+#[derive(Clone, Copy, Debug, PartialEq, Eq)]
+pub enum ClaimRefused {
+    /// The site failed, in this call or in an earlier one.
+    Broken { before: u64, after: u64 },
+    Memory,
+}
+
+/// Why a desk isn't started, with the site and the records that were handed in.
+#[derive(Drop)]
+pub struct StartRefused<S: Drop> {
+    pub why: StartFault,
+    pub site: S,
+    pub history: Rows<Record>,
+}
+
+/// Why a desk isn't started.
+#[derive(Clone, Copy, Debug, PartialEq, Eq)]
+pub enum StartFault {
+    /// The site failed. The counts are those of its faults before the call and after the fault.
+    Site { before: u64, after: u64 },
+    Memory,
+}
+
+/// Why a file isn't read.
+#[derive(Clone, Copy, Debug, PartialEq, Eq)]
+pub enum InputRefused {
+    /// What stands under the name isn't what was logged.
+    Damaged {
+        file: FileNo,
+        logged: Content,
+        found: Found,
+    },
+    /// The site failed, in this call or in an earlier one.
+    Broken {
+        before: u64,
+        after: u64,
+    },
     Memory,
 }

@@ -1,28 +1,36 @@
 //! The desk.
-ghost use Rattle.std.specs.Prelude.{◌≡◌, ◌<◌, ◌++◌, ◌∷◌, [], ℕ, List, length, Option, Some, OnOk, IfOk, true, false, slice_get, map};
+ghost use Rattle.std.specs.Prelude.{◌≡◌, ◌≢◌, ◌≤◌, ◌<◌, ◌++◌, ◌∷◌, [], ℕ, List, length, Option, Some, OnOk, IfOk, Ok, true, false, slice_get, map};
 ghost use Rattle.flow_types.specs.declared.plan.Rule.{Rule};
 ghost use Rattle.flow_types.specs.declared.records.Record.TheVariants as entries;
-ghost use Rattle.flow_types.specs.Plans.{IsValid, makes};
+ghost use Rattle.flow_types.specs.Plans.{IsValid, is_empty, makes};
 ghost use Rattle.flow_types.specs.Serial.{job_of, serial};
-ghost use Rattle.run_history.specs.History.{is_cleaned};
+ghost use Rattle.run_history.specs.History.{is_cleaned, next_attempt, part};
 ghost use Rattle.run_history.specs.Legal.{is_allowed, is_failure_at, has_places, runs};
-ghost use Rattle.run_history.specs.Links.{records_of};
-ghost use Rattle.run_history.specs.Storage.{has_failed};
+ghost use Rattle.run_history.specs.Answers.{claim_of};
+ghost use Rattle.run_history.specs.Laws.{IsPresent, started_as};
+ghost use Rattle.run_history.specs.Links.{is_live, records_of};
+ghost use Rattle.run_history.specs.Storage.{has_failed, running_rules};
 ghost use Rattle.rule_graph.specs.Spelling.{plan_digest};
 ghost use Rattle.log_records.specs.Spelling.{ListsFew};
 ghost use Rattle.outside.specs.Disk.{LeavesOnly, IsImage};
 ghost use Rattle.outside.specs.Files.{Files};
-ghost use Rattle.file_store.specs.Outputs.{Last, StayBeside, DifferByName};
-ghost use Rattle.desk.specs.Kept.{Fits, Keeps, WasKept, FilesHold, KeepsEither, logged};
-ghost use Rattle.desk.specs.State.{AreNamed, AreOutputs, CanLose, CanWrite, Checks, Closes, IsCut, IsDue, IsFine, Records, Writes, closed, is_final};
+ghost use Rattle.txn_log.specs.Logs.{IsAt, most_records};
+ghost use Rattle.file_store.specs.Outputs.{file_name, Last, StayBeside, DifferByName};
+ghost use Rattle.desk.specs.Begins.{Begins, site_in};
+ghost use Rattle.desk.specs.Claims.{Starts};
+ghost use Rattle.desk.specs.Inputs.{IsWhole, Looks, Tells};
+ghost use Rattle.desk.specs.Kept.{Fits, IsLegal, Keeps, WasKept, FilesHold, KeepsEither, logged};
+ghost use Rattle.desk.specs.State.{AreNamed, AreOutputs, CanLose, CanWrite, Checks, Closes, IsCut, IsDue, IsFine, Records, Takes, Writes, closed, is_final};
 
 use crate::attempt::Attempt;
 use crate::contents::store_outputs;
 use crate::entry::log_entry;
+use crate::inputs::read_logged;
 use crate::seen::look;
+use crate::starts::next_attempt;
 use crate::step::Step;
-use crate::{CloseRefused, Terms, Trouble};
-use flow_types::{AttemptNo, Bytes, Content, Failure, LinkNo, Plan, Record, Rows, RuleNo};
+use crate::{ClaimRefused, CloseRefused, InputRefused, StartFault, StartRefused, Terms, Trouble};
+use flow_types::{AttemptNo, Bytes, Content, Failure, FileNo, LinkNo, Plan, Record, Rows, RuleNo};
 use outside::{Commands, Fault, Site};
 use run_history::{Next, Options, Stop};
 use std::alloc::Global;
@@ -87,6 +95,79 @@ impl<F: Commands, S: Site, T: Terms> Model for Desk<F, S, T> {
 }
 
 impl<F: Commands, S: Site, T: Terms> Desk<F, S, T> {
+    /// Begins a desk with a record that may stand behind the history, over a site that has the files of both.
+    pub(crate) fn begin(
+        alloc: Global,
+        plan: Plan,
+        options: Options,
+        site: S,
+        log: Log,
+        history: Rows<Record>,
+        faults: u64,
+        entry: Record,
+    ) -> Result<Desk<F, S, T>, StartRefused<S>>
+        requires few { ListsFew entry }
+        requires takes { Takes log history }
+        requires place { length history < most_records }
+        requires gate { S.tells → IsAt history log.gate (S.may_leave site log.name) }
+        requires faults { faults ≤ S.count site }
+        requires valid { IsValid plan }
+        requires apart { (f : ℕ) → file_name plan f ≢ log.name }
+        requires legal { IsLegal plan history }
+        requires allowed { is_allowed plan (plan_digest plan) history entry ≡ true }
+        requires goes_on { is_cleaned entry ≡ false }
+        requires places { has_places plan (history ++ entry ∷ []) 0 ≡ true }
+        requires files { S.tells → T.kept → FilesHold (Fits T.trust F.gives T.sources) plan
+            history (S.may_leave site) }
+        requires next_files { S.tells → T.kept → FilesHold (Fits T.trust F.gives T.sources) plan
+            (history ++ entry ∷ []) (S.may_leave site) }
+        requires later { S.tells → T.kept → T.born ≤ S.moment site }
+        requires since { S.tells → T.kept → (image : Files) → S.images_since site T.born image
+            → Keeps (Fits T.trust F.gives T.sources) plan log.name history image }
+        ensures reply { Begins plan options log.name faults history entry result }
+        ensures any_moment { S.tells → T.kept
+            → LeavesOnly S.moment S.images_since site (site_in result)
+            (KeepsEither (Fits T.trust F.gives T.sources) plan log.name history entry) }
+    {
+        let mut site = site;
+        let mut log = log;
+        let mut records = history.into_vec();
+        let base = records.len();
+        let mut steps = Vec::new(alloc);
+        match log_entry(&mut site, &mut log, &mut records, &mut steps, entry) {
+            Ok(()) => Ok(Desk {
+                alloc,
+                plan,
+                options,
+                log,
+                base,
+                faults,
+                records,
+                steps,
+                stop: None,
+                trouble: Trouble::Fine,
+                site,
+                of: PhantomData,
+            }),
+            Err(Fault::Failed) => {
+                let after = site.faults();
+                Err(StartRefused {
+                    why: StartFault::Site {
+                        before: faults,
+                        after,
+                    },
+                    site,
+                    history: Rows::of(records),
+                })
+            }
+            Err(Fault::Memory) => Err(StartRefused {
+                why: StartFault::Memory,
+                site,
+                history: Rows::of(records),
+            }),
+        }
+    }
+
     /// Whether the desk still works: its site hasn't failed, and memory wasn't wanting.
     ///
     /// A crash at any moment since the start left the records that stood then and some that came after.
@@ -295,5 +376,119 @@ impl<F: Commands, S: Site, T: Terms> Desk<F, S, T> {
             rule,
             attempt: number,
         })
+    }
+
+    /// The number of the next attempt.
+    fn next_number(&self) -> AttemptNo
+        ensures number { result ≡ record { 0 = next_attempt (records_of self.now.moves) } }
+        ensures opened { is_empty (part (records_of self.now.moves)) ≡ false }
+        ensures files { S.tells → T.kept → IsFine self.now.trouble
+            → FilesHold (Fits T.trust F.gives T.sources) self.now.plan (records_of self.now.moves)
+            (S.may_leave self.now.site) }
+    {
+        AttemptNo(next_attempt(&self.records))
+    }
+
+    /// Starts the rule that a claim for a live link answers. All but the choice of the rule is done here.
+    pub(crate) fn take(
+        &mut self,
+        rule: RuleNo,
+        link: LinkNo,
+        moment: u64,
+    ) -> Result<Attempt, ClaimRefused>
+        requires fine { IsFine self.old.trouble }
+        requires lives { is_live self.old.options self.old.moves link.0 ≡ true }
+        requires chosen { claim_of self.old.plan self.old.options self.old.moves self.old.stop link.0
+            ≡ Ok rule.0 }
+        ensures reply { Starts self.old rule link moment result self.new }
+        ensures any_moment { S.tells → T.kept
+            → LeavesOnly S.moment S.images_since self.old.site self.new.site
+            (KeepsEither (Fits T.trust F.gives T.sources) self.old.plan self.old.log
+            (records_of self.old.moves) (started_as self.old.moves rule moment link)) }
+    {
+        let number = self.next_number();
+        match self.record(Record::Started {
+            moment,
+            rule,
+            attempt: number,
+            link,
+        }) {
+            Ok(()) => Ok(Attempt { rule, number, link }),
+            Err(CloseRefused::Stale { .. }) => unreachable!(),
+            Err(CloseRefused::Broken { before, after }) => {
+                Err(ClaimRefused::Broken { before, after })
+            }
+            Err(CloseRefused::Memory) => Err(ClaimRefused::Memory),
+        }
+    }
+
+    /// The content of a file that is present, as it was logged, or what stands in its place.
+    pub(crate) fn read_present(
+        &mut self,
+        alloc: Global,
+        file: FileNo,
+        logged: Content,
+    ) -> Result<Bytes, InputRefused>
+        requires inside { file.0 < length self.old.plan.files }
+        requires present { IsPresent self.old.plan (records_of self.old.moves) file.0 logged }
+        ensures reply { Looks self.old file logged result self.new }
+        ensures told { S.tells → IsFine self.old.trouble
+            → Tells logged (S.files self.old.site (file_name self.old.plan file.0)) result }
+        ensures whole { S.tells → T.kept → IsWhole result }
+        ensures honest { IfOk result (λ bytes. S.tells → T.kept → T.trust
+            → serial self.old.plan F.gives T.sources file.0 ≡ Some bytes) }
+        ensures any_moment { S.tells → T.kept → IsFine self.old.trouble
+            → LeavesOnly S.moment S.images_since self.old.site self.new.site
+            (Keeps (Fits T.trust F.gives T.sources) self.old.plan self.old.log
+            (records_of self.old.moves)) }
+    {
+        match self.trouble {
+            Trouble::Fine => {}
+            Trouble::Broken { before, after } => return Err(InputRefused::Broken { before, after }),
+            Trouble::Wants => return Err(InputRefused::Memory),
+        }
+        let row = &self.plan.files.as_slice()[file.0 as usize];
+        match read_logged(alloc, &mut self.site, &row.name, logged) {
+            Ok(Ok(bytes)) => Ok(bytes),
+            Ok(Err(found)) => Err(InputRefused::Damaged {
+                file,
+                logged,
+                found,
+            }),
+            Err(Fault::Failed) => {
+                let before = self.faults;
+                let after = self.site.faults();
+                self.trouble = Trouble::Broken { before, after };
+                Err(InputRefused::Broken { before, after })
+            }
+            Err(Fault::Memory) => {
+                self.trouble = Trouble::Wants;
+                Err(InputRefused::Memory)
+            }
+        }
+    }
+
+    /// The site and the records. Each attempt that was made is closed, or the desk doesn't work any more.
+    pub fn into_parts(self) -> (S, Rows<Record>)
+        requires spent { IsFine self.trouble
+            → is_empty (running_rules self.plan (records_of self.moves)) ≡ true }
+        ensures site { result.0 ≡ self.site }
+        ensures records { result.1 ≡ records_of self.moves }
+    {
+        let Desk {
+            alloc: _,
+            plan: _,
+            options: _,
+            log: _,
+            base: _,
+            faults: _,
+            records,
+            steps: _,
+            stop: _,
+            trouble: _,
+            site,
+            of: _,
+        } = self;
+        (site, Rows::of(records))
     }
 }

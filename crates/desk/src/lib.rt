@@ -6,11 +6,13 @@ mod attempt;
 mod contents;
 mod desk;
 mod entry;
+mod inputs;
 mod seen;
+mod starts;
 mod step;
 mod terms;
 
-pub use answers::{CloseRefused, Trouble};
+pub use answers::{ClaimRefused, CloseRefused, InputRefused, StartFault, StartRefused, Trouble};
 pub use attempt::Attempt;
 pub use desk::Desk;
 pub use terms::Terms;
