@@ -8,3 +8,5 @@ pub mod Standing
 pub mod Counting
 pub mod Keeping
 pub mod Closing
+pub mod Finishing
+pub mod Outputs

@@ -82,7 +82,7 @@ ended-same H x stays opens ends =
     ap (list_any is_end) (since-more H x stays opens) ∙ list_any-append is_end (since_opening H) (x ∷ []) ∙ ap (λ b. list_any is_end (since_opening H) || (b || false)) ends
     ∙ or_nothing (list_any is_end (since_opening H))
 
-not_empty : (xs : List Record) (x : Record) → is_empty (xs ++ (x ∷ [])) ≡ false
+pub not_empty : (xs : List Record) (x : Record) → is_empty (xs ++ (x ∷ [])) ≡ false
 not_empty [] x = refl
 not_empty (y ∷ ys) x = refl
 
@@ -110,7 +110,7 @@ pub start-push : (H : List Record) (x : Record) → next_attempt (H ++ (x ∷ []
 start-push H x = count-push is_start H x
 
 -- the rows when one is written
-row_by : (t : TableState) (r q : ℕ) (row : RuleRow) (b : Bool) → (q == r) ≡ b → r < length t.rules → slice_index_or (slice_set t.rules r row) q blank_row ≡ cond b row (row_at t q)
+pub row_by : (t : TableState) (r q : ℕ) (row : RuleRow) (b : Bool) → (q == r) ≡ b → r < length t.rules → slice_index_or (slice_set t.rules r row) q blank_row ≡ cond b row (row_at t q)
 row_by t r q row true same inside =
     ap (λ n. slice_index_or (slice_set t.rules r row) n blank_row) (eqb-true q r same) ∙ get_or-set_same t.rules r row blank_row inside
 row_by t r q row false other inside = get_or-set_other t.rules r q row blank_row (eqb-false q r other)
@@ -134,6 +134,9 @@ row-stands t M x r row inside quiet this others stands =
       rules = λ q. subst (λ (xs : List Record). IsRow xs q (slice_index_or (slice_set t.rules r row) q blank_row)) (sym longer)
           (subst (IsRow (H ++ (x ∷ [])) q) (sym (row_by t r q row (q == r) refl inside)) (rows_stand t H x r q row (q == r) refl inside quiet this (others q) (stands.rules q)));
       files = λ f. stands.files f ∙ sym (ap (λ (xs : List Record). file_state t.plan xs f) longer ∙ files-same t.plan H x f quiet);
+      dropped = λ f q made gone.
+          ap (λ (xs : List Record). is_some (outs_of xs q)) longer ∙ ap is_some (outs-same H x q quiet.stays (quiet.makes_none q))
+          ∙ stands.dropped f q made (sym (ap (λ (xs : List Record). list_any (drops f) (part xs)) longer ∙ drops-same H x f quiet.stays (quiet.drops_none f)) ∙ gone);
       records = omega (arith, stands.records, count, length-append H (x ∷ []));
       starts = ap (λ n. n + cond (is_start x) 1 0) stands.starts ∙ sym (ap next_attempt longer ∙ start-push H x);
       retries = stands.retries ∙ sym (ap retries_of longer ∙ retries-same H x quiet.stays quiet.retries);

@@ -1,12 +1,16 @@
 -- After which moves a table stands, and what its calls answer and leave.
-use Rattle.std.specs.Prelude.{◌≡◌, ℕ, ◌+◌, Bool, true, false, List, [], ◌∷◌, ◌++◌, length, Some, None, Result, Ok, Err, count_by, is_some, slice_set}
+use Rattle.std.specs.Prelude.{◌≡◌, ℕ, ◌+◌, Bool, true, false, List, [], ◌∷◌, ◌++◌, length, Some, None, Result, Ok, Err, count_by, is_some, slice_set, Option}
 use Rattle.flow_types.specs.declared.job.Failure.{Failure}
 use Rattle.flow_types.specs.declared.numbers.RuleNo.{RuleNo}
 use Rattle.flow_types.specs.declared.numbers.AttemptNo.{AttemptNo}
 use Rattle.flow_types.specs.declared.numbers.LinkNo.{LinkNo}
 use Rattle.flow_types.specs.declared.records.Record.{Record}
 use Rattle.flow_types.specs.declared.records.Record.TheVariants as records
-use Rattle.flow_types.specs.Plans.{is_empty}
+use Rattle.std.specs.List.{list_any}
+use Rattle.flow_types.specs.declared.numbers.Content.{Content}
+use Rattle.flow_types.specs.Plans.{is_empty, maker_of}
+use Rattle.run_history.specs.declared.states.FileState.{FileState}
+use Rattle.run_history.specs.declared.states.FileState.TheVariants as file
 use Rattle.run_history.specs.declared.moves.Move.{Move}
 use Rattle.run_history.specs.declared.moves.Move.TheVariants as moves
 use Rattle.run_history.specs.declared.states.RuleState.{RuleState}
@@ -14,7 +18,7 @@ use Rattle.run_history.specs.declared.answers.Next.{Next}
 use Rattle.run_history.specs.declared.answers.Next.TheVariants as next
 use Rattle.run_history.specs.declared.answers.Nothing.{Nothing}
 use Rattle.run_history.specs.History.{part, next_attempt}
-use Rattle.run_history.specs.States.{rule_state, file_state, running_in, outs_of, failures_of, retries_of, limit_of}
+use Rattle.run_history.specs.States.{drops, rule_state, file_state, running_in, outs_of, failures_of, retries_of, limit_of}
 use Rattle.run_history.specs.Legal.{runs}
 use Rattle.run_history.specs.Links.{records_of, link_row}
 use Rattle.run_history.specs.Moves.{is_change, live_links, next_link}
@@ -35,6 +39,8 @@ pub record Stands (t : TableState) (M : List Move) : Type 0 where
   pub begun : is_empty (part (records_of M)) ≡ false
   pub rules : (r : ℕ) → IsRow (records_of M) r (row_at t r)
   pub files : (f : ℕ) → file_at t f ≡ file_state t.plan (records_of M) f
+  -- A dropped file was made in this part.
+  pub dropped : (f r : ℕ) → maker_of t.plan f ≡ Some r → list_any (drops f) (part (records_of M)) ≡ true → is_some (outs_of (records_of M) r) ≡ true
   pub records : t.records ≡ length (records_of M)
   pub starts : t.starts ≡ next_attempt (records_of M)
   pub retries : t.retries ≡ retries_of (records_of M)
@@ -64,6 +70,15 @@ after_loss t r = with_row t r (record (row_at t r) { place = None })
 -- the attempt of rule r failed so
 abbrev pub after_failure : TableState → ℕ → Failure → TableState
 after_failure t r why = with_row t r (record (row_at t r) { place = None; failures = (row_at t r).failures + 1; why = Some why })
+
+-- rule r is done, and the files are these
+abbrev pub after_done : TableState → ℕ → List FileState → TableState
+after_done t r files = record (with_row t r (record (row_at t r) { place = None; done = true })) { files = files }
+
+-- present with the row, or as before without one
+abbrev pub made_or : Option Content → FileState → FileState
+made_or None state = state
+made_or (Some content) state = file.Present content
 
 -- What a claim answers, and where the table stands then.
 abbrev pub Claims : TableState → List Move → LinkNo → Result Started Nothing → TableState → Type 0

@@ -1,17 +1,19 @@
 //! Attempts that start and are closed.
-ghost use Rattle.std.specs.Prelude.{◌≡◌, ◌<◌, List, length, true, false, IfOk};
+ghost use Rattle.std.specs.Prelude.{◌≡◌, ◌<◌, ◌+◌, ℕ, All, List, drop, length, nat_le, sum_by, true, false, IfOk};
 ghost use Rattle.flow_types.specs.declared.records.Record.TheVariants as records;
 ghost use Rattle.run_history.specs.declared.moves.Move.{Move};
-ghost use Rattle.run_history.specs.Legal.{is_failure_at, runs_as};
-ghost use Rattle.run_history.specs.Storage.{has_failed};
+ghost use Rattle.run_history.specs.declared.states.FileState.{FileState};
+ghost use Rattle.run_history.specs.States.{row_of};
+ghost use Rattle.run_history.specs.Legal.{are_within, is_failure_at, runs_as};
+ghost use Rattle.run_history.specs.Storage.{has_failed, rule_bound};
 ghost use Rattle.run_history.specs.Links.{records_of};
-ghost use Rattle.flow_types.specs.Plans.{makes};
+ghost use Rattle.flow_types.specs.Plans.{IsValid, files_of, makes};
 ghost use Rattle.task_core.specs.Known.{leaves_places, runs_now};
-ghost use Rattle.task_core.specs.States.{known_in};
-ghost use Rattle.task_core.specs.Stands.{Claims, Closes, Stands, after_start, is_final};
+ghost use Rattle.task_core.specs.States.{file_at, known_in};
+ghost use Rattle.task_core.specs.Stands.{Claims, Closes, Stands, after_start, is_final, made_or};
 
 use crate::table::{Started, Table};
-use flow_types::{AttemptNo, Failure, LinkNo, RuleNo};
+use flow_types::{AttemptNo, Content, Failure, LinkNo, Port, RuleNo};
 use run_history::{Next, Nothing, RuleState};
 
 impl Table {
@@ -64,6 +66,67 @@ impl Table {
         } else {
             Next::Again
         })
+    }
+
+    /// The attempt of a rule made its outputs, one content for each in the rule's order and within its bounds. The state of
+    /// the rule comes back where it doesn't run with this attempt; then nothing changes.
+    pub fn finish(
+        &mut self,
+        rule: RuleNo,
+        attempt: AttemptNo,
+        outs: &[Content],
+    ) -> Result<(), RuleState>
+        requires rule { rule.0 < length self.old.plan.rules }
+        requires outputs { are_within self.old.plan (makes self.old.plan rule.0) outs.now ≡ true }
+        requires together { nat_le (sum_by (λ row. row.size) outs.now) (rule_bound self.old.plan rule.0) ≡ true }
+        ensures { (moves : List Move) → Stands self.old moves
+            → Closes self.old moves rule attempt (λ moment. records.Done moment rule attempt outs.now) result self.new }
+    {
+        if !self.runs_with(rule, attempt) {
+            return Err(self.state(rule));
+        }
+        self.note_done(rule);
+        self.note_outputs(rule, outs);
+        Ok(())
+    }
+
+    // The outputs of a rule.
+    fn outputs(&self, rule: RuleNo) -> &[Port]
+        requires { rule.0 < length self.now.plan.rules }
+        ensures files { files_of result.now ≡ makes self.now.plan rule.0 }
+        ensures inside { All (λ port. port.file.0 < length self.now.plan.files) result.now }
+        ensures valid { IsValid self.now.plan }
+    {
+        self.plan().rules.as_slice()[rule.0 as usize]
+            .outputs
+            .as_slice()
+    }
+
+    // Each output of the rule is present with its content.
+    fn note_outputs(&mut self, rule: RuleNo, outs: &[Content])
+        requires rule { rule.0 < length self.old.plan.rules }
+        requires outputs { are_within self.old.plan (makes self.old.plan rule.0) outs.now ≡ true }
+        ensures same { self.new ≡ record self.old { files = self.new.files } }
+        ensures made { (f : ℕ) → file_at self.new f ≡ made_or (row_of f (makes self.old.plan rule.0) outs.now) (file_at self.old f) }
+    {
+        let mut at = outs.len();
+        'outputs: while at > 0 {
+            at -= 1;
+            self.note_output(rule, at, outs);
+        }
+    }
+
+    // The output at this place is present with its content.
+    fn note_output(&mut self, rule: RuleNo, at: usize, outs: &[Content])
+        requires rule { rule.0 < length self.old.plan.rules }
+        requires outputs { are_within self.old.plan (makes self.old.plan rule.0) outs.now ≡ true }
+        requires place { at < length outs.now }
+        ensures same { self.new ≡ record self.old { files = self.new.files } }
+        ensures made { (state : ℕ → FileState) → ((f : ℕ) → file_at self.old f ≡ made_or (row_of f (drop (at + 1) (makes self.old.plan rule.0)) (drop (at + 1) outs.now)) (state f))
+            → (f : ℕ) → file_at self.new f ≡ made_or (row_of f (drop at (makes self.old.plan rule.0)) (drop at outs.now)) (state f) }
+    {
+        let file = self.outputs(rule)[at].file;
+        self.note_file(file, outs[at]);
     }
 
     pub(crate) fn runs_with(&self, rule: RuleNo, attempt: AttemptNo) -> bool

@@ -1,14 +1,15 @@
 //! The table.
-ghost use Rattle.std.specs.Prelude.{◌≡◌, ◌<◌, ◌≤◌, ◌+◌, length, is_some, true, false};
+ghost use Rattle.std.specs.Prelude.{◌≡◌, ◌<◌, ◌≤◌, ◌+◌, length, is_some, slice_set, true, false};
 ghost use Rattle.run_history.specs.declared.options.Mode.TheVariants.{Never};
+ghost use Rattle.run_history.specs.declared.states.FileState.TheVariants.{Present};
 ghost use Rattle.flow_types.specs.Plans.{IsValid, most_bytes, most_rules};
 ghost use Rattle.task_core.specs.Known.{known_bytes, leaves_places, runs_now};
 ghost use Rattle.task_core.specs.States.{known_in, row_at, file_at};
-ghost use Rattle.task_core.specs.Stands.{after_failure, after_loss, after_start};
+ghost use Rattle.task_core.specs.Stands.{after_done, after_failure, after_loss, after_start};
 
 use crate::rows::{LinkEntry, RuleRow};
 use file_states::FileStates;
-use flow_types::{AttemptNo, Failure, FileNo, LinkNo, Plan, Rule, RuleNo};
+use flow_types::{AttemptNo, Content, Failure, FileNo, LinkNo, Plan, Rule, RuleNo};
 use run_history::{FileState, Options, RuleState, Stop};
 use std::marker::Model;
 
@@ -194,5 +195,29 @@ impl Table {
         row.failures += 1;
         row.why = Some(why);
         self.records += 1;
+    }
+
+    // The rule is done, and its attempt runs no more.
+    pub(crate) fn note_done(&mut self, rule: RuleNo)
+        requires inside { rule.0 < length self.old.plan.rules }
+        requires runs { runs_now (known_in self.old) rule.0 ≡ true }
+        ensures table { self.new ≡ after_done self.old rule.0 self.old.files }
+        ensures valid { IsValid self.old.plan }
+        ensures rows { length self.old.rules ≡ length self.old.plan.rules }
+    {
+        let row = &mut self.rules[rule.0 as usize];
+        row.place = None;
+        row.done = true;
+        self.records += 1;
+    }
+
+    // The file is present with this content.
+    pub(crate) fn note_file(&mut self, file: FileNo, content: Content)
+        requires inside { file.0 < length self.old.plan.files }
+        requires small { content.size ≤ most_bytes }
+        ensures table { self.new ≡ record self.old { files = slice_set self.old.files file.0 (Present content) } }
+        ensures files { length self.old.files ≡ length self.old.plan.files }
+    {
+        self.files.note(file, FileState::Present(content));
     }
 }
