@@ -8,3 +8,4 @@ pub mod Room
 pub mod Sums
 pub mod Places
 pub mod Cuts
+pub mod Keys

@@ -1,5 +1,6 @@
 -- What a value holds, where it is of a kind.
-use Rattle.std.specs.Prelude.{ℕ, Bool, true, false, List, Option, Some, None, ℤ}
+use Rattle.std.specs.Prelude.{◌≡◌, slice_index_or, slice_set, ℕ, Bool, true, false, List, Option, Some, None, ℤ}
+use Rattle.jx_syntax.specs.declared.value.JxValue.{JxValue}
 use Rattle.jx_syntax.specs.declared.value.JxPair.{JxPair}
 use Rattle.jx_meaning.specs.Values.{Value, plain, null, truth, number, text, list, object, items, Entry, entries}
 
@@ -30,3 +31,7 @@ plain_pair p = (p.key, plain p.value)
 abbrev pub is_null : Value → Bool
 is_null null = true
 is_null v = false
+
+-- the pair at this place has another value, and the others are as before
+abbrev pub ReplacesValue : List JxPair → ℕ → JxValue → List JxPair → Type 0
+ReplacesValue old place value new = (p : JxPair) × (p ≡ slice_index_or old place p) × (new ≡ slice_set old place (record p { value = value }))

@@ -3,6 +3,7 @@
 
 mod copy;
 mod equality;
+mod fields;
 mod kinds;
 mod limits;
 mod numbers;
@@ -14,6 +15,7 @@ mod slices;
 
 pub use copy::copied;
 pub use equality::{are_equal, find};
+pub use fields::Fields;
 pub use kinds::{entries_in, is_null, items_in, number_in, text_in, truth_in};
 pub use limits::{Items, MOST_BYTES, MOST_ITEMS, may_be_list, text_value};
 pub use numbers::{arithmetic, signed};

@@ -21,7 +21,7 @@ pub const MOST_BYTES: usize = 16_777_216;
 pub const MOST_ITEMS: usize = 1_000_000;
 
 /// Whether a value of this size may be built.
-fn is_small(size: Size) -> bool
+pub fn is_small(size: Size) -> bool
     ensures { result ≡ (nat_le size.depth 128 && nat_le size.count 10000000) }
 {
     size.depth <= 128 && size.count <= 10_000_000

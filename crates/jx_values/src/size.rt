@@ -1,9 +1,10 @@
 //! The size of a value, as far as the limits need it.
 ghost use Rattle.std.specs.Prelude.{◌≡◌, map, ◌≤◌, ◌+◌, min, max};
-ghost use Rattle.jx_meaning.specs.Values.{plain, values};
-ghost use Rattle.jx_values.specs.Sizes.{sized, size_of, items_size};
+ghost use Rattle.jx_meaning.specs.Values.{plain, values, pairs};
+ghost use Rattle.jx_values.specs.Kinds.{plain_pair};
+ghost use Rattle.jx_values.specs.Sizes.{sized, size_of, items_size, pairs_size};
 
-use jx_syntax::JxValue;
+use jx_syntax::{JxPair, JxValue};
 
 /// How deep a value is, and how many values it holds. Each stops one above its limit.
 #[derive(Clone, Copy, Debug, PartialEq, Eq)]
@@ -61,6 +62,17 @@ pub fn items_size(items: &[JxValue]) -> Size
     let mut inside = Size::nothing();
     for item in items {
         inside = inside.beside(size_of(item));
+    }
+    inside
+}
+
+/// The size of the values of these pairs beside one another.
+pub fn pairs_size(fields: &[JxPair]) -> Size
+    ensures { result ≡ pairs_size (pairs (map plain_pair fields.now)) }
+{
+    let mut inside = Size::nothing();
+    for pair in fields {
+        inside = inside.beside(size_of(&pair.value));
     }
     inside
 }
