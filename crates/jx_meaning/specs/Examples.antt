@@ -50,6 +50,7 @@ letters = text 6 (codes "a") ∷ text 10 (codes "b") ∷ []
 abbrev pub fields : List ℕ → ℕ → List ℕ → ℕ → Fields
 fields k n l m = field k (digit 5 n) (field l (digit 11 m) no_fields)
 
+-- an object at a place
 abbrev pub fields_at : ℕ → Fields → Tree
 fields_at at fs = object at fs
 
@@ -57,6 +58,7 @@ fields_at at fs = object at fs
 abbrev pub called : List ℕ → List Tree → Answer
 called f ts = value_of [] (call 0 f (given ts))
 
+-- numbers as values
 abbrev pub numbers : List ℕ → List Value
 numbers [] = []
 numbers (n ∷ ns) = of.number (pos n) ∷ numbers ns

@@ -15,6 +15,7 @@ limited at v = if may_be v then Ok v else Err (TooMuch at)
 abbrev pub with_item : ℕ → List Value → Value → Result (List Value) EvalFault
 with_item at vs v = if may_be (list (values (vs ++ v ∷ []))) then Ok (vs ++ v ∷ []) else Err (TooMuch at)
 
+-- the pairs with the first one's value replaced, or that pair and then the others as they are now
 abbrev pub put_if : Bool → Value → Entry → List Entry → List Entry → List Entry
 put_if true v e es more = (e.0, v) ∷ es
 put_if false v e es more = e ∷ more
@@ -35,17 +36,21 @@ abbrev pub index_of : ℕ → ℤ → Option ℕ
 index_of len (pos i) = if nat_lt i len then Some i else None
 index_of len (negsuc i) = if nat_lt i len then Some (len - suc i) else None
 
+-- the item that an index means
 abbrev pub at_index : {A : Type 0} → List A → ℤ → Option A
 at_index xs i = option_and_then (slice_get xs) (index_of (length xs) i)
 
+-- the item, or the fault that there is none
 abbrev pub or_no_item : ℕ → Option Value → Answer
 or_no_item at None = Err (IndexRange at)
 or_no_item at (Some v) = Ok v
 
+-- a character as a text
 abbrev pub char_value : Option ℕ → Option Value
 char_value None = None
 char_value (Some c) = Some (text (encode_utf8 c))
 
+-- the value of a key, or the fault that there is none
 abbrev pub or_no_key : ℕ → Option Value → Answer
 or_no_key at None = Err (NoSuchKey at)
 or_no_key at (Some v) = Ok v
@@ -73,6 +78,7 @@ abbrev pub start_in : ℕ → Option ℤ → ℕ
 start_in len None = 0
 start_in len (Some i) = end_in len i
 
+-- where a slice stops
 abbrev pub stop_in : ℕ → Option ℤ → ℕ
 stop_in len None = len
 stop_in len (Some i) = end_in len i
@@ -87,6 +93,7 @@ number_ends at None f = f None
 number_ends at (Some (number z)) f = f (Some z)
 number_ends at (Some v) f = Err (WrongKind at)
 
+-- a list, or a text by its characters, between two ends that are numbers
 abbrev pub sliced_by : ℕ → Value → Option ℤ → Option ℤ → Answer
 sliced_by at (list vs) from to = limited at (list (values (cut (items vs) from to)))
 sliced_by at (text t) from to = limited at (text (flat_map encode_utf8 (cut (chars t) from to)))

@@ -21,14 +21,17 @@ Scope = List Entry
 abbrev pub Outcome : Type 0 → Type 0
 Outcome A = Result (A × ℕ) EvalFault
 
+-- what follows what was made, where it has no fault
 abbrev pub and_then : {A B : Type 0} → Outcome A → (A → ℕ → Outcome B) → Outcome B
 and_then (Ok p) f = f p.0 p.1
 and_then (Err e) f = Err e
 
+-- an answer with this number of nodes
 abbrev pub with_count : {A : Type 0} → ℕ → Result A EvalFault → Outcome A
 with_count n (Ok v) = Ok (v, n)
 with_count n (Err e) = Err e
 
+-- what follows with one node more, or the fault that there is one too many
 abbrev pub begun_if : {A : Type 0} → Bool → ℕ → ℕ → (ℕ → Outcome A) → Outcome A
 begun_if true at n f = f (n + 1)
 begun_if false at n f = Err (TooMuch at)
@@ -39,17 +42,21 @@ begun at n f = begun_if (nat_lt n 10000000) at n f
 
 -- ---- names, truth values and lists
 
+-- the value of a name, or the fault that it has none
 abbrev pub known : ℕ → Option Value → ℕ → Outcome Value
 known at (Some v) n = Ok (v, n)
 known at None n = Err (UnknownName at)
 
+-- what follows from a truth value; another value is a fault
 abbrev pub with_truth : {A : Type 0} → ℕ → Value → (Bool → Outcome A) → Outcome A
 with_truth at (truth t) f = f t
 with_truth at v f = Err (WrongKind at)
 
+-- a truth value as it is
 abbrev pub truth_of : ℕ → Value → ℕ → Outcome Value
 truth_of at v n = with_truth at v (λ t. Ok (truth t, n))
 
+-- what follows from the items of a list; another value is a fault
 abbrev pub with_list : {A : Type 0} → ℕ → Value → (List Value → Outcome A) → Outcome A
 with_list at (list vs) f = f (items vs)
 with_list at v f = Err (WrongKind at)
@@ -62,6 +69,7 @@ decides op.Or = Some true
 decides op.And = Some false
 decides o = None
 
+-- this, or what follows
 abbrev pub unless : {A : Type 0} → Bool → A → (Unit {0} → A) → A
 unless true v more = v
 unless false v more = more tt
@@ -73,6 +81,7 @@ operate None o at x second n = and_then (second n) (λ y n. with_count n (operat
 
 -- ---- loops
 
+-- what follows where a condition holds, or where it doesn't
 abbrev pub chosen : {A : Type 0} → Bool → (ℕ → A) → (ℕ → A) → ℕ → A
 chosen true held failed n = held n
 chosen false held failed n = failed n

@@ -15,6 +15,7 @@ Answer = Result Value EvalFault
 abbrev pub in_range : ℕ → ℤ → Answer
 in_range at z = if nat_lt (mag z) (2 ^ 63) then Ok (number z) else Err (Overflow at)
 
+-- whether a number is 0
 abbrev pub is_zero : ℤ → Bool
 is_zero (pos zero) = true
 is_zero z = false
@@ -49,6 +50,7 @@ unfoldable pub stepped : ℕ → ℤ → ℤ → List Value
 stepped zero a s = []
 stepped (suc n) a s = number a ∷ stepped n (a +ℤ s) s
 
+-- so many numbers, or the fault that they are too many
 abbrev pub ranged_if : Bool → ℕ → ℕ → ℤ → ℤ → Answer
 ranged_if true at n a s = Ok (list (values (stepped n a s)))
 ranged_if false at n a s = Err (TooMuch at)

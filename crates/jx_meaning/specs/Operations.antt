@@ -18,6 +18,7 @@ use Rattle.jx_meaning.specs.Texts.{made, texts_of, join_texts, formatted, outsid
 
 -- ---- signs
 
+-- a value behind a sign
 abbrev pub signed : ℕ → Sign → Value → Answer
 signed at sign.Minus (number z) = in_range at (neg_ℤ z)
 signed at sign.Plus (number z) = Ok (number z)
@@ -32,16 +33,19 @@ compared (number a) (number b) = Some (int_cmp a b)
 compared (text a) (text b) = Some (slice_cmp nat_cmp a b)
 compared a b = None
 
+-- whether an order that was found is so; no order is a fault
 abbrev pub in_order : (Ordering → Bool) → ℕ → Option Ordering → Answer
 in_order holds at None = Err (WrongKind at)
 in_order holds at (Some o) = Ok (truth (holds o))
 
+-- the sum of two numbers, or two texts or lists one behind the other
 abbrev pub added : ℕ → Value → Value → Answer
 added at (number a) (number b) = arithmetic op.Add at a b
 added at (text a) (text b) = limited at (text (a ++ b))
 added at (list a) (list b) = limited at (list (values (items a ++ items b)))
 added at a b = Err (WrongKind at)
 
+-- two numbers under an operator
 abbrev pub calculated : Operator → ℕ → Value → Value → Answer
 calculated o at (number a) (number b) = arithmetic o at a b
 calculated o at a b = Err (WrongKind at)
@@ -59,6 +63,7 @@ operated o at a b = calculated o at a b
 
 -- ---- functions
 
+-- `range` of one, two or three numbers
 abbrev pub range_of : ℕ → List Value → Answer
 range_of at (number b ∷ []) = ranged at (pos 0) b (pos 1)
 range_of at (number a ∷ number b ∷ []) = ranged at a b (pos 1)
@@ -67,6 +72,7 @@ range_of at [] = Err (ArgCount at)
 range_of at (a ∷ b ∷ c ∷ d ∷ more) = Err (ArgCount at)
 range_of at vs = Err (WrongKind at)
 
+-- `join` of a list, with a blank or another text between its texts
 abbrev pub join_of : ℕ → List Value → Answer
 join_of at (list vs ∷ []) = join_texts at (32 ∷ []) (texts_of (items vs))
 join_of at (list vs ∷ text sep ∷ []) = join_texts at sep (texts_of (items vs))
@@ -74,15 +80,18 @@ join_of at (a ∷ []) = Err (WrongKind at)
 join_of at (a ∷ b ∷ []) = Err (WrongKind at)
 join_of at vs = Err (ArgCount at)
 
+-- `format` of a text and values
 abbrev pub format_of : ℕ → List Value → Answer
 format_of at (text t ∷ vs) = made at (formatted false at t vs)
 format_of at (v ∷ vs) = Err (WrongKind at)
 format_of at [] = Err (ArgCount at)
 
+-- a value, or another where there is none
 abbrev pub or_other : Option Value → Option Value → Option Value
 or_other (Some v) other = Some v
 or_other None other = other
 
+-- `template` of a text, by the names in scope and perhaps by an object before them
 abbrev pub template_of : ℕ → List Entry → List Value → Answer
 template_of at scope (text t ∷ []) = made at (filled at (λ x. find x scope) outside t)
 template_of at scope (text t ∷ object ps ∷ []) = made at (filled at (λ x. or_other (find x (entries ps)) (find x scope)) outside t)
@@ -90,6 +99,7 @@ template_of at scope (a ∷ []) = Err (WrongKind at)
 template_of at scope (a ∷ b ∷ []) = Err (WrongKind at)
 template_of at scope vs = Err (ArgCount at)
 
+-- `len` of a list or a text
 abbrev pub len_of : ℕ → List Value → Answer
 len_of at (list vs ∷ []) = Ok (number (pos (length (items vs))))
 len_of at (text t ∷ []) = Ok (number (pos (length (chars t))))

@@ -24,13 +24,14 @@ made at (Err e) = Err e
 
 -- ---- the text of a value
 
--- pieces, each but the first behind a comma
+-- a comma before what follows, but not before the first piece
 abbrev pub comma : Bool → List ℕ → List ℕ
 comma true rest = rest
 comma false rest = 44 ∷ rest
 
 -- a value as JSON without blanks
 unfoldable mutual
+  -- a value
   pub written : Value → List ℕ
   written null = codes "null"
   written (truth t) = if t then codes "true" else codes "false"
@@ -44,6 +45,7 @@ unfoldable mutual
   written_items first no_values = []
   written_items first (item v vs) = comma first (written v ++ written_items false vs)
 
+  -- the pairs, the first one without a comma
   pub written_pairs : Bool → Pairs → List ℕ
   written_pairs first no_pairs = []
   written_pairs first (pair k v ps) = comma first (quoted k ++ 58 ∷ (written v ++ written_pairs false ps))
@@ -55,11 +57,12 @@ shown v = written v
 
 -- ---- join
 
--- the texts of a list, or none where one of them is no text
+-- a text before the texts of a list, where it is one and they are
 abbrev pub also : Value → Option (List (List ℕ)) → Option (List (List ℕ))
 also (text t) (Some ts) = Some (t ∷ ts)
 also v ts = None
 
+-- the texts of a list, or none where an item is no text
 abbrev pub texts_of : List Value → Option (List (List ℕ))
 texts_of [] = Some []
 texts_of (v ∷ vs) = also v (texts_of vs)
@@ -70,6 +73,7 @@ joined sep [] = []
 joined sep (t ∷ []) = t
 joined sep (t ∷ more) = t ++ (sep ++ joined sep more)
 
+-- texts with this text between them, or the fault that one is none
 abbrev pub join_texts : ℕ → List ℕ → Option (List (List ℕ)) → Answer
 join_texts at sep None = Err (WrongKind at)
 join_texts at sep (Some ts) = limited at (text (joined sep ts))
@@ -82,6 +86,7 @@ pub data Mark : Type 0 where
   decimal : Mark
   any : Mark
 
+-- what the character behind a `%` says
 abbrev pub mark_of : ℕ → Option Mark
 mark_of c = if c == 37 then Some percent else (if (c == 100) then Some decimal else (if c == 105 then Some decimal else (if c == 115 then Some any else None)))
 
@@ -90,6 +95,7 @@ abbrev pub number_text : ℕ → Value → Piece
 number_text at (number z) = Ok (signed_decimal z)
 number_text at v = Err (WrongKind at)
 
+-- a piece, and what follows it
 abbrev pub behind : Piece → (List ℕ → Piece) → Piece
 behind (Ok bs) more = before bs (more bs)
 behind (Err e) more = Err e
@@ -103,6 +109,7 @@ marked at (Some decimal) (v ∷ vs) more = behind (number_text at v) (λ bs. mor
 marked at (Some any) [] more = Err (ArgCount at)
 marked at (Some any) (v ∷ vs) more = before (shown v) (more vs)
 
+-- nothing, or the fault that values are left over
 abbrev pub all_used : ℕ → List Value → Piece
 all_used at [] = Ok []
 all_used at (v ∷ vs) = Err (ArgCount at)
@@ -129,6 +136,7 @@ pub data Brace : Type 0 where
   closing : Brace
   other : Brace
 
+-- which brace a character is
 abbrev pub brace_of : ℕ → Brace
 brace_of c = if c == 123 then opening else (if c == 125 then closing else other)
 
