@@ -5,3 +5,4 @@ pub mod Places
 pub mod Claims
 pub mod Begins
 pub mod Inputs
+pub mod Sources

@@ -11,9 +11,15 @@ use run_history::Found;
 use std::alloc::Global;
 
 /// So many bytes of a file, or fewer where it has fewer.
-fn read_bytes<S: Site>(alloc: Global, site: &mut S, name: &Name, size: u64) -> Result<Bytes, Fault>
+pub(crate) fn read_bytes<S: Site>(
+    alloc: Global,
+    site: &mut S,
+    name: &Name,
+    size: u64,
+) -> Result<Bytes, Fault>
     ensures bytes { IfOk result (λ bytes. S.tells
         → Reads size (S.files site.old name.now) bytes) }
+    ensures files { S.tells → S.files site.new ≡ S.files site.old }
     ensures within { S.tells → Within (S.may_leave site.old) (S.may_leave site.new) }
     ensures any_moment { S.tells
         → LeavesOnly S.moment S.images_since site.old site.new (IsImage (S.may_leave site.old)) }

@@ -8,6 +8,7 @@ mod desk;
 mod entry;
 mod inputs;
 mod seen;
+mod sources;
 mod starts;
 mod step;
 mod terms;
