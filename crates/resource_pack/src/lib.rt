@@ -8,3 +8,6 @@ mod pack;
 
 pub use occupied::{Occupied, Stated};
 pub use pack::Pack;
+
+#[cfg(test)]
+mod tests;
