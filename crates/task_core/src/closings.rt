@@ -129,7 +129,8 @@ impl Table {
         self.note_file(file, outs[at]);
     }
 
-    pub(crate) fn runs_with(&self, rule: RuleNo, attempt: AttemptNo) -> bool
+    /// Whether the rule runs with this attempt.
+    pub fn runs_with(&self, rule: RuleNo, attempt: AttemptNo) -> bool
         requires { rule.0 < length self.now.plan.rules }
         ensures runs { result ≡ runs_as ((known_in self.now).rules rule.0) attempt.0 }
         ensures running { result ≡ true → runs_now (known_in self.now) rule.0 ≡ true }
