@@ -11,6 +11,7 @@ pub record Occupancy : Type 0 where
   pub amounts : Amounts
   pub bytes : ℕ
 
+-- nothing runs
 abbrev pub no_tasks : Occupancy
 no_tasks = record { tasks = 0; amounts = no_amounts; bytes = 0 }
 
@@ -30,11 +31,13 @@ occupancy_of k total loads = record { tasks = length loads; amounts = taken_on k
 abbrev pub stated_row : Stated → LinkRow
 stated_row stated = record { total = stated.total; largest = stated.largest; cache = stated.cache }
 
+-- the amounts are left on link k beside what occupies it
 abbrev pub leaves_amounts_beside : ℕ → LinkRow → Occupancy → Needs → Bool
 leaves_amounts_beside k row occupied needs =
     if is_whole_link k needs then occupied.tasks == 0
     else is_at_most (amounts_on k row.total needs) row.largest && is_at_most (with_amounts occupied.amounts (amounts_on k row.total needs)) row.total
 
+-- so many bytes are left in the cache beside what occupies it
 abbrev pub leaves_bytes_beside : Option ℕ → Occupancy → ℕ → Bool
 leaves_bytes_beside None occupied bytes = true
 leaves_bytes_beside (Some cache) occupied bytes = nat_le (occupied.bytes + bytes) cache

@@ -28,9 +28,11 @@ use Rattle.run_history.specs.Legal.{has_places, is_stopped}
 use Rattle.run_history.specs.Links.{records_of, may_run_on, fits}
 use Rattle.run_history.specs.Moves.{live_links}
 
+-- the number as that of a rule
 abbrev pub rule_no : ℕ → RuleNo
 rule_no r = record { 0 = r }
 
+-- the number as that of a file
 abbrev pub file_no : ℕ → FileNo
 file_no f = record { 0 = f }
 
@@ -119,9 +121,11 @@ why_in r _ = None
 abbrev pub last_why : List Record → ℕ → Option Failure
 last_why H r = last_or None (filter_map (why_in r) (since_opening H))
 
+-- the answer by the last failure of rule r
 abbrev pub failed_answer : List Record → ℕ → Option Check
 failed_answer H r = option_map_or (λ why. Some (check.CommandFailed (rule_no r) why)) (last_why H r) None
 
+-- the answer by the count of the records
 abbrev pub log_full : List Record → Check
 log_full H = check.LogFull (length H)
 

@@ -71,6 +71,7 @@ pub record Load : Type 0 where
   pub needs : Needs
   pub bytes : ℕ
 
+-- what rule r needs of its link
 abbrev pub needs_of : Plan → ℕ → Needs
 needs_of P r = option_map_or (λ rule. rule.needs) (slice_get P.rules r) Whole
 
@@ -129,6 +130,7 @@ abbrev pub has_room : ℕ → LinkRow → List Load → Load → Bool
 has_room k row loads load =
     nat_lt (length loads) most_tasks && leaves_amounts k row loads load.needs && leaves_bytes row.cache loads load.bytes
 
+-- rule r is a LOCAL one
 abbrev pub is_local_rule : Plan → ℕ → Bool
 is_local_rule P r = option_map_or (λ rule. rule.local) (slice_get P.rules r) false
 

@@ -23,10 +23,12 @@ most_links = 32
 abbrev pub most_joins : ℕ
 most_joins = 1000000
 
+-- a link joined
 abbrev pub is_join : Move → Bool
 is_join (moves.Joined link total largest cache) = true
 is_join _ = false
 
+-- a link changed its amounts
 abbrev pub is_change : Move → Bool
 is_change (moves.Changed link total largest cache) = true
 is_change _ = false

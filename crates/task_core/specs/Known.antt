@@ -54,6 +54,7 @@ known_from P O M = record {
   live = live_links O M;
 }
 
+-- the numbers of all rules
 abbrev pub rules_of : Known → List ℕ
 rules_of K = rule_numbers K.plan
 
@@ -61,6 +62,7 @@ rules_of K = rule_numbers K.plan
 abbrev pub known_size : Known → ℕ → Option ℕ
 known_size K f = size_in (K.files f)
 
+-- file f is present
 abbrev pub is_there : Known → ℕ → Bool
 is_there K f = is_some (known_size K f)
 
@@ -68,39 +70,51 @@ is_there K f = is_some (known_size K f)
 abbrev pub known_bytes : Known → ℕ → ℕ
 known_bytes K f = option_map_or (λ size. size) (known_size K f) 0
 
+-- rule r runs
 abbrev pub runs_now : Known → ℕ → Bool
 runs_now K r = is_running_state (K.rules r)
 
+-- rule r is complete
 abbrev pub is_done : Known → ℕ → Bool
 is_done K r = is_complete_state (K.rules r)
 
+-- rule r has failed
 abbrev pub is_lost_rule : Known → ℕ → Bool
 is_lost_rule K r = is_failed_state (K.rules r)
 
+-- rule r waits and has its inputs
 abbrev pub can_start : Known → ℕ → Bool
 can_start K r = is_waiting_state (K.rules r) && list_all (is_there K) (takes K.plan r)
 
+-- the rules that run
 abbrev pub running : Known → List ℕ
 running K = filter (runs_now K) (rules_of K)
 
+-- the rules that can start
 abbrev pub ready : Known → List ℕ
 ready K = filter (can_start K) (rules_of K)
 
+-- the bytes of the inputs of rule r together
 abbrev pub input_sum : Known → ℕ → ℕ
 input_sum K r = sum_by (known_bytes K) (takes K.plan r)
 
+-- the bytes of the made files that are present
 abbrev pub stored_sum : Known → ℕ
 stored_sum K = sum_by (known_bytes K) (made_files K.plan)
 
+-- the bounds of the rules that run, together
 abbrev pub reserved_sum : Known → ℕ
 reserved_sum K = sum_by (rule_bound K.plan) (running K)
 
+-- rule r fits the storage
 abbrev pub has_storage : Known → ℕ → Bool
 has_storage K r = is_within (stored_sum K + reserved_sum K + rule_bound K.plan r) K.limit
 
+-- file f is free
 abbrev pub is_dispensable : Known → ℕ → Bool
 is_dispensable K f = is_some (maker_of K.plan f) && is_there K f && not (is_kept K.plan f) && list_all (is_done K) (takers_of K.plan f)
 
+-- the least free file
 abbrev pub first_free : Known → Option ℕ
 first_free K = find (is_dispensable K) (file_numbers K.plan)
 
@@ -108,6 +122,7 @@ first_free K = find (is_dispensable K) (file_numbers K.plan)
 abbrev pub lacks_storage : Known → Bool
 lacks_storage K = list_any (λ r. not (has_storage K r)) (ready K)
 
+-- the file to collect, by the mode, the least free one and whether storage is lacking
 abbrev pub wanted_by : Mode → Option ℕ → Bool → Option ℕ
 wanted_by modes.Never free lacks = None
 wanted_by modes.RefCount free lacks = free
@@ -117,39 +132,51 @@ wanted_by modes.OnDemand free lacks = if lacks then free else None
 abbrev pub wants : Known → Option ℕ
 wants K = wanted_by K.options.mode (first_free K) (lacks_storage K)
 
+-- n places are left in the log
 abbrev pub leaves_places : Known → ℕ → Bool
 leaves_places K n = nat_le (K.records + length (running K) + 1 + n) most_records
 
+-- the run has ended, or a rule has failed
 abbrev pub is_over : Known → Bool
 is_over K = K.ended || list_any (is_lost_rule K) (rules_of K)
 
+-- rule r runs on link k
 abbrev pub is_on : Known → ℕ → ℕ → Bool
 is_on K k r = option_map_or (λ place. place.1.0 == k) (K.places r) false
 
+-- the load of rule r
 abbrev pub known_load : Known → ℕ → Load
 known_load K r = record { needs = needs_of K.plan r; bytes = input_sum K r }
 
+-- the loads on link k
 abbrev pub known_loads : Known → ℕ → List Load
 known_loads K k = map (known_load K) (filter (is_on K k) (running K))
 
+-- rule r fits link k
 abbrev pub fits_link : Known → ℕ → ℕ → Bool
 fits_link K k r = option_map_or (λ row. has_room k row (known_loads K k) (known_load K r)) (K.rows k) false
 
+-- the inputs of rule r are more than one job may have
 abbrev pub passes_most : Known → ℕ → Bool
 passes_most K r = nat_lt most_input_bytes (input_sum K r)
 
+-- the ready rules that may run on link k
 abbrev pub ready_for : Known → ℕ → List ℕ
 ready_for K k = filter (λ r. may_run_on K.plan K.options r k) (ready K)
 
+-- those of them that fit the link
 abbrev pub fitting_for : Known → ℕ → List ℕ
 fitting_for K k = filter (fits_link K k) (ready_for K k)
 
+-- those of these that fit the storage
 abbrev pub startable_for : Known → ℕ → List ℕ
 startable_for K k = filter (has_storage K) (fitting_for K k)
 
+-- the refusal of rule r for want of storage
 abbrev pub short_of_storage : Known → ℕ → Nothing
 short_of_storage K r = nothing.NoStorage (rule_no r) (rule_bound K.plan r) (stored_sum K) (reserved_sum K) (unwrap_or K.limit 0)
 
+-- why a claim for link k takes no rule, where this file is wanted
 abbrev pub refuses_claim : Known → Option ℕ → Option Stop → ℕ → Option Nothing
 refuses_claim K file stop k = first_of (
     where_so (is_some stop || is_over K) nothing.Stopping
@@ -169,15 +196,19 @@ claim_with K file stop k = option_map_or Err (refuses_claim K file stop k) (unwr
 abbrev pub claim_in : Known → Option Stop → ℕ → Result ℕ Nothing
 claim_in K stop k = claim_with K (wants K) stop k
 
+-- the answer by the last failure of rule r
 abbrev pub known_failure : Known → ℕ → Option Check
 known_failure K r = option_map_or (λ why. Some (check.CommandFailed (rule_no r) why)) (K.whys r) None
 
+-- the answer by the count of the records
 abbrev pub full_log : Known → Check
 full_log K = check.LogFull K.records
 
+-- how many files are collected
 abbrev pub collected_in : Known → ℕ
 collected_in K = count_by (λ f. is_collected_state (K.files f)) (file_numbers K.plan)
 
+-- the answer by rule r for want of room
 abbrev pub short_of_room : Known → ℕ → Check
 short_of_room K r = check.NoRoom (rule_no r) (rule_bound K.plan r) (stored_sum K) (unwrap_or K.limit 0)
 

@@ -35,9 +35,11 @@ pub record TableState : Type 0 where
 abbrev pub blank_row : RuleRow
 blank_row = record { place = None; done = false; failures = 0; why = None }
 
+-- the row of rule r
 abbrev pub row_at : TableState → ℕ → RuleRow
 row_at t r = slice_index_or t.rules r blank_row
 
+-- the state of file f
 abbrev pub file_at : TableState → ℕ → FileState
 file_at t f = slice_index_or t.files f file.Absent
 
@@ -49,9 +51,11 @@ state_of retries row = if row.done then rule.Complete else unfinished_state row.
 abbrev pub entry_row : LinkEntry → LinkRow
 entry_row entry = record { total = entry.total; largest = entry.largest; cache = Some entry.cache }
 
+-- the entry is that of link k
 abbrev pub is_entry : ℕ → LinkEntry → Bool
 is_entry k entry = entry.link.0 == k
 
+-- what link k states, where it lives
 abbrev pub link_at : TableState → ℕ → Option LinkRow
 link_at t k = if k == 0 then Some (local_row t.options) else option_map_or (λ entry. Some (entry_row entry)) (find (is_entry k) t.links) None
 
