@@ -24,3 +24,6 @@ pub use order::compared;
 pub use parts::{char_at, char_count, end_in, indexed};
 pub use size::{Size, size_of};
 pub use slices::sliced;
+
+#[cfg(test)]
+mod tests;
