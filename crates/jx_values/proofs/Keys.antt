@@ -1,10 +1,9 @@
 -- The first pair of a key.
-use Rattle.std.proofs.Common.{◌≡◌, ℕ, zero, suc, ◌+◌, ◌<◌, ◌≤◌, Bool, true, false, ◌&&◌, nat_le, List, [], ◌∷◌, ◌++◌, length, get_or, set, take, drop, map, Result, Ok, Err, refl, sym, ap, subst, ◌∙◌, arith, append_assoc}
+use Rattle.std.proofs.Common.{◌≡◌, ℕ, zero, suc, ◌+◌, ◌<◌, ◌≤◌, Bool, true, false, List, [], ◌∷◌, ◌++◌, length, get_or, set, take, drop, map, Ok, Err, refl, sym, ap, subst, ◌∙◌, arith, append_assoc}
 use Rattle.std.specs.Str.{bytes_eq}
 use Rattle.std.proofs.lemmas.List.{map-append, drop_more, take_more, take_all, drop_all}
 use Rattle.jx_syntax.specs.declared.value.JxValue.{JxValue}
 use Rattle.jx_syntax.specs.declared.value.JxPair.{JxPair}
-use Rattle.jx_meaning.specs.declared.fault.EvalFault.{EvalFault}
 use Rattle.jx_meaning.specs.declared.fault.EvalFault.TheVariants.{TooMuch}
 use Rattle.jx_meaning.specs.Values.{Value, Entry, object, pairs, plain, depth, count, may_be}
 use Rattle.jx_meaning.specs.Lists.{put, put_if, with_key}

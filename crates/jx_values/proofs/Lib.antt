@@ -9,3 +9,4 @@ pub mod Sums
 pub mod Places
 pub mod Cuts
 pub mod Keys
+pub mod Joining

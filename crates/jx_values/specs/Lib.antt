@@ -2,3 +2,4 @@ pub mod Kinds
 pub mod Sizes
 pub mod Found
 pub mod Ends
+pub mod Pieces

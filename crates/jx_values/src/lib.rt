@@ -4,6 +4,7 @@
 mod copy;
 mod equality;
 mod fields;
+mod joins;
 mod kinds;
 mod limits;
 mod numbers;
@@ -16,6 +17,7 @@ mod slices;
 pub use copy::copied;
 pub use equality::{are_equal, find};
 pub use fields::Fields;
+pub use joins::join;
 pub use kinds::{entries_in, is_null, items_in, number_in, text_in, truth_in};
 pub use limits::{Items, MOST_BYTES, MOST_ITEMS, may_be_list, text_value};
 pub use numbers::{arithmetic, signed};

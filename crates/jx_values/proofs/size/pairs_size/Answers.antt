@@ -1,4 +1,4 @@
-use Rattle.std.proofs.Common.{◌≡◌, List, map, take, ◌∙◌, ap}
+use Rattle.std.proofs.Common.{List, map, ◌∙◌, ap}
 use Rattle.std.proofs.lemmas.List.{take_all}
 use Rattle.jx_syntax.specs.declared.value.JxPair.{JxPair}
 use Rattle.jx_meaning.specs.Values.{pairs}

@@ -1,4 +1,4 @@
-use Rattle.std.proofs.Common.{◌≡◌, ◌∙◌, sym, ap, map, List}
+use Rattle.std.proofs.Common.{◌∙◌, sym, ap, map, List}
 use Rattle.jx_syntax.specs.declared.value.JxPair.{JxPair}
 use Rattle.jx_meaning.specs.Values.{pairs}
 use Rattle.jx_values.specs.Kinds.{plain_pair}

@@ -1,5 +1,4 @@
-use Rattle.std.proofs.Common.{◌≡◌, List, refl, sym}
-use Rattle.jx_syntax.specs.declared.value.JxPair.{JxPair}
+use Rattle.std.proofs.Common.{◌≡◌, refl, sym}
 use Rattle.jx_values.proofs.fields.Fields.replace.Goals as goal
 
 pub returns : goal.returns

@@ -1,0 +1,83 @@
+//! Texts with others between them.
+ghost use Rattle.std.specs.Prelude.{◌≡◌, true, map, string_bytes, IfOk, is_some};
+ghost use Rattle.jx_meaning.specs.Answers.{Gives};
+ghost use Rattle.jx_meaning.specs.Values.{plain};
+ghost use Rattle.jx_meaning.specs.Texts.{texts_of, join_texts};
+ghost use Rattle.jx_values.specs.Pieces.{piece, AddsPiece};
+
+use crate::kinds::text_in;
+use crate::limits::{MOST_BYTES, text_value};
+use flow_types::Text;
+use jx_meaning::EvalFault;
+use jx_syntax::JxValue;
+use std::alloc::{AllocError, Global};
+
+/// Whether all items are texts.
+fn are_texts(items: &[JxValue]) -> bool
+    ensures { result ≡ is_some (texts_of (map plain items.now)) }
+{
+    for item in items {
+        match text_in(item) {
+            Some(_text) => {}
+            None => return false,
+        }
+    }
+    true
+}
+
+/// Puts a text at the end, behind a separator where it isn't the first, unless that is too long.
+fn add_piece(out: &mut String, first: bool, separator: &str, text: &str) -> Result<bool, AllocError>
+    ensures { IfOk result (λ b. AddsPiece (string_bytes out.old)
+        (piece first separator.now text.now) b (string_bytes out.new)) }
+{
+    let gap = if first { "" } else { separator };
+    let len = out.len().saturating_add(gap.len());
+    if len.saturating_add(text.len()) > MOST_BYTES {
+        return Ok(false);
+    }
+    out.push_str(gap)?;
+    out.push_str(text)?;
+    Ok(true)
+}
+
+fn texts_joined(
+    alloc: Global,
+    place: usize,
+    items: &[JxValue],
+    separator: &str,
+) -> Result<JxValue, EvalFault>
+    requires { is_some (texts_of (map plain items.now)) ≡ true }
+    ensures { Gives plain result
+        (join_texts place separator.now (texts_of (map plain items.now))) }
+{
+    let mut out = String::new(alloc);
+    let mut first = true;
+    for item in items {
+        match text_in(item) {
+            Some(text) => {
+                if !add_piece(&mut out, first, separator, text)? {
+                    return Err(EvalFault::TooMuch(place));
+                }
+                first = false;
+            }
+            None => return Err(EvalFault::WrongKind(place)),
+        }
+    }
+    text_value(place, Text::from_string(out))
+}
+
+/// The texts of a list, with this text between them.
+pub fn join(
+    alloc: Global,
+    place: usize,
+    items: &[JxValue],
+    separator: &str,
+) -> Result<JxValue, EvalFault>
+    ensures { Gives plain result
+        (join_texts place separator.now (texts_of (map plain items.now))) }
+{
+    if !are_texts(items) {
+        return Err(EvalFault::WrongKind(place));
+    }
+    texts_joined(alloc, place, items, separator)
+}
