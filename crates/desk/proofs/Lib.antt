@@ -9,3 +9,5 @@ pub mod Fields
 pub mod Counting
 pub mod Quiets
 pub mod Damage
+pub mod Growing
+pub mod Images
