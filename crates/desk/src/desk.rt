@@ -173,6 +173,7 @@ impl<F: Commands, S: Site, T: Terms> Desk<F, S, T> {
     /// A crash at any moment since the start left the records that stood then and some that came after.
     pub fn works(&self) -> bool
         ensures fine { result ≡ true → IsFine self.now.trouble }
+        ensures broken { IsFine self.now.trouble → result ≡ true }
         ensures kept { S.tells → T.kept → (image : Files) → S.images_since self.now.site T.born image
             → WasKept (Fits T.trust F.gives T.sources) self.now.plan self.now.log self.now.base
             (records_of self.now.moves) (IsCut self.now.trouble) image }
