@@ -46,6 +46,10 @@ fn runner_of(alloc: Global) -> Result<TableRunner<Blank>, Fail> {
         "echo x y > out",
         Outcome::Success(one_output(alloc, b"x y\n")?),
     )?;
+    runner.put(
+        "cat b/c > out",
+        Outcome::Success(one_output(alloc, b"abc")?),
+    )?;
     runner.put("cp a b", Outcome::Success(one_output(alloc, b"A")?))?;
     runner.put("cp b c", Outcome::Success(one_output(alloc, b"B")?))?;
     runner.put("exit 3", Outcome::Failed(Failure::Status(3)))?;
@@ -64,6 +68,21 @@ fn pairs_of(alloc: Global, pairs: &[(&str, &str)]) -> Result<Vec<(String, String
     Ok(list)
 }
 
+// What a call over these files ends with.
+fn run_on(
+    alloc: Global,
+    words: &[&str],
+    env: &[(&str, &str)],
+    files: &[(&str, &[u8])],
+    runner: &mut TableRunner<Blank>,
+    out: &mut MemSink,
+) -> Result<Ended<MemSite>, Fail> {
+    let words = words_of(alloc, words)?;
+    let env = pairs_of(alloc, env)?;
+    let site = site_of(alloc, files)?;
+    Ok(makeflow_top(alloc, words.as_slice(), env.as_slice(), site, runner, out))
+}
+
 // What a call over these files ends with, and what it prints.
 fn run(
     alloc: Global,
@@ -71,18 +90,9 @@ fn run(
     env: &[(&str, &str)],
     files: &[(&str, &[u8])],
 ) -> Result<(Ended<MemSite>, MemSink), Fail> {
-    let words = words_of(alloc, words)?;
-    let env = pairs_of(alloc, env)?;
     let mut runner = runner_of(alloc)?;
     let mut out = MemSink::new(alloc);
-    let ended = makeflow_top(
-        alloc,
-        words.as_slice(),
-        env.as_slice(),
-        site_of(alloc, files)?,
-        &mut runner,
-        &mut out,
-    );
+    let ended = run_on(alloc, words, env, files, &mut runner, &mut out)?;
     Ok((ended, out))
 }
 
@@ -114,13 +124,7 @@ fn one_rule_makes_its_file(rt: HostRuntime) -> Result<(), Fail> {
 
 #[test]
 fn what_is_refused_is_named_and_writes_nothing(rt: HostRuntime) -> Result<(), Fail> {
-    let cases: [(&[u8], u8, &[u8]); 20] = [
-        (b"out: in\n\texit 3\n", 1, b"rule 0 failed: status 3"),
-        (
-            b"out: in\n\ttrue\n",
-            1,
-            b"rule 0 failed: output out missing",
-        ),
+    let cases: [(&[u8], u8, &[u8]); 18] = [
         (b"out: gone\n\tcat in > out\n", 4, b"source gone missing"),
         (b"out: \xff\n\tcat in > out\n", 3, b"flow: not UTF-8 at 5"),
         (b"A='x\n", 3, b"flow: line 1: open quote"),
@@ -185,12 +189,45 @@ fn what_is_refused_is_named_and_writes_nothing(rt: HostRuntime) -> Result<(), Fa
 }
 
 #[test]
+fn a_failed_rule_is_named_and_writes_nothing(rt: HostRuntime) -> Result<(), Fail> {
+    let alloc = rt.alloc();
+    let cases: [(&[u8], &[u8]); 3] = [
+        (
+            b"out: in\n\texit 3\n",
+            b"makeflow: rule 0 failed: status 3\n",
+        ),
+        (
+            b"out: in\n\ttrue\n",
+            b"makeflow: rule 0 failed: output out missing\n",
+        ),
+        (
+            b".SIZE out 3\nout: in\n\tcat in > out\n",
+            b"makeflow: rule 0 failed: output out too long, 4 bytes\n",
+        ),
+    ];
+    for (flow, line) in cases.iter() {
+        let files: [(&str, &[u8]); 2] = [("flow", flow), ("in", b"abcd")];
+        let mut runner = runner_of(alloc)?;
+        let too_long = Failure::TooLong { index: 0, size: 4 };
+        runner.put("cat in > out", Outcome::Failed(too_long))?;
+        let mut out = MemSink::new(alloc);
+        let words = ["makeflow", "flow"];
+        let ended = run_on(alloc, &words, &[], &files, &mut runner, &mut out)?;
+        assert_eq!(rt; out.bytes(), *line);
+        assert_eq!(rt; ended.status, 1);
+        assert_eq!(rt; ended.site.get(b"out"), None);
+        assert_eq!(rt; ended.site.get(b"in"), Some(b"abcd".as_slice()));
+    }
+    Ok(())
+}
+
+#[test]
 fn flows_that_run_make_their_files(rt: HostRuntime) -> Result<(), Fail> {
     let alloc = rt.alloc();
     let complete: &[u8] = COMPLETE;
     let two: &[u8] = b"makeflow: complete, 2 rules, 0 files collected\n";
     let none: &[u8] = b"makeflow: complete, 0 rules, 0 files collected\n";
-    let cases: [(&[u8], &[u8], &[u8], &[u8]); 9] = [
+    let cases: [(&[u8], &[u8], &[u8], &[u8]); 10] = [
         (b"", none, b"flow", b""),
         (b"out: in\n\tcat in > out", complete, b"out", b"abc"),
         (b"out:\n\techo $(X) > out\n", complete, b"out", b"hi\n"),
@@ -220,9 +257,15 @@ fn flows_that_run_make_their_files(rt: HostRuntime) -> Result<(), Fail> {
             b"out",
             b"abc",
         ),
+        (b"out: ./b//c\n\tcat b/c > out\n", complete, b"out", b"abc"),
     ];
     for (flow, line, name, content) in cases.iter() {
-        let files: [(&str, &[u8]); 3] = [("flow", flow), ("in", b"abc"), ("a", b"A")];
+        let files: [(&str, &[u8]); 4] = [
+            ("flow", flow),
+            ("in", b"abc"),
+            ("a", b"A"),
+            ("b/c", b"abc"),
+        ];
         let (ended, out) = run(alloc, &["makeflow", "flow"], &[("X", "hi")], &files)?;
         assert_eq!(rt; out.bytes(), *line);
         assert_eq!(rt; ended.status, 0);
@@ -289,5 +332,47 @@ fn each_call_of_the_site_may_fail(rt: HostRuntime) -> Result<(), Fail> {
         assert_eq!(rt; out.bytes(), b"makeflow: folder fault\n".as_slice());
         assert_eq!(rt; ended.site.get(b"in"), Some(b"abc".as_slice()));
     }
+    Ok(())
+}
+
+// What a call ends with where the first job or the first line is to fail, and what it prints.
+fn run_failing(
+    alloc: Global,
+    flow: &str,
+    job_fails: bool,
+    line_fails: bool,
+) -> Result<(Ended<MemSite>, MemSink), Fail> {
+    let files: [(&str, &[u8]); 2] = [("flow", FLOW), ("in", b"abc")];
+    let mut runner = runner_of(alloc)?;
+    if job_fails {
+        runner.fail_at(0)?;
+    }
+    let mut out = MemSink::new(alloc);
+    if line_fails {
+        out.fail_at(0)?;
+    }
+    let words = ["makeflow", flow];
+    let ended = run_on(alloc, &words, &[], &files, &mut runner, &mut out)?;
+    Ok((ended, out))
+}
+
+#[test]
+fn a_runner_and_a_sink_may_fail(rt: HostRuntime) -> Result<(), Fail> {
+    let alloc = rt.alloc();
+    let made: &[u8] = b"abc";
+
+    let (ended, out) = run_failing(alloc, "flow", true, false)?;
+    assert_eq!(rt; ended.status, 5);
+    assert_eq!(rt; out.bytes(), b"makeflow: runner fault\n".as_slice());
+    assert_eq!(rt; ended.site.get(b"out"), None);
+
+    let (ended, out) = run_failing(alloc, "flow", false, true)?;
+    assert_eq!(rt; ended.status, 5);
+    assert_eq!(rt; out.bytes(), b"".as_slice());
+    assert_eq!(rt; ended.site.get(b"out"), Some(made));
+
+    let (ended, out) = run_failing(alloc, "absent", false, true)?;
+    assert_eq!(rt; ended.status, 3);
+    assert_eq!(rt; out.bytes(), b"".as_slice());
     Ok(())
 }
