@@ -35,7 +35,7 @@ pub use node::{Condition, Field, Form, Item, Loop, Node};
 pub use operator::{Operator, Sign};
 pub use parser::parse;
 pub use value::{JxPair, JxValue};
-pub use write::value_text;
+pub use write::{value_text, write_char};
 
 #[cfg(test)]
 mod tests;

@@ -22,8 +22,8 @@ fn hex_digit(d: u32) -> char
     }
 }
 
-/// A character of a text in quotes.
-fn write_char(out: &mut String, c: char) -> Result<(), AllocError>
+/// Writes a character of a text in quotes: as it is, or its escape.
+pub fn write_char(out: &mut String, c: char) -> Result<(), AllocError>
     ensures { OnOk result (string_bytes out.new ≡ string_bytes out.old ++ char_text c) }
 {
     match c {

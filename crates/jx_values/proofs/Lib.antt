@@ -10,3 +10,7 @@ pub mod Places
 pub mod Cuts
 pub mod Keys
 pub mod Joining
+pub mod Drafting
+pub mod Showing
+pub mod Calls
+pub mod Marks

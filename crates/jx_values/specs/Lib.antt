@@ -3,3 +3,4 @@ pub mod Sizes
 pub mod Found
 pub mod Ends
 pub mod Pieces
+pub mod Drafts

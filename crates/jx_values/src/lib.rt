@@ -2,24 +2,32 @@
 #![tactic(auto)]
 
 mod copy;
+mod draft;
 mod equality;
 mod fields;
+mod formats;
 mod joins;
 mod kinds;
 mod limits;
+mod measures;
+mod names;
 mod numbers;
 mod operators;
 mod order;
 mod parts;
+mod shown;
 mod size;
 mod slices;
 
 pub use copy::copied;
 pub use equality::{are_equal, find};
 pub use fields::Fields;
+pub use formats::format_of;
 pub use joins::join;
 pub use kinds::{entries_in, is_null, items_in, number_in, text_in, truth_in};
 pub use limits::{Items, MOST_BYTES, MOST_ITEMS, may_be_list, text_value};
+pub use measures::len_of;
+pub use names::Names;
 pub use numbers::{arithmetic, signed};
 pub use operators::{added, operated};
 pub use order::compared;

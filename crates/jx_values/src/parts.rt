@@ -48,7 +48,8 @@ pub fn end_in(len: usize, end: i64) -> usize
 
 /// The number of characters.
 pub fn char_count(text: &str) -> usize
-    ensures { result ≡ length (chars text.now) }
+    ensures value { result ≡ length (chars text.now) }
+    ensures within { result ≤ length text.now }
 {
     let mut count = 0;
     for _c in text.chars() {
