@@ -1,16 +1,20 @@
 -- Functions of values by the kinds of their arguments.
-use Rattle.std.proofs.Common.{◌≡◌, ℕ, List, [], ◌∷◌, length, map, Option, Some, None, Ok, Err, refl, sym, ap, ◌∙◌, option_map}
+use Rattle.std.proofs.Common.{◌≡◌, ℕ, List, [], ◌∷◌, ◌++◌, length, map, Option, Some, None, Ok, Err, refl, sym, ap, ◌∙◌, option_map}
 use Rattle.std.specs.Prelude.{ℤ, pos}
 use Rattle.std.specs.Str.{chars}
 use Rattle.std.proofs.lemmas.List.{length-map}
 use Rattle.jx_syntax.specs.declared.value.JxValue.{JxValue}
 use Rattle.jx_syntax.specs.declared.value.JxValue.TheVariants as value
 use Rattle.jx_meaning.specs.declared.fault.EvalFault.TheVariants.{WrongKind, ArgCount}
-use Rattle.jx_meaning.specs.Values.{Value, null, truth, number, text, list, object, plain}
+use Rattle.jx_meaning.specs.Values.{Value, Entry, null, truth, number, text, list, object, entries, plain, find}
 use Rattle.jx_meaning.specs.Numbers.{Answer}
-use Rattle.jx_meaning.specs.Operations.{len_of}
-use Rattle.jx_values.specs.Kinds.{number_in, text_in, items_in}
+use Rattle.jx_meaning.specs.Texts.{made, filled, outside}
+use Rattle.jx_meaning.specs.Operations.{len_of, or_other, template_of}
+use Rattle.jx_values.specs.Kinds.{number_in, text_in, items_in, entries_in}
 use Rattle.jx_values.proofs.Plain.{plain-number}
+use Rattle.jx_values.proofs.Signs.{or_wrong}
+use Rattle.jx_values.proofs.Finding.{find-append}
+use mathlib.Core.Path.{fun_ext}
 
 -- ---- `len`
 
@@ -35,4 +39,33 @@ pub text_len : (at : ℕ) (v : Value) (t : List ℕ) (z : ℤ) → items_in v �
 text_len at v t z h k e =
     len-views at v ∙ ap (λ (o : Option (List Value)). measured at o (text_in v)) h ∙ ap (measured at None) k ∙ ap (λ (n : ℤ). Ok (number n)) (sym e) ∙ ap Ok (sym (plain-number z))
 
-pub ruleset calls = (len-views, plain-number)
+-- ---- `template`
+
+pub template-one : (at : ℕ) (s : List Entry) (v : Value) → template_of at s (v ∷ []) ≡ or_wrong at (text_in v) (λ t. made at (filled at (λ x. find x s) outside t))
+template-one at s null = refl
+template-one at s (truth t) = refl
+template-one at s (number z) = refl
+template-one at s (text t) = refl
+template-one at s (list vs) = refl
+template-one at s (object ps) = refl
+
+keys_first : (at : ℕ) (s : List Entry) (t : List ℕ) (es : List Entry) → made at (filled at (λ x. or_other (find x es) (find x s)) outside t) ≡ made at (filled at (λ x. find x (es ++ s)) outside t)
+keys_first at s t es = ap (λ (look : List ℕ → Option Value). made at (filled at look outside t)) (fun_ext (λ x. sym (find-append x es s)))
+
+with_text : (at : ℕ) (s : List Entry) (t : List ℕ) (w : Value) → template_of at s (text t ∷ w ∷ []) ≡ or_wrong at (entries_in w) (λ es. made at (filled at (λ x. find x (es ++ s)) outside t))
+with_text at s t null = refl
+with_text at s t (truth b) = refl
+with_text at s t (number z) = refl
+with_text at s t (text u) = refl
+with_text at s t (list vs) = refl
+with_text at s t (object ps) = keys_first at s t (entries ps)
+
+pub template-two : (at : ℕ) (s : List Entry) (v w : Value) → template_of at s (v ∷ w ∷ []) ≡ or_wrong at (text_in v) (λ t. or_wrong at (entries_in w) (λ es. made at (filled at (λ x. find x (es ++ s)) outside t)))
+template-two at s null w = refl
+template-two at s (truth t) w = refl
+template-two at s (number z) w = refl
+template-two at s (text t) w = with_text at s t w
+template-two at s (list vs) w = refl
+template-two at s (object ps) w = refl
+
+pub ruleset calls = (len-views, plain-number, template-one, template-two)

@@ -14,3 +14,5 @@ pub mod Drafting
 pub mod Showing
 pub mod Calls
 pub mod Marks
+pub mod Finding
+pub mod Filling

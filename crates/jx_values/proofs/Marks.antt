@@ -101,11 +101,11 @@ pub at_end : (at : ℕ) (vs : List Value) → formatted false at [] vs ≡ all_u
 unfolding formatted
 at_end at vs = refl
 
-before_nil : (p : Piece) → before [] p ≡ p
+pub before_nil : (p : Piece) → before [] p ≡ p
 before_nil (Ok bs) = refl
 before_nil (Err e) = refl
 
-before_twice : (xs ys : List ℕ) (p : Piece) → before xs (before ys p) ≡ before (xs ++ ys) p
+pub before_twice : (xs ys : List ℕ) (p : Piece) → before xs (before ys p) ≡ before (xs ++ ys) p
 before_twice xs ys (Ok bs) = ap (λ (l : List ℕ). Ok l) (sym (append_assoc xs ys bs))
 before_twice xs ys (Err e) = refl
 

@@ -4,3 +4,4 @@ pub mod Found
 pub mod Ends
 pub mod Pieces
 pub mod Drafts
+pub mod Spots

@@ -15,9 +15,11 @@ mod numbers;
 mod operators;
 mod order;
 mod parts;
+mod ranges;
 mod shown;
 mod size;
 mod slices;
+mod templates;
 
 pub use copy::copied;
 pub use equality::{are_equal, find};

@@ -1,12 +1,14 @@
 //! Names that have values.
-ghost use Rattle.std.specs.Prelude.{◌≡◌, List, ℕ, option_map, option_copied};
+ghost use Rattle.std.specs.Prelude.{◌≡◌, ◌++◌, List, ℕ, map, option_map, option_copied};
 ghost use Rattle.jx_meaning.specs.Values.{Entry, plain, find};
 ghost use Rattle.jx_meaning.specs.Scopes.{names_of};
+ghost use Rattle.jx_values.specs.Kinds.{plain_pair};
 
+use crate::equality::find;
 use jx_meaning::JxScope;
-use jx_syntax::JxValue;
+use jx_syntax::{JxPair, JxValue};
 
-/// Names that have values: those of a scope, or of the place of an expression within its loops.
+/// Names that have values: those of a scope, or those that an expression sees within its loops.
 pub trait Names {
     /// The names with their values.
     ghost names: { Self → List Entry };
@@ -21,5 +23,26 @@ impl Names for JxScope {
 
     fn value(&self, name: &str) -> Option<&JxValue> {
         self.get(name)
+    }
+}
+
+/// The keys of an object before other names.
+#[derive(Drop)]
+pub struct KeysBefore<'a, N> {
+    /// The keys with their values.
+    pub pairs: &'a [JxPair],
+    /// The other names.
+    pub names: &'a N,
+}
+
+#[tactic(auto, using(crate::proofs::Finding::findings))]
+impl<'a, N: Names> Names for KeysBefore<'a, N> {
+    ghost names = { λ k. map plain_pair k.pairs.now ++ N.names k.names.now };
+
+    fn value(&self, name: &str) -> Option<&JxValue> {
+        match find(self.pairs, name) {
+            Some(value) => Some(value),
+            None => self.names.value(name),
+        }
     }
 }
