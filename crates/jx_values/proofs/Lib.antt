@@ -16,3 +16,4 @@ pub mod Calls
 pub mod Marks
 pub mod Finding
 pub mod Filling
+pub mod Ranging

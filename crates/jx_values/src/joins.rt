@@ -1,11 +1,12 @@
 //! Texts with others between them.
-ghost use Rattle.std.specs.Prelude.{◌≡◌, true, map, string_bytes, IfOk, is_some};
+ghost use Rattle.std.specs.Prelude.{◌≡◌, true, [], ◌∷◌, map, string_bytes, IfOk, is_some};
 ghost use Rattle.jx_meaning.specs.Answers.{Gives};
 ghost use Rattle.jx_meaning.specs.Values.{plain};
 ghost use Rattle.jx_meaning.specs.Texts.{texts_of, join_texts};
+ghost use Rattle.jx_meaning.specs.Operations.{join_of};
 ghost use Rattle.jx_values.specs.Pieces.{piece, AddsPiece};
 
-use crate::kinds::text_in;
+use crate::kinds::{items_in, text_in};
 use crate::limits::{MOST_BYTES, text_value};
 use flow_types::Text;
 use jx_meaning::EvalFault;
@@ -80,4 +81,46 @@ pub fn join(
         return Err(EvalFault::WrongKind(place));
     }
     texts_joined(alloc, place, items, separator)
+}
+
+/// The texts of a list, with a blank between them.
+#[tactic(auto, using(crate::proofs::Calls::calls))]
+fn join_by_blank(alloc: Global, place: usize, list: &JxValue) -> Result<JxValue, EvalFault>
+    ensures { Gives plain result (join_of place (plain list.now ∷ [])) }
+{
+    match items_in(list) {
+        Some(items) => join(alloc, place, items, " "),
+        None => Err(EvalFault::WrongKind(place)),
+    }
+}
+
+/// The texts of a list, with another text between them.
+#[tactic(auto, using(crate::proofs::Calls::calls))]
+fn join_by(
+    alloc: Global,
+    place: usize,
+    list: &JxValue,
+    separator: &JxValue,
+) -> Result<JxValue, EvalFault>
+    ensures { Gives plain result (join_of place (plain list.now ∷ plain separator.now ∷ [])) }
+{
+    match items_in(list) {
+        Some(items) => match text_in(separator) {
+            Some(text) => join(alloc, place, items, text),
+            None => Err(EvalFault::WrongKind(place)),
+        },
+        None => Err(EvalFault::WrongKind(place)),
+    }
+}
+
+/// `join` of these arguments. It takes time and memory by the length of its text.
+#[tactic(auto, using(crate::proofs::Calls::calls))]
+pub fn join_of(alloc: Global, place: usize, given: &[&JxValue]) -> Result<JxValue, EvalFault>
+    ensures { Gives plain result (join_of place (map (λ v. plain v.now) given.now)) }
+{
+    match given {
+        [list] => join_by_blank(alloc, place, list),
+        [list, separator] => join_by(alloc, place, list, separator),
+        _ => Err(EvalFault::ArgCount(place)),
+    }
 }
