@@ -1,11 +1,11 @@
 -- Functions of values by the kinds of their arguments.
-use Rattle.std.proofs.Common.{◌≡◌, ℕ, List, [], ◌∷◌, ◌++◌, length, map, Option, Some, None, Ok, Err, refl, sym, ap, ◌∙◌, option_map}
+use Rattle.std.proofs.Common.{◌≡◌, ℕ, List, [], ◌∷◌, ◌++◌, length, map, Option, Some, None, Ok, Err, refl, sym, ap, ◌∙◌}
 use Rattle.std.specs.Prelude.{ℤ, pos}
 use Rattle.std.specs.Str.{chars}
 use Rattle.std.proofs.lemmas.List.{length-map}
 use Rattle.jx_syntax.specs.declared.value.JxValue.{JxValue}
 use Rattle.jx_syntax.specs.declared.value.JxValue.TheVariants as value
-use Rattle.jx_meaning.specs.declared.fault.EvalFault.TheVariants.{WrongKind, ArgCount}
+use Rattle.jx_meaning.specs.declared.fault.EvalFault.TheVariants.{WrongKind}
 use Rattle.jx_meaning.specs.Values.{Value, Values, Entry, items, null, truth, number, text, list, object, entries, plain, find}
 use Rattle.jx_meaning.specs.Numbers.{Answer, ranged}
 use Rattle.jx_meaning.specs.Texts.{texts_of, join_texts, made, filled, outside}

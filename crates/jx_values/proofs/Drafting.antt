@@ -1,11 +1,10 @@
 -- Texts that are being written.
-use Rattle.std.proofs.Common.{◌≡◌, ℕ, ◌+◌, ◌≤◌, ◌<◌, Bool, true, false, nat_le, nat_lt, List, [], ◌∷◌, ◌++◌, length, get_or, drop, Option, Some, None, Result, Ok, Err, refl, sym, ap, ◌∙◌, arith, append_assoc}
+use Rattle.std.proofs.Common.{◌≡◌, ℕ, ◌+◌, ◌≤◌, ◌<◌, Bool, true, false, nat_lt, List, [], ◌∷◌, ◌++◌, length, get_or, drop, Option, Some, None, Ok, Err, refl, sym, ap, ◌∙◌, arith, append_assoc}
 use Rattle.std.specs.Prelude.{if◌then◌else◌}
-use Rattle.std.proofs.lemmas.Bool.{lt-leb, le-leb, leb-false, lt-ltb, le-ltb, ltb-true, ltb-false}
+use Rattle.std.proofs.lemmas.Bool.{lt-leb, le-leb, leb-false, ltb-true, ltb-false}
 use Rattle.std.proofs.lemmas.List.{length-append, append-nil, drop_more, drop_all}
 use Rattle.std.specs.List.{flat_map}
 use Rattle.jx_meaning.specs.Values.{text, may_be}
-use Rattle.jx_meaning.specs.Numbers.{Answer}
 use Rattle.jx_meaning.specs.Lists.{limited}
 use Rattle.jx_meaning.specs.Texts.{Piece, before, made}
 use Rattle.jx_values.specs.Drafts.{extended, text_or_much, finished}

@@ -1,6 +1,5 @@
 -- Templates.
-use Rattle.std.proofs.Common.{◌≡◌, ℕ, zero, suc, ◌+◌, ◌<◌, ◌≤◌, ◌==◌, Bool, true, false, List, [], ◌∷◌, ◌++◌, length, get_or, drop, map, Option, Some, None, Ok, Err, refl, sym, subst, ap, ◌∙◌, arith, append_assoc}
-use Rattle.std.specs.Prelude.{if◌then◌else◌}
+use Rattle.std.proofs.Common.{◌≡◌, ℕ, ◌+◌, ◌<◌, ◌≤◌, ◌==◌, Bool, true, false, List, [], ◌∷◌, ◌++◌, length, get_or, drop, Option, Some, None, Ok, Err, refl, sym, subst, ap, ◌∙◌, arith, append_assoc}
 use Rattle.std.specs.Char.{encode_utf8}
 use Rattle.std.proofs.lemmas.Bool.{ne_eqb}
 use Rattle.std.proofs.lemmas.List.{append-nil, drop_more, drop_all}
@@ -11,7 +10,7 @@ use Rattle.jx_meaning.specs.declared.fault.EvalFault.TheVariants.{UnknownName, B
 use Rattle.jx_meaning.specs.Values.{Value}
 use Rattle.jx_meaning.specs.Answers.{Fails}
 use Rattle.jx_meaning.specs.Numbers.{Answer}
-use Rattle.jx_meaning.specs.Texts.{Piece, Spot, outside, opened, naming, closed, Brace, opening, closing, other, brace_of, before, behind, shown, named, filled, made}
+use Rattle.jx_meaning.specs.Texts.{Piece, Spot, outside, opened, naming, closed, before, behind, shown, named, filled, made}
 use Rattle.jx_values.specs.declared.templates.Spot as declared
 use Rattle.jx_values.specs.declared.templates.Spot.TheVariants as here
 use Rattle.jx_values.specs.Spots.{spot_of}

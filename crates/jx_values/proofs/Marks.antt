@@ -1,5 +1,5 @@
 -- Marks of formats.
-use Rattle.std.proofs.Common.{◌≡◌, ℕ, zero, suc, ◌+◌, ◌<◌, ◌≤◌, ◌==◌, Bool, true, false, List, [], ◌∷◌, ◌++◌, length, get_or, drop, map, Bor, subst, Option, Some, None, Ok, Err, refl, sym, ap, ◌∙◌, arith, append_assoc}
+use Rattle.std.proofs.Common.{◌≡◌, ℕ, suc, ◌+◌, ◌<◌, ◌≤◌, ◌==◌, Bool, true, false, List, [], ◌∷◌, ◌++◌, length, get_or, drop, map, Bor, subst, Option, Some, None, Ok, Err, refl, sym, ap, ◌∙◌, arith, append_assoc}
 use Rattle.std.specs.Prelude.{ℤ, if◌then◌else◌}
 use Rattle.std.specs.Fmt.{signed_decimal}
 use Rattle.std.proofs.lemmas.List.{append-nil, drop_more, drop_all, drop-drop}
@@ -11,7 +11,7 @@ use Rattle.jx_syntax.specs.declared.value.JxValue.{JxValue}
 use Rattle.jx_meaning.specs.declared.fault.EvalFault.{EvalFault}
 use Rattle.jx_meaning.specs.declared.fault.EvalFault.TheVariants.{WrongKind, ArgCount, BadMark}
 use Rattle.jx_meaning.specs.Values.{Value, null, truth, number, text, list, object, plain}
-use Rattle.jx_meaning.specs.Texts.{Piece, Mark, percent, decimal, any, mark_of, before, behind, number_text, marked, shown, all_used, formatted, made}
+use Rattle.jx_meaning.specs.Texts.{Piece, Mark, decimal, any, mark_of, before, behind, number_text, marked, shown, all_used, formatted, made}
 use Rattle.jx_meaning.specs.Answers.{Fails}
 use Rattle.jx_meaning.specs.Numbers.{Answer}
 use Rattle.jx_values.specs.Kinds.{number_in}

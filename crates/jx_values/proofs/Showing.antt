@@ -7,7 +7,7 @@ use Rattle.jx_syntax.specs.declared.value.JxValue.{JxValue}
 use Rattle.jx_syntax.specs.declared.value.JxPair.{JxPair}
 use Rattle.jx_syntax.specs.declared.value.JxValue.TheVariants as value
 use Rattle.jx_syntax.specs.Written.{quoted}
-use Rattle.jx_meaning.specs.Values.{Value, Values, Pairs, Entry, null, truth, number, text, list, object, item, pair, no_values, no_pairs, values, pairs, plain}
+use Rattle.jx_meaning.specs.Values.{Value, Values, Pairs, null, truth, number, text, list, object, item, pair, no_values, no_pairs, values, pairs, plain}
 use Rattle.jx_meaning.specs.Texts.{comma, written, written_items, written_pairs, shown}
 use Rattle.jx_values.specs.Kinds.{plain_pair, text_in}
 use Rattle.jx_values.specs.Drafts.{extended}

@@ -1,5 +1,5 @@
 -- Texts that are being written, within the limit of a text.
-use Rattle.std.specs.Prelude.{◌≡◌, ℕ, List, [], ◌++◌, Option, Some, None, Result, Ok, Err, if◌then◌else◌}
+use Rattle.std.specs.Prelude.{◌≡◌, ℕ, List, ◌++◌, Option, Some, None, Result, Ok, Err, if◌then◌else◌}
 use Rattle.jx_meaning.specs.declared.fault.EvalFault.{EvalFault}
 use Rattle.jx_meaning.specs.declared.fault.EvalFault.TheVariants.{TooMuch}
 use Rattle.jx_meaning.specs.Answers.{Fails}

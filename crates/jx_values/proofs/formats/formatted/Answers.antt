@@ -1,4 +1,4 @@
-use Rattle.std.proofs.Common.{◌≡◌, ℕ, List, false, [], Ok, drop, length, sym, ap, subst, ◌∙◌, arith, Result, Bor}
+use Rattle.std.proofs.Common.{List, drop, length, ap, subst, arith, Result, Bor}
 use Rattle.std.proofs.lemmas.Iterator.{YieldsList-from_chars}
 use Rattle.std.proofs.lemmas.List.{length_push, length-drop}
 use Rattle.std.proofs.lemmas.Iterator.Consumers.{YieldsList-turn, YieldsList-end}

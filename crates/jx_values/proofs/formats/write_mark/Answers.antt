@@ -1,6 +1,4 @@
-use Rattle.std.proofs.Common.{◌≡◌, List, ℕ, ap, ◌∙◌, rules}
-use Rattle.jx_meaning.specs.Texts.{formatted}
-use Rattle.jx_values.specs.Drafts.{finished}
+use Rattle.std.proofs.Common.{rules}
 use Rattle.jx_values.proofs.Marks.{percent_mark, bad_mark, worths}
 use Rattle.jx_values.proofs.formats.write_mark.Goals as goal
 

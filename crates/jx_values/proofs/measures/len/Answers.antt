@@ -1,7 +1,5 @@
-use Rattle.std.proofs.Common.{◌≡◌, ◌<◌, ◌^◌, ℕ, List, map, Option, option_map, option_copied, length, sym, ap, ◌∙◌, rules, arith, to_z, w64, pos, Ok, FitsSigned}
-use Rattle.std.specs.Str.{chars}
-use Rattle.jx_syntax.specs.declared.value.JxValue.{JxValue}
-use Rattle.jx_meaning.specs.Values.{plain, text}
+use Rattle.std.proofs.Common.{◌≡◌, ◌<◌, ◌^◌, map, option_map, option_copied, length, sym, ap, ◌∙◌, rules, arith, to_z, w64, pos}
+use Rattle.jx_meaning.specs.Values.{plain}
 use Rattle.jx_values.proofs.Calls.{list_len, text_len}
 use Rattle.jx_values.proofs.measures.len.Goals as goal
 

@@ -1,10 +1,10 @@
-use Rattle.std.proofs.Common.{◌≡◌, ℕ, Bool, true, false, List, [], ◌∷◌, ◌++◌, map, Option, OnOk, sym, ap, subst, ◌∙◌, rules, to_z, of_z, w64}
+use Rattle.std.proofs.Common.{◌≡◌, ℕ, true, false, List, [], ◌∷◌, ◌++◌, map, Option, OnOk, sym, ap, subst, ◌∙◌, rules, to_z, of_z, w64}
 use Rattle.std.specs.Fmt.{signed_decimal}
 use Rattle.jx_syntax.specs.declared.value.JxValue.{JxValue}
 use Rattle.jx_syntax.specs.declared.value.JxPair.{JxPair}
 use Rattle.jx_syntax.specs.Written.{quoted}
 use Rattle.jx_meaning.specs.Values.{plain, values, pairs}
-use Rattle.jx_meaning.specs.Texts.{written, written_items, written_pairs}
+use Rattle.jx_meaning.specs.Texts.{written_items, written_pairs}
 use Rattle.jx_values.specs.Kinds.{plain_pair}
 use Rattle.jx_values.specs.Drafts.{extended}
 use Rattle.jx_values.proofs.Drafting.{twice}

@@ -1,4 +1,4 @@
-use Rattle.std.proofs.Common.{◌≡◌, ℕ, List, Option, length, string_bytes, sym, ap, subst, ◌∙◌, arith, Result}
+use Rattle.std.proofs.Common.{ℕ, List, Option, length, string_bytes, ap, subst, arith, Result}
 use Rattle.std.proofs.lemmas.Iterator.{YieldsList-from_chars}
 use Rattle.std.proofs.lemmas.List.{length_push}
 use Rattle.std.proofs.lemmas.Iterator.Consumers.{YieldsList-turn, YieldsList-end}
@@ -6,7 +6,6 @@ use Rattle.std.specs.Str.{chars}
 use Rattle.jx_meaning.specs.declared.fault.EvalFault.{EvalFault}
 use Rattle.jx_meaning.specs.Answers.{Gives}
 use Rattle.jx_meaning.specs.Values.{Value, plain, find}
-use Rattle.jx_meaning.specs.Texts as of
 use Rattle.jx_values.specs.declared.templates.Spot.{Spot}
 use Rattle.jx_values.specs.Spots.{spot_of}
 use Rattle.jx_values.proofs.Filling.{all_to_come, char_read, char_fails, ends_well, ends_within, elsewhere}

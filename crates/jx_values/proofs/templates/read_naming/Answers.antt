@@ -1,4 +1,4 @@
-use Rattle.std.proofs.Common.{◌≡◌, List, ℕ, Option, string_bytes, sym, ap, subst, ◌∙◌, rules}
+use Rattle.std.proofs.Common.{List, ℕ, Option, string_bytes, subst, ◌∙◌, rules}
 use Rattle.jx_meaning.specs.Numbers.{Answer}
 use Rattle.jx_meaning.specs.Answers.{Fails}
 use Rattle.jx_meaning.specs.Values.{Value, find}

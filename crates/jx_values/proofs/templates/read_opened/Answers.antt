@@ -1,4 +1,4 @@
-use Rattle.std.proofs.Common.{◌≡◌, List, ℕ, Option, ◌++◌, string_bytes, sym, ap, subst, ◌∙◌, rules}
+use Rattle.std.proofs.Common.{List, ℕ, Option, ◌++◌, string_bytes, ap, subst, ◌∙◌, rules}
 use Rattle.std.specs.Char.{encode_utf8}
 use Rattle.jx_meaning.specs.Numbers.{Answer}
 use Rattle.jx_meaning.specs.Answers.{Fails}
