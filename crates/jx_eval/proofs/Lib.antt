@@ -1,0 +1,5 @@
+pub mod Behind
+pub mod Names
+pub mod Steps
+pub mod Loops
+pub mod Trees
