@@ -7,8 +7,9 @@ use Rattle.std.proofs.lemmas.Slice.Eq.{bytes_eq-Decides}
 use Rattle.std.proofs.lemmas.List.Quantifiers.{position-Some}
 use Rattle.jx_syntax.specs.declared.value.JxValue.{JxValue}
 use Rattle.jx_meaning.specs.declared.scope.Binding.{Binding}
-use Rattle.jx_meaning.specs.Values.{Value, plain, or_else}
-use Rattle.jx_meaning.specs.Scopes.{named}
+use Rattle.jx_meaning.specs.Values.{Value, Entry, plain, or_else}
+use Rattle.jx_meaning.specs.Lists.{put, put_if}
+use Rattle.jx_meaning.specs.Scopes.{named, entry_of, names_of}
 
 pub found : (bs : List Binding) (i : ℕ) (x : List ℕ) (d : Binding) → i < length bs → bytes_eq (get_or bs i d).name x ≡ true
     → ((k : ℕ) → k < i → bytes_eq (get_or bs k d).name x ≡ false) → named bs x ≡ Some (plain (get_or bs i d).value)
@@ -96,6 +97,40 @@ pub value_added : (bs new : List Binding) (x y : List ℕ) (b : Binding) → pos
 value_added bs new x y b place is becomes =
     let gone : position (λ (c : Binding). bytes_eq c.name b.name) bs ≡ None = ap (λ (z : List ℕ). position (λ (c : Binding). bytes_eq c.name z) bs) is ∙ place in
     ap (λ (l : List Binding). named l x) becomes ∙ added bs b x b (absent bs b.name b gone) ∙ ap (λ (z : List ℕ). or_else (bytes_eq z x) (plain b.value) (named bs x)) is
+
+-- ---- the names in order
+
+names_set : (bs : List Binding) (i : ℕ) (y : List ℕ) (b : Binding) (v : JxValue) → i < length bs → b ≡ get_or bs i b → bytes_eq b.name y ≡ true
+    → ((k : ℕ) → k < i → bytes_eq (get_or bs k b).name y ≡ false) → names_of (set bs i (record b { value = v })) ≡ put y (plain v) (names_of bs)
+names_set [] i y b v lt is own below = absurd (omega arith)
+names_set (a ∷ bs) zero y b v lt is own below =
+    let t : bytes_eq a.name y ≡ true = ap (λ (c : Binding). bytes_eq c.name y) (sym is) ∙ own in
+    ap (λ (c : Binding). (c.name, plain v) ∷ names_of bs) is ∙ sym (ap (λ (t : Bool). put_if t (plain v) (entry_of a) (names_of bs) (put y (plain v) (names_of bs))) t)
+names_set (a ∷ bs) (suc i) y b v lt is own below =
+    let f : bytes_eq a.name y ≡ false = below 0 (omega arith) in
+    ap (λ (es : List Entry). entry_of a ∷ es) (names_set bs i y b v (omega arith) is own (λ k l. below (suc k) (omega arith)))
+    ∙ sym (ap (λ (t : Bool). put_if t (plain v) (entry_of a) (names_of bs) (put y (plain v) (names_of bs))) f)
+
+names_added : (bs : List Binding) (b : Binding) (d : Binding) → ((k : ℕ) → k < length bs → bytes_eq (get_or bs k d).name b.name ≡ false)
+    → names_of (bs ++ b ∷ []) ≡ put b.name (plain b.value) (names_of bs)
+names_added [] b d below = refl
+names_added (a ∷ bs) b d below =
+    let f : bytes_eq a.name b.name ≡ false = below 0 (omega arith) in
+    ap (λ (es : List Entry). entry_of a ∷ es) (names_added bs b d (λ k l. below (suc k) (omega arith)))
+    ∙ sym (ap (λ (t : Bool). put_if t (plain b.value) (entry_of a) (names_of bs) (put b.name (plain b.value) (names_of bs))) f)
+
+pub names_replaced : (bs new : List Binding) (i : ℕ) (y : List ℕ) (b : Binding) (v : JxValue) → position (λ (b : Binding). bytes_eq b.name y) bs ≡ Some i → b ≡ get_or bs i b
+    → new ≡ set bs i (record b { value = v }) → names_of new ≡ put y (plain v) (names_of bs)
+names_replaced bs new i y b v place is becomes =
+    let h = position-Some (λ (b : Binding). bytes_eq b.name y) bs i b place in
+    let own : bytes_eq b.name y ≡ true = ap (λ (b : Binding). bytes_eq b.name y) is ∙ h.1 in
+    ap (λ (l : List Binding). names_of l) becomes ∙ names_set bs i y b v h.0 is own h.2
+
+pub names_grown : (bs new : List Binding) (y : List ℕ) (b : Binding) → position (λ (b : Binding). bytes_eq b.name y) bs ≡ None → b.name ≡ y
+    → new ≡ bs ++ b ∷ [] → names_of new ≡ put y (plain b.value) (names_of bs)
+names_grown bs new y b place is becomes =
+    let gone : position (λ (c : Binding). bytes_eq c.name b.name) bs ≡ None = ap (λ (z : List ℕ). position (λ (c : Binding). bytes_eq c.name z) bs) is ∙ place in
+    ap (λ (l : List Binding). names_of l) becomes ∙ names_added bs b b (absent bs b.name b gone) ∙ ap (λ (z : List ℕ). put z (plain b.value) (names_of bs)) is
 
 pub on_ok : {A E : Type 0} (r : Result A E) (P Q : Type 0) → (P → Q) → OnOk r P → OnOk r Q
 on_ok (Ok a) P Q f p = f p

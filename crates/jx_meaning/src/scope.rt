@@ -3,7 +3,8 @@ ghost use Rattle.std.specs.Prelude.{◌≡◌, [], ◌∷◌, ◌++◌, List, �
 ghost use Rattle.std.specs.Prelude.{position, ◌<◌, length, IfSome};
 ghost use Rattle.std.specs.Str.{bytes_eq};
 ghost use Rattle.jx_meaning.specs.Values.{plain, or_else};
-ghost use Rattle.jx_meaning.specs.Scopes.{named, ReplacesValue};
+ghost use Rattle.jx_meaning.specs.Lists.{put};
+ghost use Rattle.jx_meaning.specs.Scopes.{named, names_of, ReplacesValue};
 
 use flow_types::{Memory, Text};
 use jx_syntax::JxValue;
@@ -81,6 +82,8 @@ impl JxScope {
     pub fn set(&mut self, name: &str, value: JxValue) -> Result<(), Memory>
         ensures named { OnOk result ((x : List ℕ) → named self.new x
             ≡ or_else (bytes_eq name.now x) (plain value) (named self.old x)) }
+        ensures names { OnOk result (names_of self.new
+            ≡ put name.now (plain value) (names_of self.old)) }
         ensures unchanged { OnErr result (self.new ≡ self.old) }
     {
         match place_of(self.bindings.as_slice(), name) {
