@@ -1,11 +1,11 @@
 //! The evaluator.
-ghost use Rattle.std.specs.Prelude.{◌≡◌, ◌<◌, ◌≤◌, ◌+◌, List, ℕ, vec_len, IfOk};
-ghost use Rattle.jx_syntax.specs.Tree.{Tree, expression_of};
+ghost use Rattle.std.specs.Prelude.{◌≡◌, ◌<◌, ◌≤◌, ◌+◌, List, ℕ, length, vec_len, IfOk};
+ghost use Rattle.jx_syntax.specs.Tree.{Tree, node_at, expression_of};
 ghost use Rattle.jx_meaning.specs.Answers.{Gives};
 ghost use Rattle.jx_meaning.specs.Values.{plain};
 ghost use Rattle.jx_meaning.specs.Scopes.{names_of};
 ghost use Rattle.jx_meaning.specs.Meaning.{evaluate, value_of};
-ghost use Rattle.jx_eval.specs.Machine.{Keeps, weight, handed};
+ghost use Rattle.jx_eval.specs.Machine.{Keeps, weight, handed, trees};
 
 use crate::frame::Frame;
 use crate::operand::Operand;
@@ -50,19 +50,21 @@ impl<'a> State<'a> {
     }
 }
 
-/// The value of an expression and the number of nodes begun by then, of which so many were begun
-/// before, or the first fault. A node too many is a fault: no more than 10,000,000 are begun.
+/// The value of a node of an expression and the number of nodes begun by then, of which so many
+/// were begun before, or the first fault. A node too many is a fault: no more than 10,000,000 are begun.
 ///
 /// It walks once, by a stack on the heap, so a long or deep expression takes no call depth. A value
 /// of the scope isn't copied to be looked at.
 pub fn eval_counted(
     alloc: Global,
     expr: &Expr,
+    node: usize,
     scope: &JxScope,
     begun: u32,
 ) -> Result<(JxValue, u32), EvalFault>
+    requires { node < length expr.now }
     ensures { Gives (λ r. (plain r.0, r.1)) result
-        (evaluate (expression_of expr.now) (names_of scope.now) begun) }
+        (evaluate (node_at (trees expr.now) node) (names_of scope.now) begun) }
 {
     let nodes = expr.nodes();
     let mut state = State {
@@ -71,7 +73,7 @@ pub fn eval_counted(
         local: Vec::new(alloc),
         count: begun,
     };
-    let mut step = Step::Begin(nodes.len() - 1);
+    let mut step = Step::Begin(node);
     'steps: loop {
         step = match step {
             Step::Begin(index) => state.begin(nodes, scope, index)?,
@@ -90,6 +92,6 @@ pub fn eval_counted(
 pub fn eval(alloc: Global, expr: &Expr, scope: &JxScope) -> Result<JxValue, EvalFault>
     ensures { Gives plain result (value_of (names_of scope.now) (expression_of expr.now)) }
 {
-    let (value, _count) = eval_counted(alloc, expr, scope, 0)?;
+    let (value, _count) = eval_counted(alloc, expr, expr.nodes().len() - 1, scope, 0)?;
     Ok(value)
 }

@@ -2,7 +2,7 @@ use Rattle.std.proofs.Common.{◌≡◌, [], List, Ok, refl, sym, ap, subst, ◌
 use Rattle.std.proofs.lemmas.Result.{err_from_is_err_and}
 use Rattle.std.proofs.lemmas.List.{nil_from_length}
 use Rattle.jx_syntax.specs.declared.node.Node.{Node}
-use Rattle.jx_syntax.specs.Tree.{Tree, expression_of}
+use Rattle.jx_syntax.specs.Tree.{Tree, node_at}
 use Rattle.jx_meaning.specs.Answers.{Fails}
 use Rattle.jx_meaning.specs.Meaning.{Scope, Outcome, evaluate}
 use Rattle.jx_meaning.specs.Scopes.{names_of}
@@ -35,7 +35,7 @@ returns-in_err-step-in-Some c =
     let e = c.in_err-step-in-Some.field-0.0 in
     let so_far = rw c.in-Value.is at c.steps.invariant in
     let same = sym (taken ts s st.local.items c.pop.new.self.items st.frames.items c.in-Some.frame c.in-Value.operand st.count c.in-Some.ensures.items) ∙ so_far
-    ∙ ap (λ (ns : List Node). evaluate (expression_of ns) s c.args.begun) c.nodes-nodes.ensures.nodes in
+    ∙ ap (λ (ns : List Node). evaluate (node_at (trees ns) c.args.node) s c.args.begun) c.nodes-nodes.ensures.nodes in
     rw (p.1, p.2) (subst (λ (o : Outcome Value). Fails e o) same (c.in_err-step-in-Some.ensures.kept ts))
 
 pub returns-in-None : goal.returns-in-None
@@ -47,6 +47,6 @@ returns-in-None c =
     let so_far = rw c.in-Value.is at c.steps.invariant in
     let none : st.frames.items ≡ [] = nil_from_length st.frames.items (omega (arith, c.in-None.ensures.len, c.in-None.ensures.cases.0, st.frames.ok.0)) in
     let own : plain c.in_ok-value-in-None.value ≡ plain c.in-Value.operand = ap plain c.in_ok-value-in-None.ensures in
-    ap (λ (ns : List Node). evaluate (expression_of ns) s c.args.begun) (sym c.nodes-nodes.ensures.nodes) ∙ sym so_far
+    ap (λ (ns : List Node). evaluate (node_at (trees ns) c.args.node) s c.args.begun) (sym c.nodes-nodes.ensures.nodes) ∙ sym so_far
     ∙ ap (λ (fs : List Frame). unwound ts s st.local.items (reverse fs) (Ok (plain c.in-Value.operand, st.count))) none
     ∙ ap (λ (v : Value). Ok (v, st.count)) (sym own)
