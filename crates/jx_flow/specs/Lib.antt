@@ -1,0 +1,6 @@
+pub mod Answers
+pub mod Reading
+pub mod Files
+pub mod Amounts
+pub mod Variables
+pub mod Rules
