@@ -4,3 +4,5 @@ pub mod Files
 pub mod Amounts
 pub mod Variables
 pub mod Rules
+pub mod Flow
+pub mod Nodes

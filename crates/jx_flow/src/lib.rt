@@ -4,8 +4,13 @@
 mod amounts;
 mod fault;
 mod files;
+mod flow;
+mod general;
+mod literals;
 mod reading;
 mod rules;
+mod scopes;
 mod variables;
 
 pub use fault::JxFlowFault;
+pub use flow::read_jx;

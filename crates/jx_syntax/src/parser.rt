@@ -126,6 +126,8 @@ pub fn parse(alloc: Global, text: &[u8]) -> Result<Expr, JxFault>
     // A text that is no expression is refused for that reason, unless memory runs out.
     ensures refused { (e : JxFault) → IsNoExpression text.now e
         → Gives expression_of result (Err e) }
+    // Either is what reading the tokens one by one comes to.
+    ensures read { IsExpression result (parsed (length text.now) (scan_of text.now)) }
 {
     parsed(alloc, text)
 }
