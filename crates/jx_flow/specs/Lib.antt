@@ -6,3 +6,4 @@ pub mod Variables
 pub mod Rules
 pub mod Flow
 pub mod Nodes
+pub mod Laws

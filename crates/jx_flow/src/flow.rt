@@ -1,5 +1,6 @@
 //! The flow of a text.
 ghost use Rattle.std.specs.Prelude.{◌≡◌, length, Err, IfOk};
+ghost use Rattle.flow_types.specs.Flows.{FitsLimits};
 ghost use Rattle.jx_tokens.specs.declared.fault.JxFault.{JxFault};
 ghost use Rattle.jx_syntax.specs.Grammar.{Derivation, IsWritten, IsNoExpression};
 ghost use Rattle.jx_syntax.specs.Tree.{tree_of, expression_of};
@@ -83,6 +84,7 @@ fn flow_of(alloc: Global, expr: &Expr) -> Result<RawFlow, JxFlowFault>
 /// `environment`, `categories`, `default_category`, and then the rules by their index.
 pub fn read_jx(alloc: Global, text: &[u8]) -> Result<RawFlow, JxFlowFault>
     ensures flow { Gives (λ flow. flow) result (flow_of_text text.now) }
+    ensures limits { IfOk result FitsLimits }
     // A text that is an expression gives that expression's flow or its first fault.
     ensures written { (d : Derivation) → IsWritten text.now d
         → Gives (λ flow. flow) result (flow_of (tree_of d)) }

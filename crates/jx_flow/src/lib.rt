@@ -6,6 +6,7 @@ mod fault;
 mod files;
 mod flow;
 mod general;
+mod laws;
 mod literals;
 mod reading;
 mod rules;
@@ -14,3 +15,4 @@ mod variables;
 
 pub use fault::JxFlowFault;
 pub use flow::read_jx;
+pub use laws::flows_fit_their_limits;

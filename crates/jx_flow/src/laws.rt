@@ -1,0 +1,8 @@
+//! What holds of every flow that a text says, as contracts of empty functions.
+ghost use Rattle.jx_flow.specs.Laws.{FlowsFitTheirLimits};
+
+/// A flow that a JX text says keeps the limits of commands, environments, amounts and stated
+/// bounds.
+pub fn flows_fit_their_limits()
+    ensures { FlowsFitTheirLimits }
+{}
