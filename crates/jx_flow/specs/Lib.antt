@@ -7,3 +7,4 @@ pub mod Rules
 pub mod Flow
 pub mod Nodes
 pub mod Laws
+pub mod Examples

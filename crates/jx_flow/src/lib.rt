@@ -2,6 +2,7 @@
 #![tactic(auto)]
 
 mod amounts;
+mod examples;
 mod fault;
 mod files;
 mod flow;
@@ -13,6 +14,10 @@ mod rules;
 mod scopes;
 mod variables;
 
+pub use examples::worked_flows;
 pub use fault::JxFlowFault;
 pub use flow::read_jx;
 pub use laws::flows_fit_their_limits;
+
+#[cfg(test)]
+mod tests;
