@@ -1,5 +1,5 @@
 -- A flow that a text says keeps its limits.
-use Rattle.std.proofs.Common.{◌≡◌, ℕ, suc, codes, Bool, true, false, cond, ◌&&◌, nat_lt, nat_le, List, [], ◌∷◌, ◌++◌, map, flat_map, length, Option, Some, None, unwrap_or, Result, Ok, Err, IfOk, IsTrue, All, refl, ap, subst, arith}
+use Rattle.std.proofs.Common.{◌≡◌, ℕ, suc, codes, Bool, true, false, cond, nat_lt, nat_le, List, [], ◌∷◌, length, Option, Some, None, unwrap_or, Result, Ok, Err, IfOk, IsTrue, All, refl, subst, arith}
 use Rattle.std.specs.Prelude.{ℤ, pos, negsuc, option_and_then}
 use Rattle.std.specs.Str.{bytes_eq}
 use Rattle.std.proofs.lemmas.Bool.{ltb-false, le-leb}
@@ -7,7 +7,6 @@ use Rattle.std.proofs.lemmas.List.Elements.{All-nil, All-cons, All-append, All-m
 use Rattle.flow_types.specs.declared.flow.RawFlow.{RawFlow}
 use Rattle.flow_types.specs.declared.flow.RawRule.{RawRule}
 use Rattle.flow_types.specs.declared.flow.SizeBound.{SizeBound}
-use Rattle.flow_types.specs.declared.flow.RawFile.{RawFile}
 use Rattle.flow_types.specs.declared.flow.Pair.{Pair}
 use Rattle.flow_types.specs.declared.numbers.Needs.TheVariants.{Stated}
 use Rattle.flow_types.specs.Plans.{most_bytes, most_command_bytes, env_bytes, fits_amounts}
@@ -20,7 +19,6 @@ use Rattle.jx_syntax.specs.Tree.{Tree, Fields, tree_of}
 use Rattle.jx_meaning.specs.Values.{Value, Entry, find}
 use Rattle.jx_meaning.specs.Meaning.{Scope}
 use Rattle.jx_values.specs.Kinds.{number_in, entries_in}
-use Rattle.jx_flow.specs.declared.fault.JxFlowFault.{JxFlowFault}
 use Rattle.jx_flow.specs.declared.fault.JxFlowFault.TheVariants.{TooLarge, UnknownCategory}
 use Rattle.jx_flow.specs.declared.files.Output.{Output}
 use Rattle.jx_flow.specs.declared.amounts.Resources.{Resources}
@@ -30,11 +28,11 @@ use Rattle.jx_flow.specs.declared.rules.Setting.{Setting}
 use Rattle.jx_flow.specs.declared.rules.General.{General}
 use Rattle.jx_flow.specs.declared.rules.Made.{Made}
 use Rattle.jx_flow.specs.Answers.{Gives}
-use Rattle.jx_flow.specs.Reading.{Found, and_then, held, optional, required, each, each_at, next_index, up_to, number_of, optional_number, optional_text, required_text, items_of, entries_of}
+use Rattle.jx_flow.specs.Reading.{Found, and_then, held, optional, required, each, each_at, next_index, up_to, number_of, optional_text, required_text, items_of, entries_of}
 use Rattle.jx_flow.specs.Files.{file_of, bound_by, output_of, outputs_of, inputs_of, bound_line, bounds_in}
-use Rattle.jx_flow.specs.Amounts.{unstated, amount_of, amounts_in, resources_by, resources_of, or_general, over, needs_by, needs_of, category_of, categories_by, listed, known, general_of}
+use Rattle.jx_flow.specs.Amounts.{unstated, amount_of, amounts_in, resources_by, resources_of, or_general, over, needs_by, category_of, categories_by, listed, known, general_of}
 use Rattle.jx_flow.specs.Variables.{variables_by, overlaid, fitting, environment_of}
-use Rattle.jx_flow.specs.Rules.{short, command_of, local_of, action_of, setting_of, made_of, rule_of, rules_in, bounds_of}
+use Rattle.jx_flow.specs.Rules.{short, command_of, local_of, action_of, setting_of, rule_of, bounds_of}
 use Rattle.jx_flow.specs.Flow.{literal, field_of, worth_of, defined_by, items_by, default_by, general_by, kept_by, flow_within, flow_of_fields, flow_of, flow_if, flow_of_text, flow_by}
 use Rattle.jx_flow.specs.Laws.{FlowsFitTheirLimits}
 

@@ -1,7 +1,6 @@
 -- Worked expressions, with the flow or the fault that each gives.
 use Rattle.std.specs.Prelude.{◌≡◌, ℕ, true, List, [], ◌∷◌, codes, None, Some, Ok, Err, pos}
-use Rattle.flow_types.specs.declared.numbers.Needs.TheVariants.{Whole, Stated}
-use Rattle.flow_types.specs.declared.flow.RawFlow.{RawFlow}
+use Rattle.flow_types.specs.declared.numbers.Needs.TheVariants.{Stated}
 use Rattle.jx_syntax.specs.declared.operator.Operator.TheVariants.{Add, Divide}
 use Rattle.jx_syntax.specs.Tree.{Tree, Entries, Fields, null, truth, number, text, name, list, object, operation, no_entries, entry, no_loops, no_fields, field}
 use Rattle.jx_meaning.specs.declared.fault.EvalFault.TheVariants.{UnknownName, ZeroDivisor}

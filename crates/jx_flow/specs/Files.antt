@@ -6,7 +6,7 @@ use Rattle.jx_meaning.specs.Values.{Value, Entry, find}
 use Rattle.jx_values.specs.Kinds.{text_in, entries_in}
 use Rattle.jx_flow.specs.declared.fault.JxFlowFault.TheVariants.{FieldKind}
 use Rattle.jx_flow.specs.declared.files.Output.{Output}
-use Rattle.jx_flow.specs.Reading.{Found, and_then, optional, required, each, items_of, optional_text, required_text, optional_number}
+use Rattle.jx_flow.specs.Reading.{Found, and_then, required, each, items_of, optional_text, required_text, optional_number}
 
 -- a file of an object: its name, and perhaps the one that the command uses
 abbrev pub named_file : Option ℕ → List Entry → Found RawFile

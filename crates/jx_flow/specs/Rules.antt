@@ -1,19 +1,15 @@
 -- The rules of a text.
-use Rattle.std.specs.Prelude.{ℕ, Bool, true, false, List, [], ◌∷◌, Option, Some, None, Ok, Err, unwrap_or, map, flat_map, length, nat_lt, codes, if◌then◌else◌}
-use Rattle.flow_types.specs.declared.flow.RawFile.{RawFile}
+use Rattle.std.specs.Prelude.{ℕ, Bool, false, List, Option, Some, Ok, Err, unwrap_or, map, flat_map, length, nat_lt, codes, if◌then◌else◌}
 use Rattle.flow_types.specs.declared.flow.RawRule.{RawRule}
 use Rattle.flow_types.specs.declared.flow.SizeBound.{SizeBound}
-use Rattle.flow_types.specs.declared.flow.Pair.{Pair}
-use Rattle.flow_types.specs.declared.numbers.Needs.{Needs}
 use Rattle.flow_types.specs.Plans.{most_command_bytes}
 use Rattle.jx_meaning.specs.Values.{Value, Entry, find}
 use Rattle.jx_flow.specs.declared.fault.JxFlowFault.TheVariants.{TooLarge}
-use Rattle.jx_flow.specs.declared.files.Output.{Output}
 use Rattle.jx_flow.specs.declared.rules.Action.{Action}
 use Rattle.jx_flow.specs.declared.rules.Setting.{Setting}
 use Rattle.jx_flow.specs.declared.rules.General.{General}
 use Rattle.jx_flow.specs.declared.rules.Made.{Made}
-use Rattle.jx_flow.specs.Reading.{Found, and_then, optional, each_at, truth_of, entries_of, optional_text, required_text}
+use Rattle.jx_flow.specs.Reading.{Found, and_then, optional, truth_of, entries_of, optional_text, required_text}
 use Rattle.jx_flow.specs.Files.{outputs_of, inputs_of, files_in, bounds_in}
 use Rattle.jx_flow.specs.Amounts.{resources_of, over, needs_of, general_of}
 use Rattle.jx_flow.specs.Variables.{environment_of}
