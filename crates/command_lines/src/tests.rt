@@ -306,7 +306,7 @@ fn command_lines_of_makeflow(rt: HostRuntime) -> Result<(), Fail> {
                 SERVICE,
                 LIMITS,
                 LOCAL,
-                "never run; jx flow.jx; flow.jx.makeflowlog; unbuilt",
+                "never run; jx flow.jx; flow.jx.makeflowlog; built",
             ],
         ),
         (

@@ -6,13 +6,13 @@ use Rattle.std.specs.Str.{bytes_eq}
 use Rattle.std.proofs.lemmas.Bool.{or_parts}
 use Rattle.clap.specs.Walk.{Row, Text, first_of}
 use Rattle.flow_types.specs.Names.{name_of}
-use Rattle.command_words.specs.Unbuilt.{IsBuilt, IsMakeFile, asks_collection, asks_generated, asks_jx, asks_log, asks_unbuilt, asks_workers}
+use Rattle.command_words.specs.Unbuilt.{IsBuilt, IsFile, asks_collection, asks_generated, asks_log, asks_unbuilt, asks_workers}
 use Rattle.command_words.specs.Choices.{flow_from, flow_in, language_in, limits_in, mode_in, mode_named, service_in, transport_in, transport_named, work_in}
 use Rattle.command_words.specs.Numbers.{number_in}
 use Rattle.command_words.specs.Values.{flag, has_value, is_given, number, optional_number}
 use Rattle.command_words.specs.declared.options.Flow.{Flow}
 use Rattle.command_words.specs.declared.options.Flow.TheVariants.{File}
-use Rattle.command_words.specs.declared.options.Language.TheVariants.{Make}
+use Rattle.command_words.specs.declared.options.Language.{Language}
 use Rattle.command_words.specs.declared.options.Limits.{Limits}
 use Rattle.command_words.specs.declared.options.Options.{Options}
 use Rattle.command_words.specs.declared.options.Mode.{Mode}
@@ -105,21 +105,21 @@ work-run rows w e no_clean no_print = by_flags (flag rows (codes "c")) (flag row
     by_flags false true e no_clean no_print = absurd cc
     by_flags false false e no_clean no_print = cc
 
-of_file : (file : Option Text) (flow : Flow) → flow_from file None Make ≡ Some flow → IsMakeFile flow
-of_file None flow e = absurd cc
-of_file (Some text) flow e = by_name (name_of text) e
+of_file : (file : Option Text) (language : Language) (flow : Flow) → flow_from file None language ≡ Some flow → IsFile flow
+of_file None language flow e = absurd cc
+of_file (Some text) language flow e = by_name (name_of text) e
   where
-    by_name : (name : Option (List ℕ)) → option_map (λ name. File name Make) name ≡ Some flow → IsMakeFile flow
+    by_name : (name : Option (List ℕ)) → option_map (λ name. File name language) name ≡ Some flow → IsFile flow
     by_name None e = absurd cc
-    by_name (Some name) e = let is : File name Make ≡ flow = cc in subst IsMakeFile is tt
+    by_name (Some name) e = let is : File name language ≡ flow = cc in subst IsFile is tt
 
-pub flow-file : (rows : List Row) (flow : Flow) → flow_in rows ≡ Some flow → asks_jx rows ≡ false → asks_generated rows ≡ false → IsMakeFile flow
-unfolding flow_in asks_jx asks_generated language_in
-flow-file rows flow e no_jx no_generated =
-    chosen IsMakeFile (optional_number rows (codes "generate") 1 5000) _ flow
+pub flow-file : (rows : List Row) (flow : Flow) → flow_in rows ≡ Some flow → asks_generated rows ≡ false → IsFile flow
+unfolding flow_in asks_generated
+flow-file rows flow e no_generated =
+    chosen IsFile (optional_number rows (codes "generate") 1 5000) _ flow
     (λ n is rest.
     let none = optional-none rows (codes "generate") 1 5000 n is no_generated in
-    of_file (first_of (codes "file") rows) flow (rw none at (rw no_jx at rest))) e
+    of_file (first_of (codes "file") rows) (language_in rows) flow (rw none at rest)) e
 
 -- options by which none is given that isn't built are of what is built
 pub options-built : (rows : List Row) (o : Options) → service_in rows ≡ Some o.service → limits_in rows ≡ Some o.limits → mode_in rows ≡ Some o.mode
@@ -129,14 +129,13 @@ options-built rows o service limits mode work flow none =
     let workers = or_parts _ _ none in
     let generated = or_parts _ _ workers.0 in
     let collection = or_parts _ _ generated.0 in
-    let jx_or_log = or_parts _ _ collection.0 in
-    let print = or_parts _ _ jx_or_log.1 in
+    let print = or_parts _ _ collection.0 in
     let clean = or_parts _ _ print.0 in
     let retries = or_parts _ _ clean.0 in
     let storage = or_parts _ _ collection.1 in
     let modes = or_parts _ _ storage.0 in
     record {
-      flow = flow-file rows o.flow flow jx_or_log.0 generated.1;
+      flow = flow-file rows o.flow flow generated.1;
       work = work-run rows o.work work clean.1 print.1;
       retries = limits-retries rows o.limits limits retries.0;
       mode = mode-never rows o.mode mode modes.0 modes.1;

@@ -63,7 +63,8 @@ UnbuiltCommandLines =
     × (unbuilt (codes "-g" ∷ codes "none" ∷ codes "-T" ∷ codes "local" ∷ codes "flow" ∷ []) ≡ Some false)
     × (unbuilt (codes "-r" ∷ codes "0" ∷ codes "flow" ∷ []) ≡ Some true)
     × (unbuilt (codes "-g" ∷ codes "on_demand" ∷ codes "flow" ∷ []) ≡ Some true)
-    × (unbuilt (codes "--jx" ∷ codes "flow" ∷ []) ≡ Some true)
+    × (unbuilt (codes "--jx" ∷ codes "flow" ∷ []) ≡ Some false)
+    × (unbuilt (codes "--jx" ∷ codes "-c" ∷ codes "flow" ∷ []) ≡ Some true)
 
 -- command lines of the worker and the foreman
 abbrev pub PeerCommandLines : Type 0

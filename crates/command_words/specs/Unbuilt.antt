@@ -4,15 +4,10 @@ use Rattle.clap.specs.Walk.{Row}
 use Rattle.command_words.specs.Values.{flag, has_value, is_given}
 use Rattle.command_words.specs.declared.options.Flow.{Flow}
 use Rattle.command_words.specs.declared.options.Flow.TheVariants.{File, Generated}
-use Rattle.command_words.specs.declared.options.Language.TheVariants.{Make, Jx}
 use Rattle.command_words.specs.declared.options.Mode.TheVariants.{Never}
 use Rattle.command_words.specs.declared.options.Options.{Options}
 use Rattle.command_words.specs.declared.options.Transport.TheVariants.{Local}
 use Rattle.command_words.specs.declared.options.Work.TheVariants.{Run}
-
--- a flow in JX
-unfoldable pub asks_jx : List Row → Bool
-asks_jx rows = flag rows (codes "jx")
 
 -- what goes by the log
 unfoldable pub asks_log : List Row → Bool
@@ -33,17 +28,16 @@ asks_workers rows = has_value rows (codes "T") (codes "wq")
 
 -- an option is given that isn't built yet
 unfoldable pub asks_unbuilt : List Row → Bool
-asks_unbuilt rows = asks_jx rows || asks_log rows || asks_collection rows || asks_generated rows || asks_workers rows
+asks_unbuilt rows = asks_log rows || asks_collection rows || asks_generated rows || asks_workers rows
 
--- a flow in Makeflow text, in a file
-abbrev pub IsMakeFile : Flow → Type 0
-IsMakeFile (File name Make) = Unit {0}
-IsMakeFile (File name Jx) = ⊥
-IsMakeFile (Generated rules) = ⊥
+-- a flow in a file
+abbrev pub IsFile : Flow → Type 0
+IsFile (File name language) = Unit {0}
+IsFile (Generated rules) = ⊥
 
--- what is built: a run of a flow in Makeflow text, on this machine, with no second attempts, no removal of files and no limit of the storage
+-- what is built: a run of a flow in a file, on this machine, with no second attempts, no removal of files and no limit of the storage
 pub record IsBuilt (o : Options) : Type 0 where
-  pub flow : IsMakeFile o.flow
+  pub flow : IsFile o.flow
   pub work : o.work ≡ Run
   pub retries : o.limits.retries ≡ 0
   pub mode : o.mode ≡ Never

@@ -1,17 +1,10 @@
 // Options that aren't built yet.
 ghost use Rattle.std.specs.Prelude.{◌≡◌};
 ghost use Rattle.command_words.specs.Found.{rows_in};
-ghost use Rattle.command_words.specs.Unbuilt.{asks_jx, asks_log, asks_collection, asks_generated, asks_workers, asks_unbuilt};
+ghost use Rattle.command_words.specs.Unbuilt.{asks_log, asks_collection, asks_generated, asks_workers, asks_unbuilt};
 
 use crate::values::{flag, has_value, is_given};
 use clap::ArgMatches;
-
-#[tactic(auto, unfolding(crate::specs::Unbuilt::asks_jx))]
-fn asks_jx(matches: &ArgMatches<'_>) -> bool
-    ensures { result ≡ asks_jx (rows_in matches.now) }
-{
-    flag(matches, "jx")
-}
 
 #[tactic(auto, unfolding(crate::specs::Unbuilt::asks_log))]
 fn asks_log(matches: &ArgMatches<'_>) -> bool
@@ -52,11 +45,8 @@ fn asks_workers(matches: &ArgMatches<'_>) -> bool
 pub fn asks_unbuilt(matches: &ArgMatches<'_>) -> bool
     ensures { result ≡ asks_unbuilt (rows_in matches.now) }
 {
-    if asks_jx(matches) || asks_log(matches) {
+    if asks_log(matches) || asks_collection(matches) {
         return true;
     }
-    if asks_collection(matches) || asks_generated(matches) {
-        return true;
-    }
-    asks_workers(matches)
+    asks_generated(matches) || asks_workers(matches)
 }

@@ -24,17 +24,21 @@ use Rattle.master_run.specs.declared.counts.Counts.{Counts}
 use Rattle.plan_run.specs.declared.sources.SourceFault.{SourceFault}
 use Rattle.plan_run.specs.declared.sources.SourceFault.TheVariants as sources
 use Rattle.command_words.specs.declared.options.Options.{Options}
-use Rattle.master_run.specs.Words.{and_then, built, chosen, flow_name}
+use Rattle.master_run.specs.Words.{and_then, built, chosen, flow_name, flow_language}
 use Rattle.command_words.specs.Choices.{options_of}
 use Rattle.flow_types.specs.declared.numbers.Amounts.{Amounts}
 use Rattle.flow_types.specs.declared.flow.RawFlow.{RawFlow}
 use Rattle.mf_text.specs.declared.fault.MakeFault.{MakeFault}
 use Rattle.mf_rules.specs.Flow.{flow_of}
+use Rattle.jx_flow.specs.declared.fault.JxFlowFault.{JxFlowFault}
+use Rattle.jx_flow.specs.Flow.{flow_of_text}
+use Rattle.command_words.specs.declared.options.Language.{Language}
+use Rattle.command_words.specs.declared.options.Language.TheVariants as language
 use Rattle.rule_graph.specs.declared.faults.GraphFault.{GraphFault}
 use Rattle.rule_graph.specs.Faults.{plan_of}
 use Rattle.master_run.specs.declared.needs.Excess.{Excess}
 use Rattle.master_run.specs.Needs.{excess_among, needs_checked, with_needs}
-use Rattle.master_run.specs.Asked.{flow_text, read_flow, read_rules, flow_plan, file_plan, planned, asked, sources_checked, with_sources}
+use Rattle.master_run.specs.Asked.{flow_text, read_make, read_jx, read_flow, read_rules, flow_plan, file_plan, planned, asked, sources_checked, with_sources}
 use Rattle.master_run.specs.Ends.{may_replace, is_ended, CameToEnd, RunIs, CallEnds, OthersStay, is_run_end, is_no_memory, WordsEnd, Rose, FaultEnd, is_rule_failed, is_failure_end, FailureEnd, is_of_plan, is_unfailed_end, NoneRose, counts}
 use Rattle.master_run.specs.Stages.{Stage, WordsStage, is_refusal, SaysRefusal}
 use Rattle.master_run.specs.Runs.{source_halt, SourceEnds, PerformEnds, halt_cause, run_cause, refusal_cause, printed_cause}
@@ -223,9 +227,17 @@ early_words words = early_then (ok_or (options_of words) Usage) built (early_ok_
     early_built options true = refl
     early_built options false = tt
 
-early_text : (name : List ℕ) (given : Result RawFlow MakeFault) → RefusedEarly (read_flow name given)
-early_text name (Ok flow) = tt
-early_text name (Err fault) = refl
+early_make : (name : List ℕ) (given : Result RawFlow MakeFault) → RefusedEarly (read_make name given)
+early_make name (Ok flow) = tt
+early_make name (Err fault) = refl
+
+early_jx : (name : List ℕ) (given : Result RawFlow JxFlowFault) → RefusedEarly (read_jx name given)
+early_jx name (Ok flow) = tt
+early_jx name (Err fault) = refl
+
+early_text : (l : Language) (env : List (List ℕ × List ℕ)) (name text : List ℕ) → RefusedEarly (read_flow l env name text)
+early_text language.Make env name text = early_make name (flow_of env text)
+early_text language.Jx env name text = early_jx name (flow_of_text text)
 
 early_rules : (name : List ℕ) (given : Result Plan GraphFault) → RefusedEarly (read_rules name given)
 early_rules name (Ok plan) = tt
@@ -235,20 +247,20 @@ early_needs : (P : Plan) (over : Option Excess) → RefusedEarly (needs_checked 
 early_needs P None = tt
 early_needs P (Some over) = refl
 
-early_plan : (env : List (List ℕ × List ℕ)) (name text : List ℕ) → RefusedEarly (flow_plan env name text)
-early_plan env name text = early_then (read_flow name (flow_of env text)) (λ flow. read_rules name (plan_of flow)) (early_text name (flow_of env text)) (λ flow. early_rules name (plan_of flow))
+early_plan : (l : Language) (env : List (List ℕ × List ℕ)) (name text : List ℕ) → RefusedEarly (flow_plan l env name text)
+early_plan l env name text = early_then (read_flow l env name text) (λ flow. read_rules name (plan_of flow)) (early_text l env name text) (λ flow. early_rules name (plan_of flow))
 
-early_file : (env : List (List ℕ × List ℕ)) (files : Files) (name : List ℕ) (total : Amounts) → RefusedEarly (file_plan env files name total)
-early_file env files name total =
-    early_then (and_then (flow_text files name) (flow_plan env name)) (with_needs total)
-    (early_then (flow_text files name) (flow_plan env name) (early_ok_or (files name) (FlowMissing name) refl) (early_plan env name))
+early_file : (l : Language) (env : List (List ℕ × List ℕ)) (files : Files) (name : List ℕ) (total : Amounts) → RefusedEarly (file_plan l env files name total)
+early_file l env files name total =
+    early_then (and_then (flow_text files name) (flow_plan l env name)) (with_needs total)
+    (early_then (flow_text files name) (flow_plan l env name) (early_ok_or (files name) (FlowMissing name) refl) (early_plan l env name))
     (λ P. early_needs P (excess_among total 0 P.rules))
 
 asked_early : (words : List (List ℕ)) (env : List (List ℕ × List ℕ)) (files : Files) → RefusedEarly (asked words env files)
 asked_early words env files =
     early_then (planned words env files) (with_sources files)
-    (early_then (chosen words) (λ options. file_plan env files (flow_name options.flow) options.local) (early_words words)
-    (λ options. early_file env files (flow_name options.flow) options.local))
+    (early_then (chosen words) (λ options. file_plan (flow_language options.flow) env files (flow_name options.flow) options.local) (early_words words)
+    (λ options. early_file (flow_language options.flow) env files (flow_name options.flow) options.local))
     (λ P. early_sources P (source_fault P files))
 
 run_end_stays : (kind : Kind) → is_run_end kind ≡ true → may_replace kind ≡ false

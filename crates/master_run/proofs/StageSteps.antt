@@ -17,12 +17,15 @@ use Rattle.command_words.specs.declared.options.Options.{Options}
 use Rattle.mf_text.specs.declared.fault.MakeFault.{MakeFault}
 use Rattle.mf_text.specs.declared.fault.MakeFault.TheVariants as make
 use Rattle.mf_text.specs.Answers.{Fails as FailsText}
+use Rattle.jx_flow.specs.declared.fault.JxFlowFault.{JxFlowFault}
+use Rattle.jx_flow.specs.declared.fault.JxFlowFault.TheVariants as jx
+use Rattle.jx_flow.specs.Answers.{Fails as FailsJx}
 use Rattle.rule_graph.specs.declared.faults.GraphFault.{GraphFault}
 use Rattle.rule_graph.specs.declared.faults.GraphFault.TheVariants as graph
 use Rattle.rule_graph.specs.Answers.{Fails as FailsRules}
 use Rattle.master_run.specs.Words.{and_then, flow_name}
-use Rattle.master_run.specs.Asked.{read_flow, read_rules}
-use Rattle.master_run.specs.Stages.{Stage, WordsStage, OfFlow, SaysRefusal, make_refusal, graph_refusal}
+use Rattle.master_run.specs.Asked.{read_make, read_jx, read_rules}
+use Rattle.master_run.specs.Stages.{Stage, WordsStage, OfFlow, SaysRefusal, make_refusal, jx_refusal, graph_refusal}
 
 true_is_false : true ≡ false → ⊥
 true_is_false wrong = cc
@@ -42,17 +45,28 @@ stopped T U first next Memory is = tt
 
 -- a text that is refused
 pub refused_text : (name : List ℕ) (fault : MakeFault) (given : Result RawFlow MakeFault) (next : RawFlow → Result Plan Cause) → FailsText fault given
-    → Stage {T = Plan} (and_then (read_flow name given) next) (Err (make_refusal name fault))
-refused_text name (make.NotUtf8 at) given next is = ap (λ g. and_then (read_flow name g) next) is
-refused_text name (make.OpenQuote line) given next is = ap (λ g. and_then (read_flow name g) next) is
-refused_text name (make.UnknownName line text) given next is = ap (λ g. and_then (read_flow name g) next) is
-refused_text name (make.OpenParen line) given next is = ap (λ g. and_then (read_flow name g) next) is
-refused_text name (make.NoColon line) given next is = ap (λ g. and_then (read_flow name g) next) is
-refused_text name (make.NoCommand line) given next is = ap (λ g. and_then (read_flow name g) next) is
-refused_text name (make.StrayCommand line) given next is = ap (λ g. and_then (read_flow name g) next) is
-refused_text name (make.BadNumber line) given next is = ap (λ g. and_then (read_flow name g) next) is
-refused_text name (make.TooLarge limit) given next is = ap (λ g. and_then (read_flow name g) next) is
+    → Stage {T = Plan} (and_then (read_make name given) next) (Err (make_refusal name fault))
+refused_text name (make.NotUtf8 at) given next is = ap (λ g. and_then (read_make name g) next) is
+refused_text name (make.OpenQuote line) given next is = ap (λ g. and_then (read_make name g) next) is
+refused_text name (make.UnknownName line text) given next is = ap (λ g. and_then (read_make name g) next) is
+refused_text name (make.OpenParen line) given next is = ap (λ g. and_then (read_make name g) next) is
+refused_text name (make.NoColon line) given next is = ap (λ g. and_then (read_make name g) next) is
+refused_text name (make.NoCommand line) given next is = ap (λ g. and_then (read_make name g) next) is
+refused_text name (make.StrayCommand line) given next is = ap (λ g. and_then (read_make name g) next) is
+refused_text name (make.BadNumber line) given next is = ap (λ g. and_then (read_make name g) next) is
+refused_text name (make.TooLarge limit) given next is = ap (λ g. and_then (read_make name g) next) is
 refused_text name make.Memory given next is = tt
+
+-- a JX text that is refused
+pub refused_jx : (name : List ℕ) (fault : JxFlowFault) (given : Result RawFlow JxFlowFault) (next : RawFlow → Result Plan Cause) → FailsJx fault given
+    → Stage {T = Plan} (and_then (read_jx name given) next) (Err (jx_refusal name fault))
+refused_jx name (jx.Syntax e) given next is = ap (λ g. and_then (read_jx name g) next) is
+refused_jx name (jx.Evaluation e) given next is = ap (λ g. and_then (read_jx name g) next) is
+refused_jx name (jx.MissingField rule field) given next is = ap (λ g. and_then (read_jx name g) next) is
+refused_jx name (jx.FieldKind rule field) given next is = ap (λ g. and_then (read_jx name g) next) is
+refused_jx name (jx.UnknownCategory rule) given next is = ap (λ g. and_then (read_jx name g) next) is
+refused_jx name (jx.TooLarge limit) given next is = ap (λ g. and_then (read_jx name g) next) is
+refused_jx name jx.Memory given next is = tt
 
 -- rules that are refused
 pub refused_rules : (name : List ℕ) (fault : GraphFault) (given : Result Plan GraphFault) → FailsRules fault given → Stage {T = Plan} (read_rules name given) (Err (graph_refusal name fault))
@@ -77,6 +91,16 @@ text_says name (make.StrayCommand line) = (refl, (refl, λ wrong. cc))
 text_says name (make.BadNumber line) = (refl, (refl, λ wrong. cc))
 text_says name (make.TooLarge limit) = (refl, (refl, λ wrong. cc))
 text_says name make.Memory = (tt, (tt, λ wrong. cc))
+
+-- what a refused JX text says
+pub jx_says : (name : List ℕ) (fault : JxFlowFault) → (let answer : Result Plan Refusal = Err (jx_refusal name fault) in OfFlow name answer × (SaysRefusal answer × ((jx_refusal name fault ≡ Site) → ⊥)))
+jx_says name (jx.Syntax e) = (refl, (refl, λ wrong. cc))
+jx_says name (jx.Evaluation e) = (refl, (refl, λ wrong. cc))
+jx_says name (jx.MissingField rule field) = (refl, (refl, λ wrong. cc))
+jx_says name (jx.FieldKind rule field) = (refl, (refl, λ wrong. cc))
+jx_says name (jx.UnknownCategory rule) = (refl, (refl, λ wrong. cc))
+jx_says name (jx.TooLarge limit) = (refl, (refl, λ wrong. cc))
+jx_says name jx.Memory = (tt, (tt, λ wrong. cc))
 
 -- what refused rules say
 pub rules_say : (name : List ℕ) (fault : GraphFault) → (let answer : Result Plan Refusal = Err (graph_refusal name fault) in OfFlow name answer × (SaysRefusal answer × ((graph_refusal name fault ≡ Site) → ⊥)))

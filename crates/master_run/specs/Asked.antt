@@ -6,6 +6,8 @@ use Rattle.flow_types.specs.declared.flow.RawFlow.{RawFlow}
 use Rattle.flow_types.specs.declared.plan.Plan.{Plan}
 use Rattle.mf_text.specs.declared.fault.MakeFault.{MakeFault}
 use Rattle.mf_rules.specs.Flow.{flow_of}
+use Rattle.jx_flow.specs.declared.fault.JxFlowFault.{JxFlowFault}
+use Rattle.jx_flow.specs.Flow.{flow_of_text}
 use Rattle.rule_graph.specs.declared.faults.GraphFault.{GraphFault}
 use Rattle.rule_graph.specs.Faults.{plan_of}
 use Rattle.outside.specs.Files.{Files}
@@ -13,37 +15,49 @@ use Rattle.plan_run.specs.declared.sources.SourceFault.{SourceFault}
 use Rattle.plan_run.specs.declared.sources.SourceFault.TheVariants.{Missing, TooLarge}
 use Rattle.plan_run.specs.Sources.{source_fault}
 use Rattle.command_words.specs.declared.options.Options.{Options}
-use Rattle.report.specs.declared.cause.FlowFault.TheVariants.{Make, Graph}
+use Rattle.command_words.specs.declared.options.Language.{Language}
+use Rattle.command_words.specs.declared.options.Language.TheVariants as language
+use Rattle.report.specs.declared.cause.FlowFault.TheVariants.{Make, Jx, Graph}
 use Rattle.report.specs.declared.cause.Cause.{Cause}
 use Rattle.report.specs.declared.cause.Cause.TheVariants.{FlowMissing, FlowRefused, SourceMissing, SourceTooLarge}
-use Rattle.master_run.specs.Words.{and_then, chosen, flow_name}
+use Rattle.master_run.specs.Words.{and_then, chosen, flow_name, flow_language}
 use Rattle.master_run.specs.Needs.{with_needs}
 
 -- the text of the flow file
 abbrev pub flow_text : Files → List ℕ → Result (List ℕ) Cause
 flow_text files name = ok_or (files name) (FlowMissing name)
 
--- the flow of a text, or its refusal
-abbrev pub read_flow : List ℕ → Result RawFlow MakeFault → Result RawFlow Cause
-read_flow name (Ok flow) = Ok flow
-read_flow name (Err fault) = Err (FlowRefused name (Make fault))
+-- the flow of a Makeflow text, or its refusal
+abbrev pub read_make : List ℕ → Result RawFlow MakeFault → Result RawFlow Cause
+read_make name (Ok flow) = Ok flow
+read_make name (Err fault) = Err (FlowRefused name (Make fault))
+
+-- the flow of a JX text, or its refusal
+abbrev pub read_jx : List ℕ → Result RawFlow JxFlowFault → Result RawFlow Cause
+read_jx name (Ok flow) = Ok flow
+read_jx name (Err fault) = Err (FlowRefused name (Jx fault))
+
+-- the flow of a text in this language, or its refusal
+abbrev pub read_flow : Language → List (List ℕ × List ℕ) → List ℕ → List ℕ → Result RawFlow Cause
+read_flow language.Make env name text = read_make name (flow_of env text)
+read_flow language.Jx env name text = read_jx name (flow_of_text text)
 
 -- the plan of a flow, or its refusal
 abbrev pub read_rules : List ℕ → Result Plan GraphFault → Result Plan Cause
 read_rules name (Ok plan) = Ok plan
 read_rules name (Err fault) = Err (FlowRefused name (Graph fault))
 
--- the plan of the text of the flow of this name
-abbrev pub flow_plan : List (List ℕ × List ℕ) → List ℕ → List ℕ → Result Plan Cause
-flow_plan env name text = and_then (read_flow name (flow_of env text)) (λ flow. read_rules name (plan_of flow))
+-- the plan of the text of the flow of this name, in this language
+abbrev pub flow_plan : Language → List (List ℕ × List ℕ) → List ℕ → List ℕ → Result Plan Cause
+flow_plan language env name text = and_then (read_flow language env name text) (λ flow. read_rules name (plan_of flow))
 
 -- the plan of the flow file of this name, if its rules need no more than these amounts
-abbrev pub file_plan : List (List ℕ × List ℕ) → Files → List ℕ → Amounts → Result Plan Cause
-file_plan env files name total = and_then (and_then (flow_text files name) (flow_plan env name)) (with_needs total)
+abbrev pub file_plan : Language → List (List ℕ × List ℕ) → Files → List ℕ → Amounts → Result Plan Cause
+file_plan language env files name total = and_then (and_then (flow_text files name) (flow_plan language env name)) (with_needs total)
 
 -- the plan that words, environment and files give, or the first refusal
 abbrev pub planned : List (List ℕ) → List (List ℕ × List ℕ) → Files → Result Plan Cause
-planned words env files = and_then (chosen words) (λ options. file_plan env files (flow_name options.flow) options.local)
+planned words env files = and_then (chosen words) (λ options. file_plan (flow_language options.flow) env files (flow_name options.flow) options.local)
 
 -- the plan, or what is wrong with its sources
 abbrev pub sources_checked : Plan → Option SourceFault → Result Plan Cause

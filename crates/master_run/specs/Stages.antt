@@ -2,9 +2,11 @@
 use Rattle.std.specs.Prelude.{◌≡◌, ℕ, ◌≤◌, ◌<◌, List, Option, Some, None, Result, Ok, Err, IsErrOf, Bool, true, false, IsTrue, IsOk}
 use Rattle.report.specs.declared.cause.Cause.{Cause}
 use Rattle.report.specs.declared.cause.Cause.TheVariants.{FlowRefused}
-use Rattle.report.specs.declared.cause.FlowFault.TheVariants.{Make, Graph}
+use Rattle.report.specs.declared.cause.FlowFault.TheVariants.{Make, Jx, Graph}
 use Rattle.mf_text.specs.declared.fault.MakeFault.{MakeFault}
 use Rattle.mf_text.specs.declared.fault.MakeFault.TheVariants as make
+use Rattle.jx_flow.specs.declared.fault.JxFlowFault.{JxFlowFault}
+use Rattle.jx_flow.specs.declared.fault.JxFlowFault.TheVariants as jx
 use Rattle.rule_graph.specs.declared.faults.GraphFault.{GraphFault}
 use Rattle.rule_graph.specs.declared.faults.GraphFault.TheVariants as graph
 use Rattle.command_words.specs.declared.options.Options.{Options}
@@ -54,10 +56,15 @@ pub record SiteTrace {T : Type 0} (before now : ℕ) (result : Result T Refusal)
   pub later : before ≤ now
   pub rose : IsErrOf result Site → before < now
 
--- why a flow's text is refused; want of memory is none of the text's
+-- why a Makeflow text is refused; want of memory is none of the text's
 abbrev pub make_refusal : List ℕ → MakeFault → Refusal
 make_refusal name make.Memory = Memory
 make_refusal name fault = Said (FlowRefused name (Make fault))
+
+-- why a JX text is refused; want of memory is none of the text's
+abbrev pub jx_refusal : List ℕ → JxFlowFault → Refusal
+jx_refusal name jx.Memory = Memory
+jx_refusal name fault = Said (FlowRefused name (Jx fault))
 
 -- why a flow's rules are refused; want of memory is none of the rules'
 abbrev pub graph_refusal : List ℕ → GraphFault → Refusal

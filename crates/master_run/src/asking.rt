@@ -1,16 +1,20 @@
 //! From the words and the flow file to the plan.
-ghost use Rattle.std.specs.Prelude.{◌≡◌, ◌≤◌, ◌<◌, ℕ, List, map, string_bytes, IfOk, IsErrOf, Err};
+ghost use Rattle.std.specs.Prelude.{◌≡◌, ◌≤◌, ◌<◌, ℕ, List, [], map, string_bytes, IfOk, IsErrOf, Err};
+ghost use Rattle.flow_types.specs.Flows.{FitsLimits};
 ghost use Rattle.flow_types.specs.Plans.{IsValid};
 ghost use Rattle.mf_rules.specs.Flow.{given_pairs};
 ghost use Rattle.master_run.specs.declared.asking.Refusal.{Refusal as RefusalValue};
-ghost use Rattle.master_run.specs.Asked.{flow_plan, file_plan, planned};
+ghost use Rattle.rule_graph.specs.Faults as graph;
+ghost use Rattle.command_words.specs.declared.options.Language.TheVariants.{Make, Jx};
+ghost use Rattle.master_run.specs.Asked.{flow_plan, file_plan, planned, read_rules};
 ghost use Rattle.master_run.specs.Needs.{with_needs};
-ghost use Rattle.master_run.specs.Stages.{Stage, WordsStage, OfFlow, SaysRefusal, SiteTrace, make_refusal, graph_refusal};
-ghost use Rattle.master_run.specs.Words.{chosen, flow_name};
+ghost use Rattle.master_run.specs.Stages.{Stage, WordsStage, OfFlow, SaysRefusal, SiteTrace, make_refusal, jx_refusal, graph_refusal};
+ghost use Rattle.master_run.specs.Words.{chosen, flow_language, flow_name};
 
 use crate::needs::{Excess, least_excess};
-use command_words::{Flow, Options, WordsFault, read_words};
-use flow_types::{Amounts, Name, Plan};
+use command_words::{Flow, Language, Options, WordsFault, read_words};
+use flow_types::{Amounts, Bytes, Name, Plan, RawFlow};
+use jx_flow::{JxFlowFault, read_jx};
 use mf_rules::read_make;
 use mf_text::MakeFault;
 use outside::{Fault, Site};
@@ -50,6 +54,15 @@ fn chosen(alloc: Global, words: &[String]) -> Result<Options, Refusal>
     }
 }
 
+fn language_of_flow(flow: &Flow) -> Language
+    ensures { result ≡ flow_language flow.now }
+{
+    match flow {
+        Flow::File { name: _, language } => *language,
+        Flow::Generated { rules: _ } => Language::Make,
+    }
+}
+
 fn name_of_flow(alloc: Global, flow: Flow) -> Result<Name, Refusal>
     ensures name { IfOk result (λ name. name ≡ flow_name flow) }
     ensures memory { (refusal : RefusalValue) → result ≡ Err refusal → refusal ≡ Refusal.Memory }
@@ -75,6 +88,18 @@ fn make_refusal(name: Name, fault: MakeFault) -> Refusal
     }
 }
 
+fn jx_refusal(name: Name, fault: JxFlowFault) -> Refusal
+    ensures { result ≡ jx_refusal name fault }
+{
+    match fault {
+        JxFlowFault::Memory => Refusal::Memory,
+        fault => Refusal::Said(Cause::FlowRefused {
+            flow: name,
+            fault: FlowFault::Jx(fault),
+        }),
+    }
+}
+
 fn graph_refusal(name: Name, fault: GraphFault) -> Refusal
     ensures { result ≡ graph_refusal name fault }
 {
@@ -87,26 +112,75 @@ fn graph_refusal(name: Name, fault: GraphFault) -> Refusal
     }
 }
 
-// The plan of the text of the flow of this name.
-fn flow_plan(
-    alloc: Global,
-    name: Name,
-    text: &[u8],
-    env: &[(String, String)],
-) -> Result<Plan, Refusal>
-    ensures stage { Stage (flow_plan (given_pairs env.now) name text.now) result }
+// The plan of the rules of the flow of this name.
+fn rules_plan(alloc: Global, name: Name, flow: RawFlow) -> Result<Plan, Refusal>
+    requires { FitsLimits flow }
+    ensures stage { Stage (read_rules name (graph.plan_of flow)) result }
     ensures flow { OfFlow name result }
     ensures kind { SaysRefusal result }
     ensures valid { IfOk result IsValid }
     ensures no_site { IsErrOf result Refusal.Site → ⊥ }
 {
-    let flow = match read_make(alloc, text, env) {
-        Ok(flow) => flow,
-        Err(fault) => return Err(make_refusal(name, fault)),
-    };
     match plan_of(alloc, flow) {
         Ok(plan) => Ok(plan),
         Err(fault) => Err(graph_refusal(name, fault)),
+    }
+}
+
+// The plan of the Makeflow text of the flow of this name. The text is let go before the plan is made.
+fn make_plan(
+    alloc: Global,
+    name: Name,
+    text: Bytes,
+    env: &[(String, String)],
+) -> Result<Plan, Refusal>
+    ensures stage { Stage (flow_plan Make (given_pairs env.now) name text) result }
+    ensures flow { OfFlow name result }
+    ensures kind { SaysRefusal result }
+    ensures valid { IfOk result IsValid }
+    ensures no_site { IsErrOf result Refusal.Site → ⊥ }
+{
+    let flow = match read_make(alloc, text.as_slice(), env) {
+        Ok(flow) => flow,
+        Err(fault) => return Err(make_refusal(name, fault)),
+    };
+    drop(text);
+    rules_plan(alloc, name, flow)
+}
+
+// The plan of the JX text of the flow of this name. The text is let go before the plan is made.
+fn jx_plan(alloc: Global, name: Name, text: Bytes) -> Result<Plan, Refusal>
+    ensures stage { Stage (flow_plan Jx [] name text) result }
+    ensures flow { OfFlow name result }
+    ensures kind { SaysRefusal result }
+    ensures valid { IfOk result IsValid }
+    ensures no_site { IsErrOf result Refusal.Site → ⊥ }
+{
+    let flow = match read_jx(alloc, text.as_slice()) {
+        Ok(flow) => flow,
+        Err(fault) => return Err(jx_refusal(name, fault)),
+    };
+    drop(text);
+    rules_plan(alloc, name, flow)
+}
+
+// The plan of the text of the flow of this name, in this language.
+fn flow_plan(
+    alloc: Global,
+    language: Language,
+    name: Name,
+    text: Bytes,
+    env: &[(String, String)],
+) -> Result<Plan, Refusal>
+    ensures stage { Stage (flow_plan language (given_pairs env.now) name text) result }
+    ensures flow { OfFlow name result }
+    ensures kind { SaysRefusal result }
+    ensures valid { IfOk result IsValid }
+    ensures no_site { IsErrOf result Refusal.Site → ⊥ }
+{
+    match language {
+        Language::Make => make_plan(alloc, name, text, env),
+        Language::Jx => jx_plan(alloc, name, text),
     }
 }
 
@@ -130,12 +204,13 @@ fn with_needs(plan: Plan, total: Amounts) -> Result<Plan, Refusal>
 // The plan of the flow file of this name, if its rules need no more than these amounts.
 fn file_plan<S: Site>(
     alloc: Global,
+    language: Language,
     name: Name,
     total: Amounts,
     env: &[(String, String)],
     site: &mut S,
 ) -> Result<Plan, Refusal>
-    ensures stage { S.tells → Stage (file_plan (given_pairs env.now) (S.files site.old) name total) result }
+    ensures stage { S.tells → Stage (file_plan language (given_pairs env.now) (S.files site.old) name total) result }
     ensures flow { OfFlow name result }
     ensures kind { SaysRefusal result }
     ensures valid { IfOk result IsValid }
@@ -148,7 +223,7 @@ fn file_plan<S: Site>(
         Err(Fault::Failed) => return Err(Refusal::Site),
         Err(Fault::Memory) => return Err(Refusal::Memory),
     };
-    match flow_plan(alloc, name, text.as_slice(), env) {
+    match flow_plan(alloc, language, name, text, env) {
         Ok(plan) => with_needs(plan, total),
         Err(refusal) => Err(refusal),
     }
@@ -173,8 +248,9 @@ pub fn read_plan<S: Site>(
         Err(refusal) => return Err(refusal),
     };
     let total = options.local;
+    let language = language_of_flow(&options.flow);
     match name_of_flow(alloc, options.flow) {
-        Ok(name) => file_plan(alloc, name, total, env, site),
+        Ok(name) => file_plan(alloc, language, name, total, env, site),
         Err(refusal) => Err(refusal),
     }
 }

@@ -6,7 +6,8 @@ use Rattle.flow_types.specs.declared.job.Failure.{Failure}
 use Rattle.flow_types.specs.Examples.{port, source_row, made_row}
 use Rattle.report.specs.declared.cause.Cause.{Cause}
 use Rattle.report.specs.declared.cause.Cause.TheVariants.{CommandFailed, FlowRefused, SourceMissing}
-use Rattle.report.specs.declared.cause.FlowFault.TheVariants.{Make, Graph}
+use Rattle.jx_flow.specs.declared.fault.JxFlowFault.{JxFlowFault}
+use Rattle.report.specs.declared.cause.FlowFault.TheVariants.{Make, Jx, Graph}
 use Rattle.mf_text.specs.declared.fault.MakeFault.{MakeFault}
 use Rattle.rule_graph.specs.declared.faults.GraphFault.{GraphFault}
 
@@ -36,6 +37,10 @@ source_missing file = SourceMissing (record { 0 = file })
 -- the text of the flow `flow` is refused
 abbrev pub refused_text : MakeFault → Cause
 refused_text fault = FlowRefused (codes "flow") (Make fault)
+
+-- the JX text of the flow `flow` is refused
+abbrev pub refused_jx : JxFlowFault → Cause
+refused_jx fault = FlowRefused (codes "flow") (Jx fault)
 
 -- the rules of the flow `flow` are no plan
 abbrev pub refused_rules : GraphFault → Cause

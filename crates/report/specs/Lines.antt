@@ -12,7 +12,13 @@ use Rattle.mf_text.specs.declared.fault.MakeFault.TheVariants as make
 use Rattle.rule_graph.specs.declared.faults.GraphFault.{GraphFault}
 use Rattle.rule_graph.specs.declared.faults.GraphFault.TheVariants as graph
 use Rattle.report.specs.declared.cause.FlowFault.{FlowFault}
-use Rattle.report.specs.declared.cause.FlowFault.TheVariants.{Make, Graph}
+use Rattle.jx_tokens.specs.declared.fault.JxFault.{JxFault}
+use Rattle.jx_tokens.specs.declared.fault.JxFault.TheVariants as syntax
+use Rattle.jx_meaning.specs.declared.fault.EvalFault.{EvalFault}
+use Rattle.jx_meaning.specs.declared.fault.EvalFault.TheVariants as evaluation
+use Rattle.jx_flow.specs.declared.fault.JxFlowFault.{JxFlowFault}
+use Rattle.jx_flow.specs.declared.fault.JxFlowFault.TheVariants as jx
+use Rattle.report.specs.declared.cause.FlowFault.TheVariants.{Make, Jx, Graph}
 use Rattle.report.specs.declared.cause.Cause.{Cause}
 use Rattle.report.specs.declared.cause.Cause.TheVariants.{Complete, CommandFailed, Usage, FlowMissing, FlowRefused, Unbuilt, NeedsTooMuch, SourceMissing, SourceTooLarge, InputsTooLarge, SiteFault, RunnerFault, SinkFault, Memory}
 use Rattle.report.specs.Causes.{kind_of, is_printed}
@@ -57,6 +63,48 @@ make_text (make.BadNumber line) = line_text line (codes "bad number")
 make_text (make.TooLarge limit) = codes "too large"
 make_text make.Memory = codes "out of memory"
 
+-- a place of a JX text at which it is no expression
+abbrev pub syntax_at : ℕ → List ℕ
+syntax_at at = codes "syntax fault at " ++ decimal at
+
+-- why a JX text is no expression
+abbrev pub syntax_text : JxFault → List ℕ
+syntax_text (syntax.NotUtf8 at) = syntax_at at
+syntax_text (syntax.Unexpected at) = syntax_at at
+syntax_text (syntax.OpenText at) = syntax_at at
+syntax_text (syntax.FloatUnsupported at) = syntax_at at
+syntax_text (syntax.IntTooWide at) = syntax_at at
+syntax_text (syntax.TooDeep at) = syntax_at at
+syntax_text syntax.TooLarge = codes "too large"
+syntax_text syntax.Memory = codes "out of memory"
+
+-- a place of a JX text at which it has no value
+abbrev pub evaluation_at : ℕ → List ℕ
+evaluation_at at = codes "evaluation fault at " ++ decimal at
+
+-- why a part of a JX text has no value
+abbrev pub evaluation_text : EvalFault → List ℕ
+evaluation_text (evaluation.UnknownName at) = evaluation_at at
+evaluation_text (evaluation.WrongKind at) = evaluation_at at
+evaluation_text (evaluation.Overflow at) = evaluation_at at
+evaluation_text (evaluation.ZeroDivisor at) = evaluation_at at
+evaluation_text (evaluation.IndexRange at) = evaluation_at at
+evaluation_text (evaluation.NoSuchKey at) = evaluation_at at
+evaluation_text (evaluation.BadMark at) = evaluation_at at
+evaluation_text (evaluation.ArgCount at) = evaluation_at at
+evaluation_text (evaluation.TooMuch at) = evaluation_at at
+evaluation_text evaluation.Memory = codes "out of memory"
+
+-- why a JX text says no flow
+abbrev pub jx_text : JxFlowFault → List ℕ
+jx_text (jx.Syntax fault) = syntax_text fault
+jx_text (jx.Evaluation fault) = evaluation_text fault
+jx_text (jx.MissingField rule field) = codes "missing field " ++ field
+jx_text (jx.FieldKind rule field) = codes "bad field " ++ field
+jx_text (jx.UnknownCategory rule) = codes "unknown category"
+jx_text (jx.TooLarge limit) = codes "too large"
+jx_text jx.Memory = codes "out of memory"
+
 -- what is said of a rule of a flow
 abbrev pub of_rule : ℕ → List ℕ → List ℕ
 of_rule rule what = codes "rule " ++ decimal rule ++ codes ": " ++ what
@@ -76,6 +124,7 @@ graph_text graph.Memory = codes "out of memory"
 -- why a flow is refused
 abbrev pub fault_text : FlowFault → List ℕ
 fault_text (Make fault) = make_text fault
+fault_text (Jx fault) = jx_text fault
 fault_text (Graph fault) = graph_text fault
 
 -- what a rule needs more than there is

@@ -6,6 +6,7 @@ ghost use Rattle.report.specs.Lines.{line_of};
 
 use crate::text::{around, text_of};
 use flow_types::{Bytes, Failure, FileNo, Memory, Name, Plan, RuleNo};
+use jx_flow::JxFlowFault;
 use mf_text::MakeFault;
 use rule_graph::GraphFault;
 use std::alloc::Global;
@@ -15,6 +16,8 @@ use std::alloc::Global;
 pub enum FlowFault {
     /// Its text is no Makeflow text.
     Make(MakeFault),
+    /// Its text is no flow in JX.
+    Jx(JxFlowFault),
     /// Its rules are no plan.
     Graph(GraphFault),
 }

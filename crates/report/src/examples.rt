@@ -1,11 +1,14 @@
 //! Worked printed lines, each proved by computing. Nothing calls these functions.
-ghost use Rattle.std.specs.Prelude.{◌≡◌, [], ◌∷◌, codes, pos, negsuc};
+ghost use Rattle.std.specs.Prelude.{◌≡◌, [], ◌∷◌, codes, pos, negsuc, Some, None};
 ghost use Rattle.flow_types.specs.declared.job.Failure.TheVariants.{Status, MissingOutput, TooLong};
 ghost use Rattle.mf_text.specs.declared.fault.MakeFault.TheVariants.{NotUtf8, UnknownName, NoColon, TooLarge};
 ghost use Rattle.rule_graph.specs.declared.faults.GraphFault.TheVariants.{BadName, NestedName, TwoMakers, Cycle};
 ghost use Rattle.report.specs.declared.cause.Cause.TheVariants.{Complete, Usage, FlowMissing, Unbuilt, NeedsTooMuch, SourceTooLarge, InputsTooLarge, SiteFault, RunnerFault, SinkFault, Memory};
 ghost use Rattle.report.specs.Lines.{line_of};
-ghost use Rattle.report.specs.Examples.{one_rule, rule_failed, source_missing, refused_text, refused_rules};
+ghost use Rattle.report.specs.Examples.{one_rule, rule_failed, source_missing, refused_text, refused_jx, refused_rules};
+ghost use Rattle.jx_tokens.specs.declared.fault.JxFault.TheVariants as syntax;
+ghost use Rattle.jx_meaning.specs.declared.fault.EvalFault.TheVariants as evaluation;
+ghost use Rattle.jx_flow.specs.declared.fault.JxFlowFault.TheVariants as jx;
 
 /// What is printed of a run of one rule.
 pub fn lines_of_a_run()
@@ -45,6 +48,22 @@ pub fn lines_of_texts()
         ≡ codes "makeflow: flow: line 2: unknown name X\n" }
     ensures colon { line_of one_rule (refused_text (NoColon 12)) ≡ codes "makeflow: flow: line 12: no colon\n" }
     ensures large { line_of one_rule (refused_text (TooLarge 16777216)) ≡ codes "makeflow: flow: too large\n" }
+{}
+
+/// What is printed where a JX text is refused.
+pub fn lines_of_jx()
+    ensures syntax { line_of one_rule (refused_jx (jx.Syntax (syntax.Unexpected 7)))
+        ≡ codes "makeflow: flow: syntax fault at 7\n" }
+    ensures large { line_of one_rule (refused_jx (jx.Syntax syntax.TooLarge))
+        ≡ codes "makeflow: flow: too large\n" }
+    ensures value { line_of one_rule (refused_jx (jx.Evaluation (evaluation.Overflow 20)))
+        ≡ codes "makeflow: flow: evaluation fault at 20\n" }
+    ensures missing { line_of one_rule (refused_jx (jx.MissingField (Some 0) (codes "outputs")))
+        ≡ codes "makeflow: flow: missing field outputs\n" }
+    ensures kind { line_of one_rule (refused_jx (jx.FieldKind None (codes "define")))
+        ≡ codes "makeflow: flow: bad field define\n" }
+    ensures category { line_of one_rule (refused_jx (jx.UnknownCategory 2))
+        ≡ codes "makeflow: flow: unknown category\n" }
 {}
 
 /// What is printed where the rules of a flow are no plan.

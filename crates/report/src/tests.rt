@@ -1,5 +1,8 @@
 use super::*;
 use flow_types::{Failure, FileNo, FileRow, Name, Needs, Plan, Port, Rows, Rule, RuleNo, Text};
+use jx_flow::JxFlowFault;
+use jx_meaning::EvalFault;
+use jx_tokens::JxFault;
 use mf_text::MakeFault;
 use rule_graph::GraphFault;
 use std::alloc::Global;
@@ -234,6 +237,60 @@ fn a_refused_flow_has_its_place(rt: HostRuntime) -> Result<(), Fail> {
     for (cause, status, text) in cases.iter() {
         let line = format!(in alloc; "makeflow: {text}\n")?;
         assert_eq!(rt; cause.status(), *status);
+        assert_eq!(rt; cause.line(alloc, &plan)?.as_slice(), line.as_bytes());
+    }
+    Ok(())
+}
+
+fn refused_jx(alloc: Global, fault: JxFlowFault) -> Result<Cause, Fail> {
+    Ok(Cause::FlowRefused {
+        flow: named(alloc, "f.jx")?,
+        fault: FlowFault::Jx(fault),
+    })
+}
+
+fn syntax(fault: JxFault) -> JxFlowFault {
+    JxFlowFault::Syntax(fault)
+}
+
+fn evaluation(fault: EvalFault) -> JxFlowFault {
+    JxFlowFault::Evaluation(fault)
+}
+
+#[test]
+fn a_refused_jx_text_has_its_place(rt: HostRuntime) -> Result<(), Fail> {
+    let alloc = rt.alloc();
+    let plan = one_rule(alloc)?;
+    let (missing, bad) = (Text::of(alloc, "outputs")?, Text::of(alloc, "define")?);
+    let missing = JxFlowFault::MissingField {
+        rule: Some(0),
+        field: missing,
+    };
+    let bad = JxFlowFault::FieldKind {
+        rule: None,
+        field: bad,
+    };
+    let cases: [(JxFlowFault, &str); 12] = [
+        (syntax(JxFault::NotUtf8(0)), "syntax fault at 0"),
+        (syntax(JxFault::Unexpected(70)), "syntax fault at 70"),
+        (syntax(JxFault::TooDeep(128)), "syntax fault at 128"),
+        (syntax(JxFault::TooLarge), "too large"),
+        (syntax(JxFault::Memory), "out of memory"),
+        (
+            evaluation(EvalFault::Overflow(20)),
+            "evaluation fault at 20",
+        ),
+        (evaluation(EvalFault::TooMuch(3)), "evaluation fault at 3"),
+        (missing, "missing field outputs"),
+        (bad, "bad field define"),
+        (JxFlowFault::UnknownCategory(2), "unknown category"),
+        (JxFlowFault::TooLarge(1048576), "too large"),
+        (JxFlowFault::Memory, "out of memory"),
+    ];
+    for (fault, text) in cases {
+        let cause = refused_jx(alloc, fault)?;
+        let line = format!(in alloc; "makeflow: f.jx: {text}\n")?;
+        assert_eq!(rt; cause.status(), 3);
         assert_eq!(rt; cause.line(alloc, &plan)?.as_slice(), line.as_bytes());
     }
     Ok(())

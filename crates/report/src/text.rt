@@ -5,6 +5,7 @@ ghost use Rattle.std.specs.Prelude.{codes};
 
 use crate::cause::{Cause, FlowFault};
 use crate::flow_text::{graph_text, make_text};
+use crate::jx_text::jx_text;
 use flow_types::{Failure, FileNo, Name, Plan, Rule, RuleNo};
 use std::alloc::{AllocError, Global};
 
@@ -70,6 +71,7 @@ fn refusal_text(alloc: Global, flow: &Name, fault: &FlowFault) -> Result<Vec<u8>
 {
     let why = match fault {
         FlowFault::Make(fault) => make_text(alloc, fault)?,
+        FlowFault::Jx(fault) => jx_text(alloc, fault)?,
         FlowFault::Graph(fault) => graph_text(alloc, fault)?,
     };
     around(alloc, flow.as_bytes(), b": ", &why)
