@@ -11,3 +11,5 @@ pub mod Quiets
 pub mod Damage
 pub mod Growing
 pub mod Images
+pub mod Looks
+pub mod Starting

@@ -6,3 +6,4 @@ pub mod Claims
 pub mod Begins
 pub mod Inputs
 pub mod Sources
+pub mod Openings

@@ -1,5 +1,5 @@
 //! What a desk answers.
-use flow_types::{Content, FileNo, Record, Rows, RuleNo};
+use flow_types::{Content, Digest, FileNo, Record, Rows, RuleNo};
 use run_history::{Found, RuleState};
 
 /// Whether a desk works. The first fault of its site, or want of memory, ends its work for good.
@@ -40,8 +40,45 @@ pub struct StartRefused<S: Drop> {
 /// Why a desk isn't started.
 #[derive(Clone, Copy, Debug, PartialEq, Eq)]
 pub enum StartFault {
+    /// The part was opened for another plan. These are the digest that was logged, and that of this plan.
+    OtherFlow {
+        logged: Digest,
+        found: Digest,
+    },
+    /// The record with this number, counted from 0, may not stand where it does; it is the first such.
+    NotLegal {
+        at: u32,
+    },
+    /// The log has no room for a run. It has so many records.
+    LogFull {
+        records: u32,
+    },
+    /// There is no such source, before a first run.
+    SourceMissing {
+        file: FileNo,
+    },
+    /// The source has more than 67,108,864 bytes, before a first run.
+    SourceTooLarge {
+        file: FileNo,
+        size: u64,
+    },
+    /// The source isn't what was logged when the part was opened.
+    SourceChanged {
+        file: FileNo,
+        logged: Content,
+        found: Found,
+    },
+    /// The file was logged as made, and isn't there or has another size.
+    FileDamaged {
+        file: FileNo,
+        logged: Content,
+        found: Found,
+    },
     /// The site failed. The counts are those of its faults before the call and after the fault.
-    Site { before: u64, after: u64 },
+    Site {
+        before: u64,
+        after: u64,
+    },
     Memory,
 }
 

@@ -19,6 +19,7 @@ pub(crate) fn read_bytes<S: Site>(
 ) -> Result<Bytes, Fault>
     ensures bytes { IfOk result (λ bytes. S.tells
         → Reads size (S.files site.old name.now) bytes) }
+    ensures few { IfOk result (λ bytes. length bytes ≤ size) }
     ensures files { S.tells → S.files site.new ≡ S.files site.old }
     ensures within { S.tells → Within (S.may_leave site.old) (S.may_leave site.new) }
     ensures any_moment { S.tells
@@ -57,6 +58,7 @@ pub(crate) fn read_logged<S: Site>(
 ) -> Result<Result<Bytes, Found>, Fault>
     ensures found { IfOk result (λ found. S.tells
         → Finds logged (S.files site.old name.now) found) }
+    ensures files { S.tells → S.files site.new ≡ S.files site.old }
     ensures within { S.tells → Within (S.may_leave site.old) (S.may_leave site.new) }
     ensures any_moment { S.tells
         → LeavesOnly S.moment S.images_since site.old site.new (IsImage (S.may_leave site.old)) }

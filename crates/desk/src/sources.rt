@@ -1,5 +1,6 @@
 //! The sources of a plan, before a first run.
-ghost use Rattle.std.specs.Prelude.{◌≡◌, ◌≢◌, List, ℕ, length, Option, OnOk, IfOk};
+ghost use Rattle.std.specs.Prelude.{◌≡◌, ◌≢◌, ◌≤◌, List, ℕ, length, Option, OnOk, IfOk};
+ghost use Rattle.flow_types.specs.Plans.{most_bytes};
 ghost use Rattle.outside.specs.Causes.{HasCause};
 ghost use Rattle.outside.specs.Disk.{IsImage, LeavesOnly, Within};
 ghost use Rattle.desk.specs.Sources.{Settled};
@@ -29,6 +30,7 @@ pub(crate) fn settle<S: Site>(
 ) -> Result<Result<Content, SourceFault>, Fault>
     ensures found { IfOk result (λ found. S.tells
         → Settled (S.files site.old name.now) found) }
+    ensures small { IfOk result (λ found. IfOk found (λ content. content.size ≤ most_bytes)) }
     ensures same { OnOk result (S.tells → S.files site.new name.now ≡ S.files site.old name.now) }
     ensures durable { OnOk result (S.tells → (file : Option (List ℕ))
         → S.may_leave site.new name.now file → file ≡ S.files site.old name.now) }

@@ -74,14 +74,16 @@ pub struct Started {
 }
 
 impl Table {
-    pub(crate) fn plan(&self) -> &Plan
+    /// The plan.
+    pub fn plan(&self) -> &Plan
         ensures plan { result.now ≡ self.now.plan }
         ensures valid { IsValid self.now.plan }
     {
         &self.plan
     }
 
-    pub(crate) fn options(&self) -> Options
+    /// What the run is asked for.
+    pub fn options(&self) -> Options
         ensures options { result ≡ self.now.options }
         ensures mode { self.now.options.mode ≡ Never }
     {
@@ -124,7 +126,8 @@ impl Table {
         }
     }
 
-    pub(crate) fn file(&self, file: FileNo) -> FileState
+    /// What there is of a file, as the records say.
+    pub fn file(&self, file: FileNo) -> FileState
         requires { file.0 < length self.now.plan.files }
         ensures state { result ≡ file_at self.now file.0 }
         ensures small { known_bytes (known_in self.now) file.0 ≤ most_bytes }
