@@ -35,10 +35,6 @@ filter-both p q (x ∷ xs) = by_test (p x) (q x) refl (filter-both p q xs)
     by_test true false is rest = ap (λ c. cond c (x ∷ filter q (filter p xs)) (filter q (filter p xs))) is ∙ rest
     by_test false b is rest = rest
 
-filter-every : (p : ℕ → Bool) (xs : List ℕ) → ((x : ℕ) → p x ≡ true) → filter p xs ≡ xs
-filter-every p [] all = refl
-filter-every p (x ∷ xs) all = ap (λ b. cond b (x ∷ filter p xs) (filter p xs)) (all x) ∙ ap (λ (ys : List ℕ). x ∷ ys) (filter-every p xs all)
-
 -- what a claim answers among these lists of rules: ready, with too large inputs, and fitting
 abbrev among : Known → List ℕ → List ℕ → List ℕ → List ℕ → Result ℕ Nothing
 among K ready large fitting startable =
@@ -49,11 +45,12 @@ among K ready large fitting startable =
     ∷ where_none startable fitting (short_of_storage K)
     ∷ [])) (unwrap_or (of_least startable Ok) (Err nothing.NoneReady))
 
-by_heads : (K : Known) (ready large fitting : List ℕ) → by_least K (head ready) (head large) (head fitting) ≡ among K ready large fitting fitting
-by_heads K [] large fitting = refl
-by_heads K (r ∷ rs) (l ∷ ls) fitting = refl
-by_heads K (r ∷ rs) [] [] = refl
-by_heads K (r ∷ rs) [] (s ∷ ss) = refl
+by_heads : (K : Known) (ready large fitting startable : List ℕ) → by_least K (head ready) (head large) (head fitting) (head startable) ≡ among K ready large fitting startable
+by_heads K [] large fitting startable = refl
+by_heads K (r ∷ rs) (l ∷ ls) fitting startable = refl
+by_heads K (r ∷ rs) [] [] startable = refl
+by_heads K (r ∷ rs) [] (s ∷ ss) [] = refl
+by_heads K (r ∷ rs) [] (s ∷ ss) (g ∷ gs) = refl
 
 ready-head : (K : Known) (k : ℕ) → head (ready_for K k) ≡ find (is_ready_for K k) (rules_of K)
 ready-head K k = ap head (filter-both (can_start K) (λ r. may_run_on K.plan K.options r k) (rules_of K)) ∙ head-find (is_ready_for K k) (rules_of K)
@@ -81,18 +78,21 @@ open_way K stop k going places =
     ap (λ b. option_map_or Err (or_else (where_so b nothing.Stopping) (or_else (where_so (not (leaves_places K 2)) nothing.LogPlaces) (late K k))) (start K k)) going
     ∙ ap (λ b. option_map_or Err (or_else (where_so (not b) nothing.LogPlaces) (late K k)) (start K k)) places
 
-no_limit : (t : TableState) (k : ℕ) → startable_for (known_in t) k ≡ fitting_for (known_in t) k
-no_limit t k = filter-every (has_storage (known_in t)) (fitting_for (known_in t) k) (λ r. refl)
+startable-head : (K : Known) (k : ℕ) → head (startable_for K k) ≡ find (λ r. is_ready_for K k r && (fits_link K k r && has_storage K r)) (rules_of K)
+startable-head K k = ap head (filter-both (fits_link K k) (has_storage K) (ready_for K k)) ∙ narrowed K k (λ r. fits_link K k r && has_storage K r)
 
--- Without collection and limit a claim that nothing stands in the way of answers what is chosen.
+-- Without collection a claim that nothing stands in the way of answers what is chosen.
 pub chosen-claim : (t : TableState) (stop : Option Stop) (k : ℕ) → t.options.mode ≡ Never → is_some stop ≡ false → is_over (known_in t) ≡ false → leaves_places (known_in t) 2 ≡ true
     → chosen_in (known_in t) k ≡ claim_in (known_in t) stop k
 chosen-claim t stop k mode none going places =
     let K : Known = known_in t in
-    ap (λ o. by_least K o (find (λ r. is_ready_for K k r && passes_most K r) (rules_of K)) (find (λ r. is_ready_for K k r && fits_link K k r) (rules_of K))) (sym (ready-head K k))
-    ∙ ap (λ o. by_least K (head (ready_for K k)) o (find (λ r. is_ready_for K k r && fits_link K k r) (rules_of K))) (sym (narrowed K k (passes_most K)))
-    ∙ ap (λ o. by_least K (head (ready_for K k)) (head (filter (passes_most K) (ready_for K k))) o) (sym (narrowed K k (fits_link K k)))
-    ∙ by_heads K (ready_for K k) (filter (passes_most K) (ready_for K k)) (fitting_for K k)
-    ∙ ap (λ (xs : List ℕ). among K (ready_for K k) (filter (passes_most K) (ready_for K k)) (fitting_for K k) xs) (sym (no_limit t k))
+    let large : Option ℕ = find (λ r. is_ready_for K k r && passes_most K r) (rules_of K) in
+    let fitting : Option ℕ = find (λ r. is_ready_for K k r && fits_link K k r) (rules_of K) in
+    let startable : Option ℕ = find (λ r. is_ready_for K k r && (fits_link K k r && has_storage K r)) (rules_of K) in
+    ap (λ o. by_least K o large fitting startable) (sym (ready-head K k))
+    ∙ ap (λ o. by_least K (head (ready_for K k)) o fitting startable) (sym (narrowed K k (passes_most K)))
+    ∙ ap (λ o. by_least K (head (ready_for K k)) (head (filter (passes_most K) (ready_for K k))) o startable) (sym (narrowed K k (fits_link K k)))
+    ∙ ap (by_least K (head (ready_for K k)) (head (filter (passes_most K) (ready_for K k))) (head (fitting_for K k))) (sym (startable-head K k))
+    ∙ by_heads K (ready_for K k) (filter (passes_most K) (ready_for K k)) (fitting_for K k) (startable_for K k)
     ∙ sym (open_way K stop k (ap (λ b. b || is_over K) none ∙ going) places)
     ∙ ap (λ m. claim_with K (wanted_by m (first_free K) (lacks_storage K)) stop k) (sym mode)

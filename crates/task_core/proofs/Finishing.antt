@@ -13,7 +13,7 @@ use Rattle.flow_types.specs.declared.numbers.RuleNo.{RuleNo}
 use Rattle.flow_types.specs.declared.numbers.AttemptNo.{AttemptNo}
 use Rattle.flow_types.specs.declared.records.Record.{Record}
 use Rattle.flow_types.specs.declared.records.Record.TheVariants as records
-use Rattle.flow_types.specs.Plans.{IsValid, contains_number, is_empty, is_made_by, maker_of, makes, rule_numbers, sources_of}
+use Rattle.flow_types.specs.Plans.{IsValid, contains_number, is_made_by, maker_of, makes, rule_numbers, sources_of}
 use Rattle.run_history.specs.declared.moves.Move.{Move}
 use Rattle.run_history.specs.declared.states.RuleState.{RuleState}
 use Rattle.run_history.specs.declared.states.RuleState.TheVariants as rule
@@ -24,13 +24,13 @@ use Rattle.run_history.specs.History.{part, next_attempt}
 use Rattle.run_history.specs.States.{unfinished_state, drops, is_failure_of, outs_in, running_says, file_state, made_state, outs_of, opened_sources, present_with, retries_of, row_of, limit_of}
 use Rattle.run_history.specs.Links.{records_of}
 use Rattle.run_history.specs.Answers.{has_ended, why_in}
-use Rattle.run_history.proofs.Steps.{outs-push, part-push, limit-push}
+use Rattle.run_history.proofs.Steps.{outs-push, limit-push}
 use Rattle.run_history.proofs.Grows.{records-push}
 use Rattle.task_core.specs.declared.rows.RuleRow.{RuleRow}
 use Rattle.task_core.specs.States.{TableState, blank_row, row_at, file_at, state_of}
 use Rattle.task_core.specs.Stands.{IsRow, Stands, after_done, logged, made_or}
 use Rattle.task_core.proofs.Pushing.{row_after, row-push, retries-same}
-use Rattle.task_core.proofs.Standing.{drops-same, ended-same, link-same, live-same, next-same, changes-same, not_empty, outs-same, row_by, silent-row, sources-same, start-push}
+use Rattle.task_core.proofs.Standing.{begun-after, runs-same, drops-same, ended-same, link-same, live-same, next-same, changes-same, outs-same, row_by, silent-row, sources-same, start-push}
 
 contained : (f : ℕ) (fs : List ℕ) (outs : List Content) (c : Content) → row_of f fs outs ≡ Some c → contains_number f fs ≡ true
 contained f [] outs c is = absurd cc
@@ -155,16 +155,16 @@ done_rows t H moment r a outs q false other is =
 
 -- A table stands after a Done when the row of its rule says so and each output is present.
 pub done-stands : (t : TableState) (M : List Move) (r : RuleNo) (a : AttemptNo) (outs : List Content) (files : List FileState) (moment : ℕ) → IsValid t.plan → r.0 < length t.plan.rules → r.0 < length t.rules
-    → (row_at t r.0).done ≡ false → ((f : ℕ) → slice_index_or files f file.Absent ≡ made_or (row_of f (makes t.plan r.0) outs) (file_at t f)) → Stands t M
+    → (row_at t r.0).done ≡ false → ((f : ℕ) → slice_index_or files f file.Absent ≡ made_or (row_of f (makes t.plan r.0) outs) (file_at t f)) → t.begun ≡ true → Stands t M
     → Stands (after_done t r.0 files) (logged M (records.Done moment r a outs))
-done-stands t M r a outs files moment valid inside within open_rule made stands =
+done-stands t M r a outs files moment valid inside within open_rule made going stands =
     let x : Record = records.Done moment r a outs in
     let H : List Record = records_of M in
     let longer : records_of (logged M x) ≡ H ++ (x ∷ []) = records-push M x in
     let count : length (records_of (logged M x)) ≡ length (H ++ (x ∷ [])) = ap (λ (xs : List Record). length xs) longer in
     let none : outs_of H r.0 ≡ None = no_outs (outs_of H r.0) (sym (stands.rules r.0).done ∙ open_rule) in
     record {
-      begun = ap (λ (xs : List Record). is_empty (part xs)) longer ∙ ap (λ (xs : List Record). is_empty xs) (part-push H x refl) ∙ not_empty (part H) x;
+      begun = going ∙ sym (begun-after M x refl);
       rules = λ q. subst (λ (xs : List Record). IsRow xs q (slice_index_or (slice_set t.rules r.0 (record (row_at t r.0) { place = None; done = true })) q blank_row)) (sym longer)
           (subst (IsRow (H ++ (x ∷ [])) q) (sym (row_by t r.0 q (record (row_at t r.0) { place = None; done = true }) (q == r.0) refl within)) (done_rows t H moment r a outs q (q == r.0) refl (stands.rules q)));
       files = λ f. made f ∙ ap (made_or (row_of f (makes t.plan r.0) outs)) (stands.files f)
@@ -173,9 +173,10 @@ done-stands t M r a outs files moment valid inside within open_rule made stands 
           ap (λ (xs : List Record). is_some (outs_of xs q)) longer ∙ ap is_some (outs-push H x q refl)
           ∙ some_stays (outs_in q x) (outs_of H q) (stands.dropped f q maker (sym (ap (λ (xs : List Record). list_any (drops f) (part xs)) longer ∙ drops-same H x f refl refl) ∙ gone));
       records = omega (arith, stands.records, count, length-append H (x ∷ []));
+      runs = stands.runs ∙ sym (runs-same M x refl);
       starts = stands.starts ∙ omega arith ∙ sym (ap next_attempt longer ∙ start-push H x);
       retries = stands.retries ∙ sym (ap retries_of longer ∙ retries-same H x refl refl);
-      no_limit = ap limit_of longer ∙ limit-push H x refl ∙ stands.no_limit;
+      limit = stands.limit ∙ sym (ap limit_of longer ∙ limit-push H x refl);
       ended = stands.ended ∙ sym (ap has_ended longer ∙ ended-same H x refl refl refl);
       rows = λ k. stands.rows k ∙ sym (link-same t.options M x k);
       live = stands.live ∙ sym (live-same t.options M x);

@@ -9,7 +9,7 @@ use Rattle.run_history.specs.Storage.{is_running_state}
 use Rattle.run_history.specs.States.{Place, unfinished_state}
 use Rattle.task_core.specs.declared.rows.RuleRow.{RuleRow}
 use Rattle.task_core.specs.Known.{leaves_places, running, runs_now}
-use Rattle.task_core.specs.States.{TableState, IsTable, blank_row, known_in, row_at, state_of}
+use Rattle.task_core.specs.States.{TableState, IsTable, blank_row, known_in, most_of, row_at, state_of}
 use Rattle.task_core.specs.Stands.{with_row}
 use Rattle.task_core.proofs.Counting.{count-one-more, count-one-less}
 
@@ -23,7 +23,7 @@ failures_by t r q n row true same inside this others = rw (row_by t r q row true
 failures_by t r q n row false same inside this others = rw (row_by t r q row false same inside) others
 
 written : (t : TableState) (r : ℕ) (row : RuleRow) (starts : ℕ) → IsTable t → r < length t.plan.rules → row.failures ≤ t.records + 1 → starts ≤ t.records + 1
-    → t.records + 1 + length (running (known_in (record (with_row t r row) { starts = starts }))) + cond t.ended 0 1 ≤ 1000000 → IsTable (record (with_row t r row) { starts = starts })
+    → t.records + 1 + length (running (known_in (record (with_row t r row) { starts = starts }))) + cond t.ended 0 1 ≤ most_of t.begun → IsTable (record (with_row t r row) { starts = starts })
 written t r row starts is inside few begun places = record {
   valid = is.valid;
   mode = is.mode;
@@ -31,6 +31,7 @@ written t r row starts is inside few begun places = record {
   files = is.files;
   small = is.small;
   places = places;
+  runs = omega (arith, is.runs);
   starts = begun;
   failures = λ q. failures_by t r q (t.records + 1) row (r == q) refl (omega (arith, is.rules, inside)) few (omega (arith, is.failures q));
 }
@@ -67,9 +68,13 @@ keeps-closed t r row old is inside runs here none few =
     (others_run t r row t.starts within) in
     written t r row t.starts is inside (omega (arith, few, failures)) (omega (arith, is.starts)) (omega (arith, less, is.places))
 
-end_room : (ended : Bool) (n : ℕ) → ended ≡ false → n + 1 ≤ 1000000 → n + cond ended 0 1 ≤ 1000000
-end_room true n going le = absurd (true≢false going)
-end_room false n going le = le
+most_room : (begun : Bool) (n : ℕ) → n ≤ 1000000 → n ≤ most_of begun
+most_room true n le = le
+most_room false n le = omega (arith, le)
+
+end_room : (begun ended : Bool) (n : ℕ) → ended ≡ false → n + 1 ≤ 1000000 → n + cond ended 0 1 ≤ most_of begun
+end_room begun true n going le = absurd (true≢false going)
+end_room begun false n going le = most_room begun (n + 1) le
 
 -- an attempt starts
 pub keeps-started : (t : TableState) (r : ℕ) (row old : RuleRow) → IsTable t → r < length t.plan.rules → t.ended ≡ false → leaves_places (known_in t) 2 ≡ true → old ≡ get_or t.rules r old
@@ -80,4 +85,4 @@ keeps-started t r row old is inside going places here few =
     let more = count-one-more (runs_now (known_in t)) (runs_now (known_in (record (with_row t r row) { starts = t.starts + 1 }))) r (length t.plan.rules) (others_run t r row (t.starts + 1) within) in
     let room = leb-true (t.records + length (running (known_in t)) + 1 + 2) 1000000 places in
     written t r row (t.starts + 1) is inside (omega (arith, few, failures)) (omega (arith, is.starts))
-    (end_room t.ended (t.records + 1 + length (running (known_in (record (with_row t r row) { starts = t.starts + 1 })))) going (omega (arith, more, room)))
+    (end_room t.begun t.ended (t.records + 1 + length (running (known_in (record (with_row t r row) { starts = t.starts + 1 })))) going (omega (arith, more, room)))

@@ -10,3 +10,4 @@ pub mod Keeping
 pub mod Closing
 pub mod Finishing
 pub mod Outputs
+pub mod Allowing

@@ -1,8 +1,9 @@
 -- One more number of a range.
 use Rattle.std.proofs.Common.{◌≡◌, ◌≤◌, ◌<◌, ◌+◌, ◌-◌, ℕ, zero, suc, Bool, true, false, cond, ◌&&◌, List, [], ◌∷◌, ◌++◌, length, Option, Some, None, refl, ap, sym, subst, true≢false, ◌∙◌, arith, length-append}
-use Rattle.std.specs.Prelude.{filter, find, is_some, ◌||◌, nat_lt}
+use Rattle.std.specs.Prelude.{filter, find, is_some, ◌||◌, nat_lt, sum_by}
 use Rattle.std.specs.List.{list_all, list_any, range_with_len}
 use Rattle.std.proofs.lemmas.List.Elements.{filter-append}
+use Rattle.std.proofs.lemmas.List.Sums.{sum_by-append}
 use Rattle.flow_types.specs.declared.numbers.RuleNo.{RuleNo}
 use Rattle.flow_types.specs.Plans.{numbers, takes}
 use Rattle.run_history.specs.declared.states.RuleState.{RuleState}
@@ -41,7 +42,15 @@ count-more p n count false is so =
     let none : List ℕ = [] in
     omega (arith, so, more, length-append (filter p (numbers n)) none)
 
-step_of : (i n : ℕ) → i < n → n - i ≡ suc (n - (i + 1))
+sum_with : (f : ℕ → ℕ) (xs : List ℕ) (n : ℕ) (b : Bool) → sum_by f (xs ++ cond b (n ∷ []) []) ≡ sum_by f xs + cond b (f n) 0
+sum_with f xs n true = sum_by-append f xs (n ∷ []) ∙ omega arith
+sum_with f xs n false = let none : List ℕ = [] in sum_by-append f xs none ∙ omega arith
+
+-- the sum over those that pass among one number more
+pub sum-more : (f : ℕ → ℕ) (p : ℕ → Bool) (n sum : ℕ) (b : Bool) → p n ≡ b → sum ≡ sum_by f (filter p (numbers n)) → sum + cond b (f n) 0 ≡ sum_by f (filter p (numbers (n + 1)))
+sum-more f p n sum b is so = ap (λ m. m + cond b (f n) 0) so ∙ sym (ap (λ (xs : List ℕ). sum_by f xs) (filter-more p n b is) ∙ sum_with f (filter p (numbers n)) n b)
+
+pub step_of : (i n : ℕ) → i < n → n - i ≡ suc (n - (i + 1))
 step_of i n less = omega (arith, less)
 
 -- what is left decides

@@ -1,5 +1,5 @@
 -- A table after one more record that starts or closes an attempt.
-use Rattle.std.proofs.Common.{◌≡◌, ◌<◌, ◌+◌, ℕ, Bool, true, false, cond, ◌||◌, List, [], ◌∷◌, ◌++◌, length, Option, Some, None, refl, ap, sym, subst, ◌∙◌, arith, length-append}
+use Rattle.std.proofs.Common.{◌≡◌, ◌<◌, ◌+◌, ℕ, Bool, true, false, cond, not, ◌||◌, List, [], ◌∷◌, ◌++◌, length, Option, Some, None, true≢false, refl, ap, sym, subst, ◌∙◌, arith, length-append}
 use mathlib.Core.Path.{fun_ext}
 use Rattle.std.specs.Prelude.{unwrap_or, is_some, count_by, filter, ◌==◌, slice_set, slice_index_or, nat_le}
 use Rattle.std.specs.List.{last_or, list_any}
@@ -21,8 +21,9 @@ use Rattle.run_history.specs.declared.states.RuleState.{RuleState}
 use Rattle.run_history.specs.declared.states.RuleState.TheVariants as rule
 use Rattle.run_history.specs.declared.states.FileState.{FileState}
 use Rattle.run_history.specs.declared.states.FileState.TheVariants as file
-use Rattle.run_history.specs.History.{is_cleaned, is_end, is_opening, is_start, part, since_opening, last_said, next_attempt}
+use Rattle.run_history.specs.History.{is_cleaned, is_end, is_opening, is_start, part, since_opening, after_last, last_said, next_attempt, next_run}
 use Rattle.run_history.specs.States.{drops, file_state, limit_in, limit_of, made_state, opened_sources, outs_in, outs_of, present_with, retries_in, retries_of, row_of, sources_in, running_says, is_failure_of, rule_state, unfinished_state, running_in, failures_of, Place}
+use Rattle.run_history.specs.Storage.{is_running_state}
 use Rattle.run_history.specs.Links.{LinkRow, is_live, link_row, local_row, names_link, records_of, row_in}
 use Rattle.run_history.specs.Moves.{is_change, is_join, live_links, next_link}
 use Rattle.run_history.specs.Answers.{has_ended, last_why, why_in}
@@ -109,6 +110,21 @@ live-same O M x =
 pub start-push : (H : List Record) (x : Record) → next_attempt (H ++ (x ∷ [])) ≡ next_attempt H + cond (is_start x) 1 0
 start-push H x = count-push is_start H x
 
+-- the part is begun behind a record that cleans nothing
+pub begun-after : (M : List Move) (x : Record) → is_cleaned x ≡ false → not (is_empty (part (records_of (logged M x)))) ≡ true
+begun-after M x stays =
+    ap (λ (xs : List Record). not (is_empty (part xs))) (records-push M x) ∙ ap (λ (xs : List Record). not (is_empty xs)) (part-push (records_of M) x stays) ∙ ap not (not_empty (part (records_of M)) x)
+
+pub runs-push : (H : List Record) (x : Record) → next_run (H ++ (x ∷ [])) ≡ next_run H + cond (is_opening x) 1 0
+runs-push H x = count-push is_opening H x
+
+no_runs : (n : ℕ) (b : Bool) → b ≡ false → n + cond b 1 0 ≡ n
+no_runs n true opens = absurd (true≢false opens)
+no_runs n false opens = omega arith
+
+pub runs-same : (M : List Move) (x : Record) → is_opening x ≡ false → next_run (records_of (logged M x)) ≡ next_run (records_of M)
+runs-same M x opens = ap next_run (records-push M x) ∙ runs-push (records_of M) x ∙ no_runs (next_run (records_of M)) (is_opening x) opens
+
 -- the rows when one is written
 pub row_by : (t : TableState) (r q : ℕ) (row : RuleRow) (b : Bool) → (q == r) ≡ b → r < length t.rules → slice_index_or (slice_set t.rules r row) q blank_row ≡ cond b row (row_at t q)
 row_by t r q row true same inside =
@@ -124,13 +140,13 @@ rows_stand t H x r q row false other inside quiet this others is =
 
 -- A table stands after a record of an attempt when the row of its rule says what the record does.
 pub row-stands : (t : TableState) (M : List Move) (x : Record) (r : ℕ) (row : RuleRow) → r < length t.rules → IsQuiet x → row ≡ row_after r x (row_at t r)
-    → ((q : ℕ) → (q == r) ≡ false → row_after q x (row_at t q) ≡ row_at t q) → Stands t M → Stands (record (with_row t r row) { starts = t.starts + cond (is_start x) 1 0 }) (logged M x)
-row-stands t M x r row inside quiet this others stands =
+    → ((q : ℕ) → (q == r) ≡ false → row_after q x (row_at t q) ≡ row_at t q) → t.begun ≡ true → Stands t M → Stands (record (with_row t r row) { starts = t.starts + cond (is_start x) 1 0 }) (logged M x)
+row-stands t M x r row inside quiet this others going stands =
     let H : List Record = records_of M in
     let longer : records_of (logged M x) ≡ H ++ (x ∷ []) = records-push M x in
     let count : length (records_of (logged M x)) ≡ length (H ++ (x ∷ [])) = ap (λ (xs : List Record). length xs) longer in
     record {
-      begun = ap (λ (xs : List Record). is_empty (part xs)) longer ∙ ap (λ (xs : List Record). is_empty xs) (part-push H x quiet.stays) ∙ not_empty (part H) x;
+      begun = going ∙ sym (begun-after M x quiet.stays);
       rules = λ q. subst (λ (xs : List Record). IsRow xs q (slice_index_or (slice_set t.rules r row) q blank_row)) (sym longer)
           (subst (IsRow (H ++ (x ∷ [])) q) (sym (row_by t r q row (q == r) refl inside)) (rows_stand t H x r q row (q == r) refl inside quiet this (others q) (stands.rules q)));
       files = λ f. stands.files f ∙ sym (ap (λ (xs : List Record). file_state t.plan xs f) longer ∙ files-same t.plan H x f quiet);
@@ -138,9 +154,10 @@ row-stands t M x r row inside quiet this others stands =
           ap (λ (xs : List Record). is_some (outs_of xs q)) longer ∙ ap is_some (outs-same H x q quiet.stays (quiet.makes_none q))
           ∙ stands.dropped f q made (sym (ap (λ (xs : List Record). list_any (drops f) (part xs)) longer ∙ drops-same H x f quiet.stays (quiet.drops_none f)) ∙ gone);
       records = omega (arith, stands.records, count, length-append H (x ∷ []));
+      runs = stands.runs ∙ sym (runs-same M x quiet.opens);
       starts = ap (λ n. n + cond (is_start x) 1 0) stands.starts ∙ sym (ap next_attempt longer ∙ start-push H x);
       retries = stands.retries ∙ sym (ap retries_of longer ∙ retries-same H x quiet.stays quiet.retries);
-      no_limit = ap limit_of longer ∙ limit-push H x quiet.stays ∙ ap (λ l. option_map_or (λ limit. limit) l (limit_of H)) quiet.limits ∙ stands.no_limit;
+      limit = stands.limit ∙ sym (ap limit_of longer ∙ limit-push H x quiet.stays ∙ ap (λ l. option_map_or (λ limit. limit) l (limit_of H)) quiet.limits);
       ended = stands.ended ∙ sym (ap has_ended longer ∙ ended-same H x quiet.stays quiet.opens quiet.ends);
       rows = λ k. stands.rows k ∙ sym (link-same t.options M x k);
       live = stands.live ∙ sym (live-same t.options M x);
@@ -160,8 +177,8 @@ state-stands H r retries row same is =
     ∙ ap (λ n. cond (is_some (outs_of H r)) rule.Complete (unfinished_state (running_in H r) (nat_le (retries_of H + 1) n))) is.failures
     ∙ complete_or (outs_of H r) (unfinished_state (running_in H r) (nat_le (retries_of H + 1) (failures_of H r)))
 
-abbrev known : Plan → Options → (ℕ → RuleState) → (ℕ → Option Place) → (ℕ → Option Failure) → (ℕ → FileState) → ℕ → Option ℕ → Bool → (ℕ → Option LinkRow) → List ℕ → Known
-known P O rules places whys files records limit ended rows live = record {
+abbrev known : Plan → Options → (ℕ → RuleState) → (ℕ → Option Place) → (ℕ → Option Failure) → (ℕ → FileState) → ℕ → Option ℕ → Bool → Bool → ℕ → ℕ → (ℕ → Option LinkRow) → List ℕ → Known
+known P O rules places whys files records limit begun ended runs starts rows live = record {
   plan = P;
   options = O;
   rules = rules;
@@ -170,7 +187,10 @@ known P O rules places whys files records limit ended rows live = record {
   files = files;
   records = records;
   limit = limit;
+  begun = begun;
   ended = ended;
+  runs = runs;
+  starts = starts;
   rows = rows;
   live = live;
 }
@@ -182,25 +202,30 @@ knows t M stands =
     let P : Plan = t.plan in
     let O : Options = t.options in
     let K : Known = known_in t in
-    ap (λ (f : ℕ → RuleState). known P O f K.places K.whys K.files K.records K.limit K.ended K.rows K.live) (fun_ext (λ r. state-stands H r t.retries (row_at t r) stands.retries (stands.rules r)))
-    ∙ ap (λ (f : ℕ → Option Place). known P O (rule_state H) f K.whys K.files K.records K.limit K.ended K.rows K.live) (fun_ext (λ r. (stands.rules r).place))
-    ∙ ap (λ (f : ℕ → Option Failure). known P O (rule_state H) (running_in H) f K.files K.records K.limit K.ended K.rows K.live) (fun_ext (λ r. (stands.rules r).why))
-    ∙ ap (λ (f : ℕ → FileState). known P O (rule_state H) (running_in H) (last_why H) f K.records K.limit K.ended K.rows K.live) (fun_ext (λ f. stands.files f))
-    ∙ ap (λ n. known P O (rule_state H) (running_in H) (last_why H) (file_state P H) n K.limit K.ended K.rows K.live) stands.records
-    ∙ ap (λ l. known P O (rule_state H) (running_in H) (last_why H) (file_state P H) (length H) l K.ended K.rows K.live) (sym stands.no_limit)
-    ∙ ap (λ b. known P O (rule_state H) (running_in H) (last_why H) (file_state P H) (length H) (limit_of H) b K.rows K.live) stands.ended
-    ∙ ap (λ (f : ℕ → Option LinkRow). known P O (rule_state H) (running_in H) (last_why H) (file_state P H) (length H) (limit_of H) (has_ended H) f K.live) (fun_ext (λ k. stands.rows k))
-    ∙ ap (known P O (rule_state H) (running_in H) (last_why H) (file_state P H) (length H) (limit_of H) (has_ended H) (link_row O M)) stands.live
+    ap (λ (f : ℕ → RuleState). known P O f K.places K.whys K.files K.records K.limit K.begun K.ended K.runs K.starts K.rows K.live)
+    (fun_ext (λ r. state-stands H r t.retries (row_at t r) stands.retries (stands.rules r)))
+    ∙ ap (λ (f : ℕ → Option Place). known P O (rule_state H) f K.whys K.files K.records K.limit K.begun K.ended K.runs K.starts K.rows K.live) (fun_ext (λ r. (stands.rules r).place))
+    ∙ ap (λ (f : ℕ → Option Failure). known P O (rule_state H) (running_in H) f K.files K.records K.limit K.begun K.ended K.runs K.starts K.rows K.live) (fun_ext (λ r. (stands.rules r).why))
+    ∙ ap (λ (f : ℕ → FileState). known P O (rule_state H) (running_in H) (last_why H) f K.records K.limit K.begun K.ended K.runs K.starts K.rows K.live) (fun_ext (λ f. stands.files f))
+    ∙ ap (λ n. known P O (rule_state H) (running_in H) (last_why H) (file_state P H) n K.limit K.begun K.ended K.runs K.starts K.rows K.live) stands.records
+    ∙ ap (λ l. known P O (rule_state H) (running_in H) (last_why H) (file_state P H) (length H) l K.begun K.ended K.runs K.starts K.rows K.live) stands.limit
+    ∙ ap (λ b. known P O (rule_state H) (running_in H) (last_why H) (file_state P H) (length H) (limit_of H) b K.ended K.runs K.starts K.rows K.live) stands.begun
+    ∙ ap (λ b. known P O (rule_state H) (running_in H) (last_why H) (file_state P H) (length H) (limit_of H) (not (is_empty (part H))) b K.runs K.starts K.rows K.live) stands.ended
+    ∙ ap (λ n. known P O (rule_state H) (running_in H) (last_why H) (file_state P H) (length H) (limit_of H) (not (is_empty (part H))) (has_ended H) n K.starts K.rows K.live) stands.runs
+    ∙ ap (λ n. known P O (rule_state H) (running_in H) (last_why H) (file_state P H) (length H) (limit_of H) (not (is_empty (part H))) (has_ended H) (next_run H) n K.rows K.live) stands.starts
+    ∙ ap (λ (f : ℕ → Option LinkRow). known P O (rule_state H) (running_in H) (last_why H) (file_state P H) (length H) (limit_of H) (not (is_empty (part H))) (has_ended H) (next_run H) (next_attempt H) f K.live)
+    (fun_ext (λ k. stands.rows k))
+    ∙ ap (known P O (rule_state H) (running_in H) (last_why H) (file_state P H) (length H) (limit_of H) (not (is_empty (part H))) (has_ended H) (next_run H) (next_attempt H) (link_row O M)) stands.live
 
 abbrev shrunk : TableState → ℕ → RuleRow → ℕ → TableState
 shrunk t r row starts = record (with_row t r row) { starts = starts }
 
 -- the same where the record closes an attempt
 pub closed-stands : (t : TableState) (M : List Move) (x : Record) (r : ℕ) (row : RuleRow) → r < length t.rules → IsQuiet x → is_start x ≡ false → row ≡ row_after r x (row_at t r)
-    → ((q : ℕ) → (q == r) ≡ false → row_after q x (row_at t q) ≡ row_at t q) → Stands t M → Stands (with_row t r row) (logged M x)
-closed-stands t M x r row inside quiet closes this others stands =
+    → ((q : ℕ) → (q == r) ≡ false → row_after q x (row_at t q) ≡ row_at t q) → t.begun ≡ true → Stands t M → Stands (with_row t r row) (logged M x)
+closed-stands t M x r row inside quiet closes this others going stands =
     let same : t.starts + cond (is_start x) 1 0 ≡ t.starts = ap (λ b. t.starts + cond b 1 0) closes ∙ omega arith in
-    subst (λ (n : ℕ). Stands (shrunk t r row n) (logged M x)) same (row-stands t M x r row inside quiet this others stands)
+    subst (λ (n : ℕ). Stands (shrunk t r row n) (logged M x)) same (row-stands t M x r row inside quiet this others going stands)
 
 -- a record that says nothing of a rule leaves its row
 pub silent-row : (x : Record) (q : ℕ) (row : RuleRow) → running_says q x ≡ None → outs_in q x ≡ None → is_failure_of q x ≡ false → why_in q x ≡ None → row_after q x row ≡ row
@@ -235,3 +260,25 @@ started-row x q row place here makes fails why =
     ∙ ap (λ (o : Option (List Content)). record { place = Some place; done = is_some o || row.done; failures = row.failures + cond (is_failure_of q x) 1 0; why = option_map_or Some (why_in q x) row.why }) makes
     ∙ ap (λ n. record { place = Some place; done = row.done; failures = n; why = option_map_or Some (why_in q x) row.why }) (ap (λ b. row.failures + cond b 1 0) fails ∙ omega arith)
     ∙ ap (λ (w : Option Failure). record { place = Some place; done = row.done; failures = row.failures; why = option_map_or Some w row.why }) why)
+
+empty_list : (xs : List Record) → is_empty xs ≡ true → xs ≡ []
+empty_list [] is = refl
+empty_list (x ∷ xs) is = absurd (true≢false (sym is))
+
+begun_by : (H : List Record) (b : Bool) → is_empty (part H) ≡ b → (r : ℕ) → is_some (running_in H r) ≡ true → not b ≡ true
+begun_by H false is r runs = refl
+begun_by H true is r runs =
+    let none : is_some (running_in H r) ≡ false = ap (λ (xs : List Record). is_some (unwrap_or (last_said (running_says r) (after_last is_opening xs)) None)) (empty_list (part H) is) in
+    absurd (true≢false (sym runs ∙ none))
+
+placed_by : (done failed : Bool) (place : Option Place) → is_running_state (cond done rule.Complete (unfinished_state place failed)) ≡ true → is_some place ≡ true
+placed_by true failed place runs = absurd (true≢false (sym runs))
+placed_by false failed (Some place) runs = refl
+placed_by false true None runs = absurd (true≢false (sym runs))
+placed_by false false None runs = absurd (true≢false (sym runs))
+
+-- where a rule runs, the part is begun
+pub running-begun : (t : TableState) (M : List Move) (r : ℕ) → Stands t M → is_running_state ((known_in t).rules r) ≡ true → t.begun ≡ true
+running-begun t M r stands runs =
+    let placed : is_some (row_at t r).place ≡ true = placed_by (row_at t r).done (nat_le (t.retries + 1) (row_at t r).failures) (row_at t r).place runs in
+    stands.begun ∙ begun_by (records_of M) (is_empty (part (records_of M))) refl r (sym (ap is_some (stands.rules r).place) ∙ placed)

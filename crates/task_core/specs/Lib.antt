@@ -1,5 +1,6 @@
 pub mod Known
 pub mod States
 pub mod Surveys
+pub mod Allowed
 pub mod Choices
 pub mod Stands

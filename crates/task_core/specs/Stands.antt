@@ -1,5 +1,5 @@
 -- After which moves a table stands, and what its calls answer and leave.
-use Rattle.std.specs.Prelude.{◌≡◌, ℕ, ◌+◌, Bool, true, false, List, [], ◌∷◌, ◌++◌, length, Some, None, Result, Ok, Err, count_by, is_some, slice_set, Option}
+use Rattle.std.specs.Prelude.{◌≡◌, ℕ, ◌+◌, Bool, true, false, not, List, [], ◌∷◌, ◌++◌, length, Some, None, Result, Ok, Err, count_by, is_some, slice_set, Option}
 use Rattle.flow_types.specs.declared.job.Failure.{Failure}
 use Rattle.flow_types.specs.declared.numbers.RuleNo.{RuleNo}
 use Rattle.flow_types.specs.declared.numbers.AttemptNo.{AttemptNo}
@@ -17,7 +17,7 @@ use Rattle.run_history.specs.declared.states.RuleState.{RuleState}
 use Rattle.run_history.specs.declared.answers.Next.{Next}
 use Rattle.run_history.specs.declared.answers.Next.TheVariants as next
 use Rattle.run_history.specs.declared.answers.Nothing.{Nothing}
-use Rattle.run_history.specs.History.{part, next_attempt}
+use Rattle.run_history.specs.History.{part, next_attempt, next_run}
 use Rattle.run_history.specs.States.{drops, rule_state, file_state, running_in, outs_of, failures_of, retries_of, limit_of}
 use Rattle.run_history.specs.Legal.{runs}
 use Rattle.run_history.specs.Links.{records_of, link_row}
@@ -34,17 +34,18 @@ pub record IsRow (H : List Record) (r : ℕ) (row : RuleRow) : Type 0 where
   pub failures : row.failures ≡ failures_of H r
   pub why : row.why ≡ last_why H r
 
--- The table stands after these moves of a run that was opened without a limit.
+-- The table stands after these moves.
 pub record Stands (t : TableState) (M : List Move) : Type 0 where
-  pub begun : is_empty (part (records_of M)) ≡ false
+  pub begun : t.begun ≡ not (is_empty (part (records_of M)))
   pub rules : (r : ℕ) → IsRow (records_of M) r (row_at t r)
   pub files : (f : ℕ) → file_at t f ≡ file_state t.plan (records_of M) f
   -- A dropped file was made in this part.
   pub dropped : (f r : ℕ) → maker_of t.plan f ≡ Some r → list_any (drops f) (part (records_of M)) ≡ true → is_some (outs_of (records_of M) r) ≡ true
   pub records : t.records ≡ length (records_of M)
+  pub runs : t.runs ≡ next_run (records_of M)
   pub starts : t.starts ≡ next_attempt (records_of M)
   pub retries : t.retries ≡ retries_of (records_of M)
-  pub no_limit : limit_of (records_of M) ≡ None
+  pub limit : t.limit ≡ limit_of (records_of M)
   pub ended : t.ended ≡ has_ended (records_of M)
   pub rows : (k : ℕ) → link_at t k ≡ link_row t.options M k
   pub live : (known_in t).live ≡ live_links t.options M

@@ -1,5 +1,5 @@
 -- A table as contracts see it, and what it knows.
-use Rattle.std.specs.Prelude.{◌≡◌, ◌≤◌, ℕ, ◌+◌, Bool, false, List, ◌∷◌, length, Option, Some, None, ◌==◌, if◌then◌else◌, find, map, nat_le, slice_index_or}
+use Rattle.std.specs.Prelude.{◌≡◌, ◌≤◌, ℕ, ◌+◌, Bool, true, false, List, ◌∷◌, length, Option, Some, None, ◌==◌, if◌then◌else◌, find, map, nat_le, slice_index_or}
 use Rattle.std.specs.Option.{option_map_or}
 use Rattle.flow_types.specs.declared.plan.Plan.{Plan}
 use Rattle.flow_types.specs.Plans.{IsValid, most_bytes}
@@ -11,12 +11,13 @@ use Rattle.run_history.specs.declared.states.FileState.{FileState}
 use Rattle.run_history.specs.declared.states.FileState.TheVariants as file
 use Rattle.run_history.specs.declared.answers.Stop.{Stop}
 use Rattle.run_history.specs.States.{unfinished_state}
+use Rattle.run_history.specs.Legal.{most_records}
 use Rattle.run_history.specs.Links.{LinkRow, local_row}
 use Rattle.task_core.specs.declared.rows.RuleRow.{RuleRow}
 use Rattle.task_core.specs.declared.rows.LinkEntry.{LinkEntry}
 use Rattle.task_core.specs.Known.{Known, running, known_bytes}
 
--- The rows of rules and files by their numbers, the links that live beside the local place, and the numbers of records, starts, joins and changes.
+-- The rows of rules and files by their numbers, the links that live beside the local place, the numbers of records, runs, starts, joins and changes, and what the last opening states.
 pub record TableState : Type 0 where
   pub plan : Plan
   pub options : Options
@@ -24,8 +25,11 @@ pub record TableState : Type 0 where
   pub files : List FileState
   pub links : List LinkEntry
   pub records : ℕ
+  pub runs : ℕ
   pub starts : ℕ
   pub retries : ℕ
+  pub limit : Option ℕ
+  pub begun : Bool
   pub ended : Bool
   pub joins : ℕ
   pub changes : ℕ
@@ -69,11 +73,19 @@ known_in t = record {
   whys = λ r. (row_at t r).why;
   files = file_at t;
   records = t.records;
-  limit = None;
+  limit = t.limit;
+  begun = t.begun;
   ended = t.ended;
+  runs = t.runs;
+  starts = t.starts;
   rows = link_at t;
   live = 0 ∷ map (λ entry. entry.link.0) t.links;
 }
+
+-- the most records of a log whose part is begun; of an earlier part only the numbers are looked at
+abbrev pub most_of : Bool → ℕ
+most_of true = most_records
+most_of false = 9223372036854775808
 
 -- What holds of every table.
 pub record IsTable (t : TableState) : Type 0 where
@@ -83,6 +95,7 @@ pub record IsTable (t : TableState) : Type 0 where
   pub files : length t.files ≡ length t.plan.files
   pub small : (f : ℕ) → known_bytes (known_in t) f ≤ most_bytes
   -- There is room for the end of each attempt that runs, and for that of the run.
-  pub places : t.records + length (running (known_in t)) + (if t.ended then 0 else 1) ≤ 1000000
+  pub places : t.records + length (running (known_in t)) + (if t.ended then 0 else 1) ≤ most_of t.begun
+  pub runs : t.runs ≤ t.records
   pub starts : t.starts ≤ t.records
   pub failures : (r : ℕ) → (row_at t r).failures ≤ t.records

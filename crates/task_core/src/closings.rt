@@ -1,5 +1,5 @@
 //! Attempts that start and are closed.
-ghost use Rattle.std.specs.Prelude.{◌≡◌, ◌<◌, ◌+◌, ℕ, All, List, drop, length, nat_le, sum_by, true, false, IfOk};
+ghost use Rattle.std.specs.Prelude.{◌≡◌, ◌<◌, ◌≤◌, ◌+◌, ℕ, All, List, drop, length, nat_le, sum_by, true, false, IfOk};
 ghost use Rattle.flow_types.specs.declared.records.Record.TheVariants as records;
 ghost use Rattle.run_history.specs.declared.moves.Move.{Move};
 ghost use Rattle.run_history.specs.declared.states.FileState.{FileState};
@@ -7,7 +7,7 @@ ghost use Rattle.run_history.specs.States.{row_of};
 ghost use Rattle.run_history.specs.Legal.{are_within, is_failure_at, runs_as};
 ghost use Rattle.run_history.specs.Storage.{has_failed, rule_bound};
 ghost use Rattle.run_history.specs.Links.{records_of};
-ghost use Rattle.flow_types.specs.Plans.{IsValid, files_of, makes};
+ghost use Rattle.flow_types.specs.Plans.{IsValid, files_of, makes, most_outputs};
 ghost use Rattle.task_core.specs.Known.{leaves_places, runs_now};
 ghost use Rattle.task_core.specs.States.{file_at, known_in};
 ghost use Rattle.task_core.specs.Stands.{Claims, Closes, Stands, after_start, is_final, made_or};
@@ -20,7 +20,7 @@ impl Table {
     /// Claims a rule for a link: the least ready one that may run there and fits, or why there is none. The rule runs from
     /// then on. Condition: the link lives.
     pub fn claim(&mut self, link: LinkNo) -> Result<Started, Nothing>
-        ensures { (moves : List Move) → Stands self.old moves → Claims self.old moves link result self.new }
+        ensures { (moves : List Move) → Stands self.old moves → self.old.begun ≡ true → Claims self.old moves link result self.new }
     {
         match self.claim_answer(link) {
             Ok(rule) => Ok(self.start(rule, link)),
@@ -91,10 +91,11 @@ impl Table {
     }
 
     // The outputs of a rule.
-    fn outputs(&self, rule: RuleNo) -> &[Port]
+    pub(crate) fn outputs(&self, rule: RuleNo) -> &[Port]
         requires { rule.0 < length self.now.plan.rules }
         ensures files { files_of result.now ≡ makes self.now.plan rule.0 }
         ensures inside { All (λ port. port.file.0 < length self.now.plan.files) result.now }
+        ensures few { length result.now ≤ most_outputs }
         ensures valid { IsValid self.now.plan }
     {
         self.plan().rules.as_slice()[rule.0 as usize]

@@ -1,11 +1,14 @@
 //! The table of a run: what each rule and file is doing, which links live, and what comes next.
 #![tactic(auto)]
 
+mod allowed;
 mod claims;
 mod closings;
 mod loads;
+mod overview;
 mod rows;
 mod scans;
+mod storage;
 mod table;
 
 pub use table::{Started, Table};

@@ -11,20 +11,20 @@ use flow_types::{FileNo, LinkNo, Needs, Port, RuleNo};
 use run_history::{FileState, RuleState};
 
 /// The most records of a log.
-const MOST_RECORDS: u64 = 1_000_000;
+pub(crate) const MOST_RECORDS: u64 = 1_000_000;
 
 /// The most bytes of one job's inputs together.
-const MOST_INPUT_BYTES: u64 = 134_217_728;
+pub(crate) const MOST_INPUT_BYTES: u64 = 134_217_728;
 
 impl Table {
-    fn is_there(&self, file: FileNo) -> bool
+    pub(crate) fn is_there(&self, file: FileNo) -> bool
         requires { file.0 < length self.now.plan.files }
         ensures { result ≡ is_there (known_in self.now) file.0 }
     {
         matches!(self.file(file), FileState::Present(_))
     }
 
-    fn bytes(&self, file: FileNo) -> u64
+    pub(crate) fn bytes(&self, file: FileNo) -> u64
         requires { file.0 < length self.now.plan.files }
         ensures bytes { result ≡ known_bytes (known_in self.now) file.0 }
         ensures small { result ≤ most_bytes }
@@ -36,7 +36,7 @@ impl Table {
     }
 
     // The inputs of a rule.
-    fn inputs(&self, rule: RuleNo) -> &[Port]
+    pub(crate) fn inputs(&self, rule: RuleNo) -> &[Port]
         requires { rule.0 < length self.now.plan.rules }
         ensures files { files_of result.now ≡ takes self.now.plan rule.0 }
         ensures inside { All (λ port. port.file.0 < length self.now.plan.files) result.now }
@@ -114,7 +114,7 @@ impl Table {
         }
     }
 
-    fn running_count(&self) -> u32
+    pub(crate) fn running_count(&self) -> u32
         ensures { result ≡ length (running (known_in self.now)) }
     {
         let mut count = 0;

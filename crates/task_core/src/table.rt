@@ -2,7 +2,7 @@
 ghost use Rattle.std.specs.Prelude.{◌≡◌, ◌<◌, ◌≤◌, ◌+◌, length, is_some, slice_set, true, false};
 ghost use Rattle.run_history.specs.declared.options.Mode.TheVariants.{Never};
 ghost use Rattle.run_history.specs.declared.states.FileState.TheVariants.{Present};
-ghost use Rattle.flow_types.specs.Plans.{IsValid, most_bytes, most_rules};
+ghost use Rattle.flow_types.specs.Plans.{IsValid, most_bytes, most_files, most_rules};
 ghost use Rattle.task_core.specs.Known.{known_bytes, leaves_places, runs_now};
 ghost use Rattle.task_core.specs.States.{known_in, row_at, file_at};
 ghost use Rattle.task_core.specs.Stands.{after_done, after_failure, after_loss, after_start};
@@ -22,8 +22,11 @@ pub struct Table {
     files: FileStates,
     links: Vec<LinkEntry>,
     records: u64,
+    runs: u64,
     starts: u64,
     retries: u32,
+    limit: Option<u64>,
+    begun: bool,
     ended: bool,
     joins: u64,
     changes: u64,
@@ -42,8 +45,11 @@ impl Model for Table {
       files = t.files;
       links = t.links.items;
       records = t.records;
+      runs = t.runs;
       starts = t.starts;
       retries = t.retries;
+      limit = t.limit;
+      begun = t.begun;
       ended = t.ended;
       joins = t.joins;
       changes = t.changes;
@@ -57,8 +63,11 @@ impl Model for Table {
       files = t.files;
       links = t.links.items;
       records = t.records;
+      runs = t.runs;
       starts = t.starts;
       retries = t.retries;
+      limit = t.limit;
+      begun = t.begun;
       ended = t.ended;
       joins = t.joins;
       changes = t.changes;
@@ -103,6 +112,19 @@ impl Table {
         self.rules.len() as u32
     }
 
+    pub(crate) fn file_count(&self) -> u32
+        ensures count { result ≡ length self.now.plan.files }
+        ensures few { result ≤ most_files }
+    {
+        self.plan.files.len() as u32
+    }
+
+    pub(crate) fn limit(&self) -> Option<u64>
+        ensures { result ≡ self.now.limit }
+    {
+        self.limit
+    }
+
     pub(crate) fn row(&self, rule: RuleNo) -> RuleRow
         requires { rule.0 < length self.now.plan.rules }
         ensures { result ≡ row_at self.now rule.0 }
@@ -137,9 +159,23 @@ impl Table {
 
     pub(crate) fn records(&self) -> u64
         ensures records { result ≡ self.now.records }
-        ensures few { result ≤ 1000000 }
+        ensures few { result ≤ 9223372036854775808 }
     {
         self.records
+    }
+
+    /// The part is begun: a run was opened since the last cleaning.
+    pub fn is_begun(&self) -> bool
+        ensures { result ≡ self.now.begun }
+    {
+        self.begun
+    }
+
+    // How many runs were opened.
+    pub(crate) fn runs_so_far(&self) -> u64
+        ensures { result ≡ self.now.runs }
+    {
+        self.runs
     }
 
     pub(crate) fn has_ended(&self) -> bool

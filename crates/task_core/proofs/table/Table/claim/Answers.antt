@@ -9,7 +9,7 @@ use Rattle.task_core.proofs.Closing.{started-stands}
 use Rattle.task_core.proofs.table.Table.claim.Goals as goal
 
 pub returns-in-Ok : goal.returns-in-Ok
-returns-in-Ok c moves stands =
+returns-in-Ok c moves stands going =
     let t : TableState = c.args.self.now in
     let inside : c.start.result.rule.0 < length t.rules =
     subst (λ n. c.start.result.rule.0 < n) (sym c.start.ensures.rows) (subst (λ r. r.0 < length t.plan.rules) (sym c.start.ensures.rule) c.in-Ok.ensures.inside) in (
@@ -17,10 +17,10 @@ returns-in-Ok c moves stands =
       c.start.ensures.attempt ∙ stands.starts,
       λ moment. subst (λ (v : TableState). Stands v (logged moves (records.Started moment c.start.result.rule c.start.result.attempt c.args.link)))
           (sym (c.start.ensures.table ∙ ap (λ r. after_start t r.0 c.start.result.attempt c.args.link) (sym c.start.ensures.rule)))
-          (started-stands t moves c.start.result.rule c.start.result.attempt c.args.link moment inside stands),
+          (started-stands t moves c.start.result.rule c.start.result.attempt c.args.link moment inside going stands),
     )
 
 pub returns-in-Err : goal.returns-in-Err
-returns-in-Err c moves stands =
+returns-in-Err c moves stands going =
     let t : TableState = c.args.self.now in
     (sym (ap (λ (K : Known). claim_in K t.stop c.args.link.0) (knows t moves stands) ∙ claim-same t.plan t.options moves t.stop c.args.link.0) ∙ sym c.in-Err.ensures.claim, refl)

@@ -2,6 +2,7 @@ use Rattle.std.proofs.Common.{◌<◌, ◌∙◌, length, sym, subst}
 use Rattle.flow_types.specs.declared.records.Record.TheVariants as records
 use Rattle.task_core.specs.States.{TableState}
 use Rattle.task_core.specs.Stands.{Stands, logged}
+use Rattle.task_core.proofs.Standing.{running-begun}
 use Rattle.task_core.proofs.Closing.{failed-stands, runs-known}
 use Rattle.task_core.proofs.table.Table.fail.Goals as goal
 
@@ -11,7 +12,7 @@ returns-then-has_failed-clause-closed c moves stands =
     let inside : c.args.rule.0 < length t.rules = subst (λ n. c.args.rule.0 < n) (sym c.note_failure.ensures.rows) c.requires.rule in (
       runs-known t moves c.args.rule.0 c.args.attempt.0 c.requires.rule stands ∙ sym c.runs_with.ensures.runs ∙ c.if-not-runs_with.false,
       λ moment. subst (λ (v : TableState). Stands v (logged moves (records.Failed moment c.args.rule c.args.attempt c.args.why))) (sym c.note_failure.ensures.table)
-          (failed-stands t moves c.args.rule c.args.attempt c.args.why moment inside stands),
+          (failed-stands t moves c.args.rule c.args.attempt c.args.why moment inside (running-begun t moves c.args.rule.0 stands (c.runs_with.ensures.running c.if-not-runs_with.false)) stands),
     )
 
 pub returns-else-has_failed-clause-closed : goal.returns-else-has_failed-clause-closed
@@ -20,5 +21,5 @@ returns-else-has_failed-clause-closed c moves stands =
     let inside : c.args.rule.0 < length t.rules = subst (λ n. c.args.rule.0 < n) (sym c.note_failure.ensures.rows) c.requires.rule in (
       runs-known t moves c.args.rule.0 c.args.attempt.0 c.requires.rule stands ∙ sym c.runs_with.ensures.runs ∙ c.if-not-runs_with.false,
       λ moment. subst (λ (v : TableState). Stands v (logged moves (records.Failed moment c.args.rule c.args.attempt c.args.why))) (sym c.note_failure.ensures.table)
-          (failed-stands t moves c.args.rule c.args.attempt c.args.why moment inside stands),
+          (failed-stands t moves c.args.rule c.args.attempt c.args.why moment inside (running-begun t moves c.args.rule.0 stands (c.runs_with.ensures.running c.if-not-runs_with.false)) stands),
     )

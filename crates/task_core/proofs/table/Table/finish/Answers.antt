@@ -7,6 +7,7 @@ use Rattle.run_history.specs.declared.states.FileState.{FileState}
 use Rattle.run_history.specs.States.{row_of}
 use Rattle.task_core.specs.States.{file_at, row_at}
 use Rattle.task_core.specs.Stands.{made_or}
+use Rattle.task_core.proofs.Standing.{running-begun}
 use Rattle.task_core.proofs.Finishing.{done-stands, running-open}
 use Rattle.task_core.proofs.Closing.{runs-known}
 use Rattle.task_core.proofs.table.Table.finish.Goals as goal
@@ -24,5 +25,5 @@ returns c moves stands =
       runs-known t moves r c.args.attempt.0 c.requires.rule stands ∙ sym c.runs_with.ensures.runs ∙ runs,
       λ moment. subst (λ (v : TableState). Stands v (logged moves (records.Done moment c.args.rule c.args.attempt c.args.outs.now)))
           (sym (c.note_outputs.ensures.same ∙ ap (λ (v : TableState). record v { files = files }) c.note_done.ensures.table))
-          (done-stands t moves c.args.rule c.args.attempt c.args.outs.now files moment c.note_done.ensures.valid c.requires.rule within open_rule made stands),
+          (done-stands t moves c.args.rule c.args.attempt c.args.outs.now files moment c.note_done.ensures.valid c.requires.rule within open_rule made (running-begun t moves r stands (c.runs_with.ensures.running runs)) stands),
     )
