@@ -81,17 +81,21 @@ abbrev pub made_or : Option Content → FileState → FileState
 made_or None state = state
 made_or (Some content) state = file.Present content
 
+-- It is still of the same plan and options, with the same stop.
+abbrev pub IsStill : TableState → TableState → Type 0
+IsStill t after = (after.plan ≡ t.plan) × (after.options ≡ t.options) × (after.stop ≡ t.stop)
+
 -- What a claim answers, and where the table stands then.
 abbrev pub Claims : TableState → List Move → LinkNo → Result Started Nothing → TableState → Type 0
 Claims t M link (Ok started) after =
     (claim_of t.plan t.options M t.stop link.0 ≡ Ok started.rule.0) × (started.attempt.0 ≡ next_attempt (records_of M))
-    × ((moment : ℕ) → Stands after (logged M (records.Started moment started.rule started.attempt link)))
+    × ((moment : ℕ) → Stands after (logged M (records.Started moment started.rule started.attempt link))) × IsStill t after
 Claims t M link (Err nothing) after = (claim_of t.plan t.options M t.stop link.0 ≡ Err nothing) × (after ≡ t)
 
 -- What the closing of an attempt answers: it is closed by such a record, or the rule doesn't run with it and nothing changes.
 abbrev pub Closes : {A : Type 0} → TableState → List Move → RuleNo → AttemptNo → (ℕ → Record) → Result A RuleState → TableState → Type 0
 Closes t M rule attempt entry (Ok done) after =
-    (runs t.plan (records_of M) rule.0 attempt.0 ≡ true) × ((moment : ℕ) → Stands after (logged M (entry moment)))
+    (runs t.plan (records_of M) rule.0 attempt.0 ≡ true) × ((moment : ℕ) → Stands after (logged M (entry moment))) × IsStill t after
 Closes t M rule attempt entry (Err state) after =
     (runs t.plan (records_of M) rule.0 attempt.0 ≡ false) × (state ≡ rule_state (records_of M) rule.0) × (after ≡ t)
 

@@ -2,6 +2,7 @@
 #![tactic(auto)]
 
 mod allowed;
+mod choice;
 mod claims;
 mod closings;
 mod loads;

@@ -2,7 +2,7 @@ use Rattle.std.proofs.Common.{◌<◌, ◌∙◌, length, ap, sym, subst, refl, 
 use Rattle.flow_types.specs.declared.records.Record.TheVariants as records
 use Rattle.task_core.specs.Known.{Known, claim_in}
 use Rattle.task_core.specs.States.{TableState}
-use Rattle.task_core.specs.Stands.{Stands, after_start, logged}
+use Rattle.task_core.specs.Stands.{IsStill, Stands, after_start, logged}
 use Rattle.task_core.proofs.Same.{claim-same}
 use Rattle.task_core.proofs.Standing.{knows}
 use Rattle.task_core.proofs.Closing.{started-stands}
@@ -18,6 +18,7 @@ returns-in-Ok c moves stands going =
       λ moment. subst (λ (v : TableState). Stands v (logged moves (records.Started moment c.start.result.rule c.start.result.attempt c.args.link)))
           (sym (c.start.ensures.table ∙ ap (λ r. after_start t r.0 c.start.result.attempt c.args.link) (sym c.start.ensures.rule)))
           (started-stands t moves c.start.result.rule c.start.result.attempt c.args.link moment inside going stands),
+      subst (IsStill t) (sym c.start.ensures.table) (refl, refl, refl),
     )
 
 pub returns-in-Err : goal.returns-in-Err

@@ -1,7 +1,7 @@
-use Rattle.std.proofs.Common.{◌<◌, ◌∙◌, length, sym, subst}
+use Rattle.std.proofs.Common.{◌<◌, ◌∙◌, length, sym, subst, refl}
 use Rattle.flow_types.specs.declared.records.Record.TheVariants as records
 use Rattle.task_core.specs.States.{TableState}
-use Rattle.task_core.specs.Stands.{Stands, logged}
+use Rattle.task_core.specs.Stands.{IsStill, Stands, logged}
 use Rattle.task_core.proofs.Standing.{running-begun}
 use Rattle.task_core.proofs.Closing.{failed-stands, runs-known}
 use Rattle.task_core.proofs.table.Table.fail.Goals as goal
@@ -13,6 +13,7 @@ returns-then-has_failed-clause-closed c moves stands =
       runs-known t moves c.args.rule.0 c.args.attempt.0 c.requires.rule stands ∙ sym c.runs_with.ensures.runs ∙ c.if-not-runs_with.false,
       λ moment. subst (λ (v : TableState). Stands v (logged moves (records.Failed moment c.args.rule c.args.attempt c.args.why))) (sym c.note_failure.ensures.table)
           (failed-stands t moves c.args.rule c.args.attempt c.args.why moment inside (running-begun t moves c.args.rule.0 stands (c.runs_with.ensures.running c.if-not-runs_with.false)) stands),
+      subst (IsStill t) (sym c.note_failure.ensures.table) (refl, refl, refl),
     )
 
 pub returns-else-has_failed-clause-closed : goal.returns-else-has_failed-clause-closed
@@ -22,4 +23,5 @@ returns-else-has_failed-clause-closed c moves stands =
       runs-known t moves c.args.rule.0 c.args.attempt.0 c.requires.rule stands ∙ sym c.runs_with.ensures.runs ∙ c.if-not-runs_with.false,
       λ moment. subst (λ (v : TableState). Stands v (logged moves (records.Failed moment c.args.rule c.args.attempt c.args.why))) (sym c.note_failure.ensures.table)
           (failed-stands t moves c.args.rule c.args.attempt c.args.why moment inside (running-begun t moves c.args.rule.0 stands (c.runs_with.ensures.running c.if-not-runs_with.false)) stands),
+      subst (IsStill t) (sym c.note_failure.ensures.table) (refl, refl, refl),
     )

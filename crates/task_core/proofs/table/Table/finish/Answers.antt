@@ -1,7 +1,7 @@
-use Rattle.std.proofs.Common.{◌≡◌, ◌<◌, ◌∙◌, ℕ, List, length, ap, sym, subst, true, false}
+use Rattle.std.proofs.Common.{◌≡◌, ◌<◌, ◌∙◌, ℕ, List, length, ap, sym, subst, true, false, refl}
 use Rattle.flow_types.specs.declared.records.Record.TheVariants as records
 use Rattle.task_core.specs.States.{TableState}
-use Rattle.task_core.specs.Stands.{Stands, logged}
+use Rattle.task_core.specs.Stands.{IsStill, Stands, logged}
 use Rattle.flow_types.specs.Plans.{makes}
 use Rattle.run_history.specs.declared.states.FileState.{FileState}
 use Rattle.run_history.specs.States.{row_of}
@@ -26,4 +26,5 @@ returns c moves stands =
       λ moment. subst (λ (v : TableState). Stands v (logged moves (records.Done moment c.args.rule c.args.attempt c.args.outs.now)))
           (sym (c.note_outputs.ensures.same ∙ ap (λ (v : TableState). record v { files = files }) c.note_done.ensures.table))
           (done-stands t moves c.args.rule c.args.attempt c.args.outs.now files moment c.note_done.ensures.valid c.requires.rule within open_rule made (running-begun t moves r stands (c.runs_with.ensures.running runs)) stands),
+      subst (IsStill t) (sym (c.note_outputs.ensures.same ∙ ap (λ (v : TableState). record v { files = files }) c.note_done.ensures.table)) (refl, refl, refl),
     )

@@ -1,7 +1,7 @@
-use Rattle.std.proofs.Common.{◌<◌, ◌∙◌, length, sym, subst}
+use Rattle.std.proofs.Common.{◌<◌, ◌∙◌, length, sym, subst, refl}
 use Rattle.flow_types.specs.declared.records.Record.TheVariants as records
 use Rattle.task_core.specs.States.{TableState}
-use Rattle.task_core.specs.Stands.{Stands, logged}
+use Rattle.task_core.specs.Stands.{IsStill, Stands, logged}
 use Rattle.task_core.proofs.Standing.{running-begun}
 use Rattle.task_core.proofs.Closing.{lost-stands, runs-known}
 use Rattle.task_core.proofs.table.Table.lose.Goals as goal
@@ -13,4 +13,5 @@ returns c moves stands =
       runs-known t moves c.args.rule.0 c.args.attempt.0 c.requires stands ∙ sym c.runs_with.ensures.runs ∙ c.if-not-runs_with.false,
       λ moment. subst (λ (v : TableState). Stands v (logged moves (records.Lost moment c.args.rule c.args.attempt))) (sym c.note_loss.ensures.table)
           (lost-stands t moves c.args.rule c.args.attempt moment inside (running-begun t moves c.args.rule.0 stands (c.runs_with.ensures.running c.if-not-runs_with.false)) stands),
+      subst (IsStill t) (sym c.note_loss.ensures.table) (refl, refl, refl),
     )
