@@ -13,3 +13,4 @@ pub mod Growing
 pub mod Images
 pub mod Looks
 pub mod Starting
+pub mod Following

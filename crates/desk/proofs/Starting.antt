@@ -1,17 +1,18 @@
 -- Why a run may begin, and what its first record leaves.
-use Rattle.std.proofs.Common.{◌≡◌, ◌≢◌, ◌≤◌, ◌<◌, ◌∙◌, ℕ, zero, suc, ◌+◌, Bool, true, false, cond, List, [], ◌∷◌, ◌++◌, length, Option, Some, None, map, filter, refl, sym, ap, subst, arith, true≢false, length-append}
+use Rattle.std.proofs.Common.{◌≡◌, ◌≢◌, ◌≤◌, ◌<◌, ◌∙◌, ℕ, zero, suc, ◌+◌, Bool, true, false, cond, List, [], ◌∷◌, ◌++◌, length, Option, Some, None, Result, Ok, Err, map, filter, refl, sym, ap, subst, arith, true≢false, length-append}
 use Rattle.std.specs.Prelude.{◌==◌, ◌&&◌, nat_lt, nat_le, is_some, is_none, not, slice_get, unwrap_or, option_map}
 use Rattle.std.specs.List.{list_all, list_any, range_with_len}
-use Rattle.std.specs.Option.{option_map_or}
+use Rattle.std.specs.Option.{option_map_or, option_and_then}
 use Rattle.std.specs.Str.{bytes_eq}
-use Rattle.std.proofs.lemmas.Bool.{and_right, eqb-true, eqb-false, le-leb, ltb-true, lt-ltb}
+use Rattle.std.proofs.lemmas.Bool.{and_right, eqb-true, eqb-false, le-leb, leb-true, leb-false, ltb-true, lt-ltb}
+use Rattle.std.proofs.lemmas.List.FromFn.{length-range_with_len}
 use Rattle.std.proofs.lemmas.Slice.Eq.{bytes_eq-Decides}
 use Rattle.flow_types.specs.declared.plan.Plan.{Plan}
 use Rattle.flow_types.specs.declared.plan.FileRow.{FileRow}
 use Rattle.flow_types.specs.declared.numbers.Content.{Content}
 use Rattle.flow_types.specs.declared.records.Record.{Record}
 use Rattle.flow_types.specs.declared.records.Record.TheVariants as records
-use Rattle.flow_types.specs.Plans.{IsValid, is_empty, is_source, maker_of, makes, numbers, rule_numbers, sources_of, most_bytes}
+use Rattle.flow_types.specs.Plans.{IsValid, is_empty, is_source, maker_of, makes, numbers, file_numbers, rule_numbers, sources_of, most_bytes, most_files}
 use Rattle.flow_types.specs.Serial.{Contents, Function, serial}
 use Rattle.flow_types.proofs.SerialRun.{serial-source}
 use Rattle.run_history.specs.declared.options.Options.{Options}
@@ -24,12 +25,18 @@ use Rattle.run_history.specs.Legal.{is_allowed, is_legal, is_legal_from, is_numb
 use Rattle.run_history.specs.Laws.{IsPresent}
 use Rattle.run_history.proofs.Bools.{both}
 use Rattle.run_history.proofs.Steps.{part-push, outs-push, last_said-push, running-opened, running-is}
+use Rattle.run_history.specs.Answers.{or_else, where_so}
+use Rattle.log_records.specs.Spelling.{ListsFew}
 use Rattle.rule_graph.specs.Spelling.{plan_digest}
-use Rattle.outside.specs.Disk.{Outcomes}
+use Rattle.outside.specs.Disk.{Outcomes, IsImage}
 use Rattle.outside.specs.Files.{Files, content}
 use Rattle.file_store.specs.Outputs.{file_name}
-use Rattle.desk.specs.Kept.{Fits, FilesHold, Holds, logged}
-use Rattle.desk.specs.Openings.{AreDurable, AreRows, AreSound, opening, source_fault, source_row, source_rows}
+use Rattle.desk.specs.declared.answers.StartFault.{StartFault}
+use Rattle.desk.specs.declared.answers.StartFault.TheVariants as faults
+use Rattle.desk.specs.Kept.{Fits, FilesHold, Holds, Keeps, logged}
+use Rattle.desk.specs.Begins.{run_over}
+use Rattle.desk.specs.Openings.{AreDurable, AreRows, AreSound, LooksOver, Opens, early_fault, file_fault, full_log, opened_plan, opening, other_flow, source_fault, source_row, source_rows, state_fault}
+use Rattle.desk.proofs.Images.{files_hold}
 use Rattle.desk.proofs.Presents.{quiet_holds, row_of_state}
 
 -- ---- legality
@@ -158,3 +165,125 @@ opened_holds trust gives sources P H x rows states files outcomes valid more log
       subst (Holds c) (sym same) (sound_by f (files (file_name P f)) c fine (row_mapped (source_row P files) f (sources_of P) c row)),
       λ trusted. same ∙ honest trusted f source ∙ sym (serial-source P gives sources f valid source),
     )
+
+-- ---- what is so where nothing stands in the way
+
+none_first : {A : Type 0} (x rest : Option A) → or_else x rest ≡ None → x ≡ None
+none_first None rest is = refl
+none_first (Some a) rest is = is
+
+none_rest : {A : Type 0} (x rest : Option A) → or_else x rest ≡ None → rest ≡ None
+none_rest None rest is = is
+none_rest (Some a) rest is = absurd (true≢false (ap is_some is))
+
+not_mapped : {A B : Type 0} (f : A → B) (x : Option A) → option_map f x ≡ None → x ≡ None
+not_mapped f None is = refl
+not_mapped f (Some a) is = absurd (true≢false (ap is_some is))
+
+not_so : {A : Type 0} (t : Bool) (a : A) → where_so t a ≡ None → t ≡ false
+not_so true a is = absurd (true≢false (ap is_some is))
+not_so false a is = refl
+
+early_rest : (P : Plan) (H : List Record) → early_fault P H ≡ None
+    → or_else (option_map faults.NotLegal (first_illegal P (plan_digest P) H)) (or_else (where_so (nat_le full_log (length H)) (faults.LogFull (length H))) None) ≡ None
+early_rest P H is = none_rest (option_and_then (other_flow (plan_digest P)) (opened_plan H)) _ is
+
+-- the history is legal
+pub early_legal : (P : Plan) (H : List Record) → early_fault P H ≡ None → is_legal P (plan_digest P) H ≡ true
+early_legal P H is =
+    none_illegal P (plan_digest P) H (not_mapped faults.NotLegal (first_illegal P (plan_digest P) H) (none_first (option_map faults.NotLegal (first_illegal P (plan_digest P) H)) _ (early_rest P H is)))
+
+-- and the log has room
+pub early_room : (P : Plan) (H : List Record) → early_fault P H ≡ None → length H + 2 ≤ most_records
+early_room P H is =
+    let rest = none_rest (option_map faults.NotLegal (first_illegal P (plan_digest P) H)) _ (early_rest P H is) in
+    let free = not_so (nat_le full_log (length H)) (faults.LogFull (length H)) (none_first (where_so (nat_le full_log (length H)) (faults.LogFull (length H))) None rest) in
+    let few = leb-false full_log (length H) free in omega (arith, few)
+
+-- ---- the record
+
+one_less : (b : ℕ) (t : Bool) (x : ℕ) (xs : List ℕ) → length xs ≤ b → length (cond t (x ∷ xs) xs) ≤ b + 1
+one_less b true x xs le = omega (arith, le)
+one_less b false x xs le = omega (arith, le)
+
+filter_less : (p : ℕ → Bool) (xs : List ℕ) → length (filter p xs) ≤ length xs
+filter_less p [] = omega arith
+filter_less p (x ∷ xs) = let le = one_less (length xs) (p x) x (filter p xs) (filter_less p xs) in omega (arith, le)
+
+few_sources : (P : Plan) → IsValid P → length (sources_of P) ≤ 65536
+few_sources P valid =
+    let le = filter_less (is_source P) (file_numbers P) in let few = leb-true (length P.files) most_files valid.few_files in let long = length-range_with_len 0 (length P.files) in omega (arith, le, few, long)
+
+-- what holds of the record with which a run begins
+pub record IsOpening (P : Plan) (H : List Record) (x : Record) : Type 0 where
+  pub few : ListsFew x
+  pub allowed : is_allowed P (plan_digest P) H x ≡ true
+  pub goes_on : is_cleaned x ≡ false
+  pub places : has_places P (H ++ (x ∷ [])) 0 ≡ true
+
+opens_by : (P : Plan) (O : Options) (H : List Record) (first : Bool) (moment : ℕ) (tells : Type 0) (files : Files) (rows : List Content) → IsValid P → O.limit ≡ None → length H + 2 ≤ most_records → is_empty (part H) ≡ first
+    → (first ≡ true → AreRows P tells files (length P.files) rows) → IsOpening P H (opening P O (record { first = first; number = next_run H; moment = moment }) rows)
+opens_by P O H true moment tells files rows valid free few first are = record {
+  few = let many = (are refl).many in let le = few_sources P valid in omega (arith, many, le);
+  allowed = opened_allowed P O H moment rows tells files first (are refl) few;
+  goes_on = refl;
+  places = opening_places P H (opening P O (record { first = true; number = next_run H; moment = moment }) rows) refl refl few;
+}
+opens_by P O H false moment tells files rows valid free few later are = record {
+  few = omega arith;
+  allowed = resumed_allowed P O H moment rows free later few;
+  goes_on = refl;
+  places = opening_places P H (opening P O (record { first = false; number = next_run H; moment = moment }) rows) refl refl few;
+}
+
+pub opens_well : (P : Plan) (O : Options) (H : List Record) (moment : ℕ) (tells : Type 0) (files : Files) (x : Record) → IsValid P → O.limit ≡ None → length H + 2 ≤ most_records
+    → Opens P O (run_over H moment) tells files x → IsOpening P H x
+opens_well P O H moment tells files x valid free few opens =
+    subst (IsOpening P H) (sym opens.1) (opens_by P O H (is_empty (part H)) moment tells files opens.0 valid free few refl opens.2)
+
+-- ---- what the site has for it
+
+-- a site that begins a run: what each image keeps, and what holds of the sources before a first run
+pub record Ready (trust : Type 0) (gives : Function) (sources : Contents) (P : Plan) (log : List ℕ) (H : List Record) (old new : Outcomes) (files : Files) : Type 0 where
+  pub valid : IsValid P
+  pub reads : IsImage old files
+  pub kept : (image : Files) → IsImage old image → Keeps (Fits trust gives sources) P log H image
+  pub honest : trust → is_empty (part H) ≡ true → (f : ℕ) → is_source P f ≡ true → files (file_name P f) ≡ sources f
+  pub within : (name : List ℕ) (there : Option (List ℕ)) → new name there → old name there
+
+pub ready_files : (trust : Type 0) (gives : Function) (sources : Contents) (P : Plan) (log : List ℕ) (H : List Record) (old new : Outcomes) (files : Files) → Ready trust gives sources P log H old new files
+    → FilesHold (Fits trust gives sources) P H new
+ready_files trust gives sources P log H old new files ready f content present there left =
+    files_hold (Fits trust gives sources) P log H old files ready.reads ready.kept f content present there (ready.within (file_name P f) there left)
+
+ready_by : (trust : Type 0) (gives : Function) (sources : Contents) (P : Plan) (O : Options) (log : List ℕ) (H : List Record) (first : Bool) (moment : ℕ) (rows : List Content) (states : ℕ → FileState) (old new : Outcomes) (files : Files)
+    → is_empty (part H) ≡ first → (tells : Type 0) → tells → (first ≡ true → AreRows P tells files (length P.files) rows) → AreSound P first states files (length P.files)
+    → (first ≡ true → AreDurable P files (length P.files) new) → Ready trust gives sources P log H old new files
+    → FilesHold (Fits trust gives sources) P (H ++ (opening P O (record { first = first; number = next_run H; moment = moment }) rows ∷ [])) new
+ready_by trust gives sources P O log H true moment rows states old new files first tells told are sound durable ready =
+    opened_holds trust gives sources P H (opening P O (record { first = true; number = next_run H; moment = moment }) rows) rows states files new ready.valid refl refl (λ r. refl) first ((are refl).exact told) sound (durable refl)
+    (λ trusted. ready.honest trusted first)
+ready_by trust gives sources P O log H false moment rows states old new files later tells told are sound durable ready =
+    quiet_holds (Fits trust gives sources) P H (opening P O (record { first = false; number = next_run H; moment = moment }) rows) new refl refl (λ r. refl) (ready_files trust gives sources P log H old new files ready)
+
+pub ready_next : (trust : Type 0) (gives : Function) (sources : Contents) (P : Plan) (O : Options) (log : List ℕ) (H : List Record) (moment : ℕ) (x : Record) (states : ℕ → FileState) (old new : Outcomes) (files : Files)
+    (tells : Type 0) → tells → Opens P O (run_over H moment) tells files x → AreSound P (is_empty (part H)) states files (length P.files)
+    → (is_empty (part H) ≡ true → AreDurable P files (length P.files) new) → Ready trust gives sources P log H old new files
+    → FilesHold (Fits trust gives sources) P (H ++ (x ∷ [])) new
+ready_next trust gives sources P O log H moment x states old new files tells told opens sound durable ready =
+    subst (λ (y : Record). FilesHold (Fits trust gives sources) P (H ++ (y ∷ [])) new) (sym opens.1)
+    (ready_by trust gives sources P O log H (is_empty (part H)) moment opens.0 states old new files refl tells told opens.2 sound durable ready)
+
+-- ---- the same by other states that agree
+
+pub sound_same : (P : Plan) (first : Bool) (s t : ℕ → FileState) (files : Files) (n : ℕ) → ((f : ℕ) → s f ≡ t f) → AreSound P first s files n → AreSound P first t files n
+sound_same P true s t files n same sound f inside = sound f inside
+sound_same P false s t files n same sound f inside = ap (λ state. state_fault (is_source P f) f state (files (file_name P f))) (sym (same f)) ∙ sound f inside
+
+fault_at : (P : Plan) (first : Bool) (s t : ℕ → FileState) (files : Files) (f : ℕ) (why : StartFault) → ((f : ℕ) → s f ≡ t f) → file_fault P first s files f ≡ Some why → file_fault P first t files f ≡ Some why
+fault_at P true s t files f why same is = is
+fault_at P false s t files f why same is = ap (λ state. state_fault (is_source P f) f state (files (file_name P f))) (sym (same f)) ∙ is
+
+pub looks_same : (P : Plan) (first : Bool) (s t : ℕ → FileState) (files : Files) (why : StartFault) → ((f : ℕ) → s f ≡ t f)
+    → LooksOver P first s files (let found : Result (Unit {0}) StartFault = Err why in found) → LooksOver P first t files (let found : Result (Unit {0}) StartFault = Err why in found)
+looks_same P first s t files why same found = (found.0, found.1, fault_at P first s t files found.0 why same found.2, sound_same P first s t files found.0 same found.3)

@@ -75,7 +75,7 @@ moves_logged base ss H x le are =
 pub drop_woven : (base : ℕ) (ss : List Step) (H : List Record) (x : Record) → base ≤ length H → AreWoven ss (drop base H) → AreWoven (ss ++ (steps.Logged ∷ [])) (drop base (H ++ (x ∷ [])))
 drop_woven base ss H x le are = subst (AreWoven (ss ++ (steps.Logged ∷ []))) (sym (drop_more base H x le)) (logged_woven ss (drop base H) x are)
 
-none_left : (H : List Record) → AreWoven [] (drop (length H) H)
+pub none_left : (H : List Record) → AreWoven [] (drop (length H) H)
 none_left [] = tt
 none_left (x ∷ H) = none_left H
 

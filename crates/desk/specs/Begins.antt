@@ -8,6 +8,8 @@ use Rattle.run_history.specs.declared.moves.Move.TheVariants as moves
 use Rattle.run_history.specs.History.{part, next_run}
 use Rattle.run_history.specs.States.{file_state}
 use Rattle.outside.specs.Files.{Files}
+use Rattle.task_core.specs.States.{TableState}
+use Rattle.task_core.specs.Stands.{Stands}
 use Rattle.desk.specs.declared.openings.Run.{Run}
 use Rattle.desk.specs.declared.answers.Trouble.TheVariants as trouble
 use Rattle.desk.specs.declared.answers.StartFault.{StartFault}
@@ -66,6 +68,12 @@ BeginsRun {S} P O log first H moment tells files old (Ok d) =
     (early_fault P H ≡ None) × (tells → FindsFiles P H files (let found : Result (Unit {0}) StartFault = Ok tt in found))
     × ((x : Record) × Opens P O (run_over H moment) tells files x × Begins P O log first H x (let begun : Result (DeskState S) (StartRefused S) = Ok d in begun))
 BeginsRun {S} P O log first H moment tells files old (Err refused) = (refused.history ≡ H) × IsRefusal P H first tells files old refused.site refused.why
+
+-- The table of a run over this history, which has to be legal and of the same plan, with room in the log.
+abbrev pub Admits : Plan → Options → List Record → Result TableState StartFault → Type 0
+Admits P O H (Ok t) = (early_fault P H ≡ None) × (t.plan ≡ P) × (t.options ≡ O) × (t.stop ≡ None) × Stands t (map moves.Logged H)
+Admits P O H (Err faults.Memory) = Unit {0}
+Admits P O H (Err why) = early_fault P H ≡ Some why
 
 -- The image keeps the history, or the history and a record with which the run begins.
 abbrev pub KeepsOpening : Test → Plan → Options → List ℕ → List Record → ℕ → Type 0 → Files → Files → Type 0

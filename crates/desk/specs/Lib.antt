@@ -7,3 +7,4 @@ pub mod Begins
 pub mod Inputs
 pub mod Sources
 pub mod Openings
+pub mod Follows

@@ -1,6 +1,7 @@
 //! What a desk answers.
+use crate::attempt::Attempt;
 use flow_types::{Content, Digest, FileNo, Record, Rows, RuleNo};
-use run_history::{Found, RuleState};
+use run_history::{Found, Nothing, RuleState};
 
 /// Whether a desk works. The first fault of its site, or want of memory, ends its work for good.
 #[derive(Clone, Copy, Debug, PartialEq, Eq)]
@@ -19,6 +20,12 @@ pub enum CloseRefused {
     /// The site failed, in this call or in an earlier one.
     Broken { before: u64, after: u64 },
     Memory,
+}
+
+/// What a claim answers: the attempt that was started, or why there is none.
+pub enum Claim {
+    Taken(Attempt),
+    Nothing(Nothing),
 }
 
 /// Why a claim isn't answered.

@@ -1,9 +1,10 @@
 //! The desk.
-ghost use Rattle.std.specs.Prelude.{◌≡◌, ◌≢◌, ◌≤◌, ◌<◌, ◌++◌, ◌∷◌, [], ℕ, List, length, Option, Some, OnOk, IfOk, Ok, true, false, slice_get, map};
+ghost use Rattle.std.specs.Prelude.{◌≡◌, ◌≢◌, ◌≤◌, ◌<◌, ◌++◌, ◌∷◌, [], ℕ, List, length, Option, Some, OnOk, IfOk, Ok, true, false, slice_get, map, None};
 ghost use Rattle.flow_types.specs.declared.plan.Rule.{Rule};
 ghost use Rattle.flow_types.specs.declared.records.Record.TheVariants as entries;
 ghost use Rattle.flow_types.specs.Plans.{IsValid, is_empty, makes};
 ghost use Rattle.flow_types.specs.Serial.{job_of, serial};
+ghost use Rattle.run_history.specs.declared.moves.Move.TheVariants as moves;
 ghost use Rattle.run_history.specs.History.{is_cleaned, next_attempt, part};
 ghost use Rattle.run_history.specs.Legal.{is_allowed, is_failure_at, has_places, runs};
 ghost use Rattle.run_history.specs.Answers.{claim_of};
@@ -17,7 +18,10 @@ ghost use Rattle.outside.specs.Files.{Files};
 ghost use Rattle.txn_log.specs.Logs.{IsAt, most_records};
 ghost use Rattle.file_store.specs.Outputs.{file_name, Last, StayBeside, DifferByName};
 ghost use Rattle.desk.specs.Begins.{Begins, site_in};
-ghost use Rattle.desk.specs.Claims.{Starts};
+ghost use Rattle.task_core.specs.Stands.{Stands};
+ghost use Rattle.task_core.specs.Surveys.{claimed};
+ghost use Rattle.desk.specs.Claims.{Claims, KeepsClaim, Starts, Works};
+ghost use Rattle.desk.specs.Follows.{Follows, IsShaped};
 ghost use Rattle.desk.specs.Inputs.{IsWhole, Looks, Tells};
 ghost use Rattle.desk.specs.Kept.{Fits, IsLegal, Keeps, WasKept, FilesHold, KeepsEither, logged};
 ghost use Rattle.desk.specs.State.{AreNamed, AreOutputs, CanLose, CanWrite, Checks, Closes, IsCut, IsDue, IsFine, Records, Takes, Writes, closed, is_final};
@@ -25,16 +29,20 @@ ghost use Rattle.desk.specs.State.{AreNamed, AreOutputs, CanLose, CanWrite, Chec
 use crate::attempt::Attempt;
 use crate::contents::store_outputs;
 use crate::entry::log_entry;
+use crate::follow::follow;
 use crate::inputs::read_logged;
 use crate::seen::look;
 use crate::starts::next_attempt;
 use crate::step::Step;
-use crate::{ClaimRefused, CloseRefused, InputRefused, StartFault, StartRefused, Terms, Trouble};
-use flow_types::{AttemptNo, Bytes, Content, Failure, FileNo, LinkNo, Plan, Record, Rows, RuleNo};
+use crate::{
+    Claim, ClaimRefused, CloseRefused, InputRefused, StartFault, StartRefused, Terms, Trouble,
+};
+use flow_types::{AttemptNo, Bytes, Content, Failure, FileNo, LinkNo, Record, Rows, RuleNo};
 use outside::{Commands, Fault, Site};
-use run_history::{Next, Options, Stop};
+use run_history::{Next, Nothing};
 use std::alloc::Global;
 use std::marker::{Model, PhantomData};
+use task_core::Table;
 use txn_log::Log;
 
 /// The desk: the plan, the log, the files of its site and the moves so far, which it keeps in agreement.
@@ -44,8 +52,8 @@ use txn_log::Log;
 #[derive(Drop)]
 pub struct Desk<F: Commands, S: Site, T: Terms> {
     alloc: Global,
-    plan: Plan,
-    options: Options,
+    // What the records and links come to; it has the plan, the options and the stop.
+    table: Table,
     log: Log,
     // How many records stood at the start, and how often the site had failed.
     base: usize,
@@ -53,7 +61,6 @@ pub struct Desk<F: Commands, S: Site, T: Terms> {
     records: Vec<Record>,
     // What was done since the start.
     steps: Vec<Step>,
-    stop: Option<Stop>,
     trouble: Trouble,
     site: S,
     of: PhantomData<(F, T)>,
@@ -64,17 +71,18 @@ impl<F: Commands, S: Site, T: Terms> Model for Desk<F, S, T> {
     ghost use Rattle.desk.specs.State.{DeskState, IsDesk};
     ghost use Rattle.desk.specs.Kept.{Fits};
     ghost use Rattle.desk.specs.Woven.{moves_of, AreWoven};
+    ghost use Rattle.task_core.specs.Stands.{Stands};
 
     ghost Value = { DeskState S };
 
     ghost view = { λ d. record {
-      plan = d.plan;
-      options = d.options;
+      plan = d.table.plan;
+      options = d.table.options;
       log = d.log.name;
       base = d.base;
       faults = d.faults;
       moves = moves_of d.base d.steps.items d.records.items;
-      stop = d.stop;
+      stop = d.table.stop;
       trouble = d.trouble;
       site = d.site;
     } };
@@ -82,24 +90,24 @@ impl<F: Commands, S: Site, T: Terms> Model for Desk<F, S, T> {
     ghost invariant = { λ d. AreWoven d.steps.items (drop d.base d.records.items)
         × IsDesk (Fits T.trust F.gives T.sources) S.tells T.kept S.may_leave S.moment S.images_since S.count T.born d.log
         (record {
-          plan = d.plan;
-          options = d.options;
+          plan = d.table.plan;
+          options = d.table.options;
           log = d.log.name;
           base = d.base;
           faults = d.faults;
           moves = moves_of d.base d.steps.items d.records.items;
-          stop = d.stop;
+          stop = d.table.stop;
           trouble = d.trouble;
           site = d.site;
-        }) };
+        })
+        × Stands d.table (moves_of d.base d.steps.items d.records.items) };
 }
 
 impl<F: Commands, S: Site, T: Terms> Desk<F, S, T> {
     /// Begins a desk with a record that may stand behind the history, over a site that has the files of both.
     pub(crate) fn begin(
         alloc: Global,
-        plan: Plan,
-        options: Options,
+        table: Table,
         site: S,
         log: Log,
         history: Rows<Record>,
@@ -111,23 +119,25 @@ impl<F: Commands, S: Site, T: Terms> Desk<F, S, T> {
         requires place { length history < most_records }
         requires gate { S.tells → IsAt history log.gate (S.may_leave site log.name) }
         requires faults { faults ≤ S.count site }
-        requires valid { IsValid plan }
-        requires apart { (f : ℕ) → file_name plan f ≢ log.name }
-        requires legal { IsLegal plan history }
-        requires allowed { is_allowed plan (plan_digest plan) history entry ≡ true }
+        requires valid { IsValid table.plan }
+        requires stands { Stands table (map moves.Logged history ++ moves.Logged entry ∷ []) }
+        requires no_stop { table.stop ≡ None }
+        requires apart { (f : ℕ) → file_name table.plan f ≢ log.name }
+        requires legal { IsLegal table.plan history }
+        requires allowed { is_allowed table.plan (plan_digest table.plan) history entry ≡ true }
         requires goes_on { is_cleaned entry ≡ false }
-        requires places { has_places plan (history ++ entry ∷ []) 0 ≡ true }
-        requires files { S.tells → T.kept → FilesHold (Fits T.trust F.gives T.sources) plan
+        requires places { has_places table.plan (history ++ entry ∷ []) 0 ≡ true }
+        requires files { S.tells → T.kept → FilesHold (Fits T.trust F.gives T.sources) table.plan
             history (S.may_leave site) }
-        requires next_files { S.tells → T.kept → FilesHold (Fits T.trust F.gives T.sources) plan
+        requires next_files { S.tells → T.kept → FilesHold (Fits T.trust F.gives T.sources) table.plan
             (history ++ entry ∷ []) (S.may_leave site) }
         requires later { S.tells → T.kept → T.born ≤ S.moment site }
         requires since { S.tells → T.kept → (image : Files) → S.images_since site T.born image
-            → Keeps (Fits T.trust F.gives T.sources) plan log.name history image }
-        ensures reply { Begins plan options log.name faults history entry result }
+            → Keeps (Fits T.trust F.gives T.sources) table.plan log.name history image }
+        ensures reply { Begins table.plan table.options log.name faults history entry result }
         ensures any_moment { S.tells → T.kept
             → LeavesOnly S.moment S.images_since site (site_in result)
-            (KeepsEither (Fits T.trust F.gives T.sources) plan log.name history entry) }
+            (KeepsEither (Fits T.trust F.gives T.sources) table.plan log.name history entry) }
     {
         let mut site = site;
         let mut log = log;
@@ -137,14 +147,12 @@ impl<F: Commands, S: Site, T: Terms> Desk<F, S, T> {
         match log_entry(&mut site, &mut log, &mut records, &mut steps, entry) {
             Ok(()) => Ok(Desk {
                 alloc,
-                plan,
-                options,
+                table,
                 log,
                 base,
                 faults,
                 records,
                 steps,
-                stop: None,
                 trouble: Trouble::Fine,
                 site,
                 of: PhantomData,
@@ -223,6 +231,8 @@ impl<F: Commands, S: Site, T: Terms> Desk<F, S, T> {
         requires allowed { is_allowed self.old.plan (plan_digest self.old.plan)
             (records_of self.old.moves) entry ≡ true }
         requires goes_on { is_cleaned entry ≡ false }
+        requires shaped { IsShaped self.old.plan entry }
+        requires follows { Follows self.old.plan self.old.options self.old.stop self.old.moves entry }
         requires places { has_places self.old.plan (records_of self.old.moves ++ entry ∷ []) 0
             ≡ true }
         requires files { S.tells → T.kept → FilesHold (Fits T.trust F.gives T.sources) self.old.plan
@@ -240,7 +250,10 @@ impl<F: Commands, S: Site, T: Terms> Desk<F, S, T> {
             &mut self.steps,
             entry,
         ) {
-            Ok(()) => Ok(()),
+            Ok(()) => {
+                follow(&mut self.table, &self.records[self.records.len() - 1]);
+                Ok(())
+            }
             Err(Fault::Failed) => {
                 let before = self.faults;
                 let after = self.site.faults();
@@ -279,7 +292,7 @@ impl<F: Commands, S: Site, T: Terms> Desk<F, S, T> {
         match store_outputs(
             self.alloc,
             &mut self.site,
-            &self.plan,
+            self.table.plan(),
             rule,
             outs.as_slice(),
         ) {
@@ -423,6 +436,50 @@ impl<F: Commands, S: Site, T: Terms> Desk<F, S, T> {
         }
     }
 
+    /// Whether the desk works, for a claim.
+    fn working(&self) -> Result<(), ClaimRefused>
+        ensures { Works self.now result }
+    {
+        match self.trouble {
+            Trouble::Fine => Ok(()),
+            Trouble::Broken { before, after } => Err(ClaimRefused::Broken { before, after }),
+            Trouble::Wants => Err(ClaimRefused::Memory),
+        }
+    }
+
+    /// The rule that a claim for the link takes, or why there is none.
+    fn chosen(&self, link: LinkNo) -> Result<RuleNo, Nothing>
+        ensures chosen { claimed result ≡ claim_of self.now.plan self.now.options self.now.moves self.now.stop
+            link.0 }
+        ensures still { S.tells → T.kept → IsFine self.now.trouble
+            → LeavesOnly S.moment S.images_since self.now.site self.now.site
+            (Keeps (Fits T.trust F.gives T.sources) self.now.plan self.now.log
+            (records_of self.now.moves)) }
+    {
+        self.table.choice(link)
+    }
+
+    /// Starts the least rule that may run on the link and fits, or answers why there is none. Condition: the link lives.
+    pub fn claim(&mut self, link: LinkNo, moment: u64) -> Result<Claim, ClaimRefused>
+        requires lives { is_live self.old.options self.old.moves link.0 ≡ true }
+        ensures reply { Claims self.old link moment result self.new }
+        ensures any_moment { S.tells → T.kept → IsFine self.old.trouble
+            → LeavesOnly S.moment S.images_since self.old.site self.new.site
+            (KeepsClaim (Fits T.trust F.gives T.sources) self.old link moment) }
+    {
+        match self.working() {
+            Ok(()) => {}
+            Err(why) => return Err(why),
+        }
+        match self.chosen(link) {
+            Ok(rule) => match self.take(rule, link, moment) {
+                Ok(attempt) => Ok(Claim::Taken(attempt)),
+                Err(why) => Err(why),
+            },
+            Err(why) => Ok(Claim::Nothing(why)),
+        }
+    }
+
     /// The content of a file that is present, as it was logged, or what stands in its place.
     pub(crate) fn read_present(
         &mut self,
@@ -448,7 +505,7 @@ impl<F: Commands, S: Site, T: Terms> Desk<F, S, T> {
             Trouble::Broken { before, after } => return Err(InputRefused::Broken { before, after }),
             Trouble::Wants => return Err(InputRefused::Memory),
         }
-        let row = &self.plan.files.as_slice()[file.0 as usize];
+        let row = &self.table.plan().files.as_slice()[file.0 as usize];
         match read_logged(alloc, &mut self.site, &row.name, logged) {
             Ok(Ok(bytes)) => Ok(bytes),
             Ok(Err(found)) => Err(InputRefused::Damaged {
@@ -478,14 +535,12 @@ impl<F: Commands, S: Site, T: Terms> Desk<F, S, T> {
     {
         let Desk {
             alloc: _,
-            plan: _,
-            options: _,
+            table: _,
             log: _,
             base: _,
             faults: _,
             records,
             steps: _,
-            stop: _,
             trouble: _,
             site,
             of: _,

@@ -7,6 +7,7 @@ mod contents;
 mod desk;
 mod entry;
 mod files;
+mod follow;
 mod inputs;
 mod openings;
 mod seen;
@@ -15,7 +16,9 @@ mod starts;
 mod step;
 mod terms;
 
-pub use answers::{ClaimRefused, CloseRefused, InputRefused, StartFault, StartRefused, Trouble};
+pub use answers::{
+    Claim, ClaimRefused, CloseRefused, InputRefused, StartFault, StartRefused, Trouble,
+};
 pub use attempt::Attempt;
 pub use desk::Desk;
 pub use terms::Terms;

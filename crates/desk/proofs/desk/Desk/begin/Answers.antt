@@ -1,8 +1,12 @@
-use Rattle.std.proofs.Common.{◌≡◌, ◌∙◌, List, length, sym, subst, refl, arith}
+use Rattle.std.proofs.Common.{◌≡◌, ◌∙◌, ◌++◌, ◌∷◌, [], List, length, map, ap, sym, subst, refl, arith}
 use Rattle.flow_types.specs.declared.records.Record.{Record}
 use Rattle.outside.specs.Disk.{LeavesOnly}
 use Rattle.txn_log.specs.Logs.{IsAt, IsAppended}
 use Rattle.desk.specs.Kept.{Fits}
+use Rattle.run_history.specs.declared.moves.Move.{Move}
+use Rattle.run_history.specs.declared.moves.Move.TheVariants as moves
+use Rattle.task_core.specs.Stands.{Stands}
+use Rattle.desk.proofs.Following.{moves_first, moves_none}
 use Rattle.desk.proofs.Woven.{first_woven, moves_records}
 use Rattle.desk.proofs.Keeping.{MayBegin, beginning, begun}
 use Rattle.desk.proofs.desk.Desk.begin.Goals as goal
@@ -10,7 +14,7 @@ use Rattle.desk.proofs.desk.Desk.begin.Goals as goal
 pub invariant_of-result : goal.invariant_of-result
 invariant_of-result g c =
     let H = c.into_vec-records.result.items in
-    let may = subst (λ (l : List Record). MayBegin (Fits g.T.Terms.trust g.F.Commands.gives g.T.Terms.sources) g.S.Site.tells g.T.Terms.kept g.S.Site.may_leave g.S.Site.moment g.S.Site.images_since g.T.Terms.born c.args.plan c.args.log.name l c.args.entry c.args.site) (sym c.into_vec-records.ensures)
+    let may = subst (λ (l : List Record). MayBegin (Fits g.T.Terms.trust g.F.Commands.gives g.T.Terms.sources) g.S.Site.tells g.T.Terms.kept g.S.Site.may_leave g.S.Site.moment g.S.Site.images_since g.T.Terms.born c.args.table.plan c.args.log.name l c.args.entry c.args.site) (sym c.into_vec-records.ensures)
     (record {
       valid = c.requires.valid;
       apart = c.requires.apart;
@@ -31,11 +35,13 @@ invariant_of-result g c =
           (omega (arith, c.requires.faults, c.log_entry.ensures.cause.later))
           (subst (λ (l : List Record). g.S.Site.tells → IsAt l c.args.log.gate (g.S.Site.may_leave c.args.site c.args.log.name)) (sym c.into_vec-records.ensures) c.requires.gate)
           c.log_entry.ensures.any_moment c.in-Ok.ensures.takes c.log_entry.ensures.name c.in-Ok.ensures.gate c.log_entry.ensures.crash,
+      subst (Stands c.args.table) (sym (moves_first c.len-base.result c.new-steps.result.items c.log_entry.new.steps.items H c.log_entry.new.records.items c.args.entry base_is c.new-steps.ensures.items c.in-Ok.ensures.ok
+          ∙ ap (λ (l : List Move). l ++ (moves.Logged c.args.entry ∷ [])) (moves_none c.len-base.result H base_is ∙ ap (map moves.Logged) c.into_vec-records.ensures))) c.requires.stands,
     )
 
 pub returns-in-Ok-clause-any_moment : goal.returns-in-Ok-clause-any_moment
 returns-in-Ok-clause-any_moment g c told kept =
-    beginning (Fits g.T.Terms.trust g.F.Commands.gives g.T.Terms.sources) g.S.Site.tells g.T.Terms.kept g.S.Site.may_leave g.S.Site.moment g.S.Site.images_since g.S.Site.count g.T.Terms.born c.args.plan c.args.log c.args.history c.args.entry c.args.site c.log_entry.new.site
+    beginning (Fits g.T.Terms.trust g.F.Commands.gives g.T.Terms.sources) g.S.Site.tells g.T.Terms.kept g.S.Site.may_leave g.S.Site.moment g.S.Site.images_since g.S.Site.count g.T.Terms.born c.args.table.plan c.args.log c.args.history c.args.entry c.args.site c.log_entry.new.site
     (record {
       valid = c.requires.valid;
       apart = c.requires.apart;
@@ -54,7 +60,7 @@ returns-in-Ok-clause-any_moment g c told kept =
 
 pub returns-in-Err-Failed-clause-any_moment : goal.returns-in-Err-Failed-clause-any_moment
 returns-in-Err-Failed-clause-any_moment g c told kept =
-    beginning (Fits g.T.Terms.trust g.F.Commands.gives g.T.Terms.sources) g.S.Site.tells g.T.Terms.kept g.S.Site.may_leave g.S.Site.moment g.S.Site.images_since g.S.Site.count g.T.Terms.born c.args.plan c.args.log c.args.history c.args.entry c.args.site c.log_entry.new.site
+    beginning (Fits g.T.Terms.trust g.F.Commands.gives g.T.Terms.sources) g.S.Site.tells g.T.Terms.kept g.S.Site.may_leave g.S.Site.moment g.S.Site.images_since g.S.Site.count g.T.Terms.born c.args.table.plan c.args.log c.args.history c.args.entry c.args.site c.log_entry.new.site
     (record {
       valid = c.requires.valid;
       apart = c.requires.apart;
@@ -73,7 +79,7 @@ returns-in-Err-Failed-clause-any_moment g c told kept =
 
 pub returns-clause-any_moment : goal.returns-clause-any_moment
 returns-clause-any_moment g c told kept =
-    beginning (Fits g.T.Terms.trust g.F.Commands.gives g.T.Terms.sources) g.S.Site.tells g.T.Terms.kept g.S.Site.may_leave g.S.Site.moment g.S.Site.images_since g.S.Site.count g.T.Terms.born c.args.plan c.args.log c.args.history c.args.entry c.args.site c.log_entry.new.site
+    beginning (Fits g.T.Terms.trust g.F.Commands.gives g.T.Terms.sources) g.S.Site.tells g.T.Terms.kept g.S.Site.may_leave g.S.Site.moment g.S.Site.images_since g.S.Site.count g.T.Terms.born c.args.table.plan c.args.log c.args.history c.args.entry c.args.site c.log_entry.new.site
     (record {
       valid = c.requires.valid;
       apart = c.requires.apart;

@@ -26,3 +26,10 @@ returns-clause-next g c =
     c.next.ensures (records_of c.record.new.self.moves) c.args.attempt.rule.0
     (subst (λ (H : List Record). IsSeen H c.args.attempt.rule.0 c.look.result)
     (c.deref.ensures.value ∙ sym (moves_records c.self.inside.base c.self.inside.steps.items c.self.inside.records.items c.self.invariant.0) ∙ ap (λ (v : DeskState g.row.S.Denot). records_of v.moves) c.self.view_is) c.look.ensures)
+
+pub record-requires-clause-shaped : goal.record-requires-clause-shaped
+record-requires-clause-shaped g c κs within = (c.requires.rule, c.requires.index)
+
+pub record-requires-clause-follows : goal.record-requires-clause-follows
+record-requires-clause-follows g c κs within =
+    runs_from c.args.self.now.plan (records_of c.args.self.now.moves) c.args.attempt.rule.0 c.args.attempt.number.0 c.args.attempt.link.0 c.requires.rule c.in_ok-check.ensures.reply.1

@@ -1,4 +1,4 @@
-use Rattle.std.proofs.Common.{◌≡◌, ◌∙◌, ◌++◌, ◌∷◌, [], length, true, ap, sym, subst, refl, arith}
+use Rattle.std.proofs.Common.{◌≡◌, ◌∙◌, List, ◌++◌, ◌∷◌, [], length, true, ap, sym, subst, refl, arith}
 use Rattle.std.proofs.lemmas.List.{length-map}
 use Rattle.flow_types.specs.Plans.{makes}
 use Rattle.run_history.specs.Legal.{has_places}
@@ -6,6 +6,8 @@ use Rattle.std.specs.Prelude.{slice_get}
 use Rattle.flow_types.specs.declared.records.Record.TheVariants as entries
 use Rattle.run_history.specs.Links.{records_of}
 use Rattle.desk.specs.Kept.{Fits, FilesHold, logged}
+use Rattle.flow_types.specs.declared.numbers.Content.{Content}
+use Rattle.desk.specs.Follows.{Follows, IsShaped}
 use Rattle.desk.specs.State.{DeskState}
 use Rattle.desk.proofs.Outputs.{can_write, count_outs, differ_by_name, outputs_differ, done_holds, done_adds, files_stay, honest_at, few_outputs}
 use Rattle.desk.proofs.Presents.{runs_from}
@@ -49,3 +51,16 @@ record-requires-clause-files g c κs within =
     (λ trusted. honest_at d.plan g.F.Commands.gives g.T.Terms.sources r c.args.outs.now (slice_get d.plan.rules r) refl c.check.ensures.valid (c.requires.honest trusted) (outputs_differ d.plan r c.check.ensures.valid))
     (files_stay (Fits g.T.Terms.trust g.F.Commands.gives g.T.Terms.sources) d (makes d.plan r) (g.S.Site.may_leave d.site) (g.S.Site.may_leave new.site) c.check.ensures.named can (c.check.ensures.files told kept c.in_ok-check.ensures.reply.0) (c.write_outs.ensures.crash told))
     (c.in_ok-rows.ensures.written told))
+
+pub record-requires-clause-shaped : goal.record-requires-clause-shaped
+record-requires-clause-shaped g c κs within =
+    let entry = entries.Done c.args.moment c.args.attempt.rule c.args.attempt.number c.in_ok-rows.rows in
+    subst (λ (v : DeskState g.row.S.Denot). IsShaped v.plan entry) (sym c.in_ok-rows.ensures.reply)
+    (subst (λ (rows : List Content). IsShaped c.args.self.now.plan (entries.Done c.args.moment c.args.attempt.rule c.args.attempt.number rows)) (sym c.in_ok-rows.ensures.rows)
+    (c.requires.rule, c.requires.outputs.within, c.requires.outputs.together))
+
+pub record-requires-clause-follows : goal.record-requires-clause-follows
+record-requires-clause-follows g c κs within =
+    let entry = entries.Done c.args.moment c.args.attempt.rule c.args.attempt.number c.in_ok-rows.rows in
+    subst (λ (v : DeskState g.row.S.Denot). Follows v.plan v.options v.stop v.moves entry) (sym c.in_ok-rows.ensures.reply)
+    (runs_from c.args.self.now.plan (records_of c.args.self.now.moves) c.args.attempt.rule.0 c.args.attempt.number.0 c.args.attempt.link.0 c.requires.rule c.in_ok-check.ensures.reply.1)

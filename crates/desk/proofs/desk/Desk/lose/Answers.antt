@@ -16,3 +16,10 @@ record-requires-clause-places g c κs within =
     lost_places c.args.self.now.plan (records_of c.args.self.now.moves) c.args.moment c.args.attempt.rule c.args.attempt.number
     (runs_from c.args.self.now.plan (records_of c.args.self.now.moves) c.args.attempt.rule.0 c.args.attempt.number.0 c.args.attempt.link.0 c.requires.rule c.in_ok-check.ensures.reply.1)
     c.check.ensures.places
+
+pub record-requires-clause-shaped : goal.record-requires-clause-shaped
+record-requires-clause-shaped g c κs within = c.requires.rule
+
+pub record-requires-clause-follows : goal.record-requires-clause-follows
+record-requires-clause-follows g c κs within =
+    runs_from c.args.self.now.plan (records_of c.args.self.now.moves) c.args.attempt.rule.0 c.args.attempt.number.0 c.args.attempt.link.0 c.requires.rule c.in_ok-check.ensures.reply.1

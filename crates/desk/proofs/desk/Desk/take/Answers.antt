@@ -59,3 +59,10 @@ pub returns-in-Err-Memory-clause-any_moment : goal.returns-in-Err-Memory-clause-
 returns-in-Err-Memory-clause-any_moment g c told kept =
     subst (λ (n : AttemptNo). LeavesOnly g.S.Site.moment g.S.Site.images_since c.args.self.now.site c.record.new.self.site (KeepsEither (Fits g.T.Terms.trust g.F.Commands.gives g.T.Terms.sources) c.args.self.now.plan c.args.self.now.log (records_of c.args.self.now.moves) (entries.Started c.args.moment c.args.rule n c.args.link)))
     c.next_number-number.ensures.number (c.record.ensures.any_moment told kept)
+
+pub record-requires-clause-follows : goal.record-requires-clause-follows
+record-requires-clause-follows g c κs within = (
+  c.next_number-number.ensures.opened,
+  c.requires.chosen,
+  ap (λ (n : AttemptNo). n.0) c.next_number-number.ensures.number,
+)

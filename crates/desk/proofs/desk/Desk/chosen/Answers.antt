@@ -1,0 +1,19 @@
+use Rattle.std.proofs.Common.{◌≡◌, ◌∙◌, sym, subst}
+use Rattle.outside.specs.Disk.{LeavesOnly}
+use Rattle.run_history.specs.Links.{records_of}
+use Rattle.run_history.specs.Answers.{claim_of}
+use Rattle.task_core.specs.Surveys.{claimed}
+use Rattle.desk.specs.Kept.{Fits, Keeps}
+use Rattle.desk.specs.State.{DeskState, IsFine}
+use Rattle.desk.proofs.Keeping.{resting}
+use Rattle.desk.proofs.desk.Desk.chosen.Goals as goal
+
+pub returns-clause-chosen : goal.returns-clause-chosen
+returns-clause-chosen g c =
+    subst (λ (v : DeskState g.row.S.Denot). claimed c.choice.result ≡ claim_of v.plan v.options v.moves v.stop c.args.link.0) c.self.view_is (c.choice.ensures _ c.self.invariant.2)
+
+pub returns-clause-still : goal.returns-clause-still
+returns-clause-still g c told kept fine =
+    subst (λ (v : DeskState g.row.S.Denot). LeavesOnly g.S.Site.moment g.S.Site.images_since v.site v.site (Keeps (Fits g.T.Terms.trust g.F.Commands.gives g.T.Terms.sources) v.plan v.log (records_of v.moves))) c.self.view_is
+    (resting (Fits g.T.Terms.trust g.F.Commands.gives g.T.Terms.sources) g.S.Site.tells g.T.Terms.kept g.S.Site.may_leave g.S.Site.moment g.S.Site.images_since g.S.Site.count g.T.Terms.born _ c.self.inside.log c.self.invariant.1 (subst (λ (v : DeskState g.row.S.Denot). IsFine v.trouble) (sym c.self.view_is) fine)
+    (λ t. (g.met.S.Site g.world.𝓛 g.world.𝓜 g.world.𝓡 ((λ s x. x), (λ x. x), (λ x. x), λ x. x)).only_now t _) (told, kept))
