@@ -1,5 +1,5 @@
 //! The state of each file.
-ghost use Rattle.std.specs.Prelude.{◌≡◌, ◌<◌, ◌+◌, ◌++◌, ◌∷◌, [], length, slice_get, slice_set, List, Some, IfOk, is_none, true, false};
+ghost use Rattle.std.specs.Prelude.{◌≡◌, ◌<◌, ◌+◌, ◌++◌, ◌∷◌, [], length, replicate, slice_get, slice_set, List, Some, IfOk, is_none, true, false};
 ghost use Rattle.flow_types.specs.declared.numbers.Content.{Content as ContentValue};
 ghost use Rattle.run_history.specs.declared.states.FileState.TheVariants.{Absent, Present};
 ghost use Rattle.flow_types.specs.Plans.{IsValid, sources_of};
@@ -40,6 +40,17 @@ impl FileStates {
                 return Err(Memory);
             }
             rows = rest;
+        }
+        Ok(FileStates { states })
+    }
+
+    /// The states of so many files when there is none of them.
+    pub fn absent(alloc: Global, count: usize) -> Result<FileStates, Memory>
+        ensures { IfOk result (λ states. states ≡ replicate count Absent) }
+    {
+        let mut states = Vec::new(alloc);
+        if states.resize(count, FileState::Absent).is_err() {
+            return Err(Memory);
         }
         Ok(FileStates { states })
     }

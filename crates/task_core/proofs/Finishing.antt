@@ -32,7 +32,7 @@ use Rattle.task_core.specs.Stands.{IsRow, Stands, after_done, logged, made_or}
 use Rattle.task_core.proofs.Pushing.{row_after, row-push, retries-same}
 use Rattle.task_core.proofs.Standing.{begun-after, runs-same, drops-same, ended-same, link-same, live-same, next-same, changes-same, outs-same, row_by, silent-row, sources-same, start-push}
 
-contained : (f : ℕ) (fs : List ℕ) (outs : List Content) (c : Content) → row_of f fs outs ≡ Some c → contains_number f fs ≡ true
+pub contained : (f : ℕ) (fs : List ℕ) (outs : List Content) (c : Content) → row_of f fs outs ≡ Some c → contains_number f fs ≡ true
 contained f [] outs c is = absurd cc
 contained f (g ∷ fs) [] c is = absurd cc
 contained f (g ∷ fs) (row ∷ rows) c is = by_test (g == f) is (contained f fs rows c)
@@ -41,7 +41,7 @@ contained f (g ∷ fs) (row ∷ rows) c is = by_test (g == f) is (contained f fs
     by_test true here rest = refl
     by_test false here rest = rest here
 
-all_of : (p : ℕ → Bool) (fs : List ℕ) (f : ℕ) → list_all p fs ≡ true → contains_number f fs ≡ true → p f ≡ true
+pub all_of : (p : ℕ → Bool) (fs : List ℕ) (f : ℕ) → list_all p fs ≡ true → contains_number f fs ≡ true → p f ≡ true
 all_of p [] f all inside = absurd (true≢false (sym inside))
 all_of p (g ∷ fs) f all inside = by_test (g == f) refl inside (and_parts (p g) (list_all p fs) all).0 (all_of p fs f (and_parts (p g) (list_all p fs) all).1)
   where

@@ -5,12 +5,15 @@ use Rattle.std.proofs.Math.ListN.{length-set}
 use Rattle.std.proofs.lemmas.Bool.{eqb-true, eqb-false, leb-true}
 use Rattle.std.proofs.lemmas.List.{get_or-set_same, get_or-set_other}
 use Rattle.run_history.specs.declared.states.RuleState.TheVariants as rule
-use Rattle.run_history.specs.Storage.{is_running_state}
+use Rattle.std.specs.Option.{option_map_or}
+use Rattle.flow_types.specs.Plans.{most_bytes}
+use Rattle.run_history.specs.declared.states.FileState.TheVariants as file
+use Rattle.run_history.specs.Storage.{is_running_state, size_in}
 use Rattle.run_history.specs.States.{Place, unfinished_state}
 use Rattle.task_core.specs.declared.rows.RuleRow.{RuleRow}
-use Rattle.task_core.specs.Known.{leaves_places, running, runs_now}
+use Rattle.task_core.specs.Known.{known_bytes, leaves_places, running, runs_now}
 use Rattle.task_core.specs.States.{TableState, IsTable, blank_row, known_in, most_of, row_at, state_of}
-use Rattle.task_core.specs.Stands.{with_row}
+use Rattle.task_core.specs.Stands.{after_drop, with_row}
 use Rattle.task_core.proofs.Counting.{count-one-more, count-one-less}
 
 row_by : (t : TableState) (r q : ℕ) (row : RuleRow) (b : Bool) → (r == q) ≡ b → r < length t.rules → slice_index_or (slice_set t.rules r row) q blank_row ≡ cond b row (row_at t q)
@@ -50,7 +53,7 @@ no_place true failed = refl
 no_place false true = refl
 no_place false false = refl
 
-no_run : (retries : ℕ) (row : RuleRow) → row.place ≡ None → is_running_state (state_of retries row) ≡ false
+pub no_run : (retries : ℕ) (row : RuleRow) → row.place ≡ None → is_running_state (state_of retries row) ≡ false
 no_run retries row none =
     ap (λ (p : Option Place). is_running_state (cond row.done rule.Complete (unfinished_state p (nat_le (retries + 1) row.failures)))) none ∙ no_place row.done (nat_le (retries + 1) row.failures)
 
@@ -86,3 +89,32 @@ keeps-started t r row old is inside going places here few =
     let room = leb-true (t.records + length (running (known_in t)) + 1 + 2) 1000000 places in
     written t r row (t.starts + 1) is inside (omega (arith, few, failures)) (omega (arith, is.starts))
     (end_room t.begun t.ended (t.records + 1 + length (running (known_in (record (with_row t r row) { starts = t.starts + 1 })))) going (omega (arith, more, room)))
+
+end_one : (ended : Bool) → cond ended 0 1 ≤ 1
+end_one true = omega arith
+end_one false = omega arith
+
+bytes_by : (t : TableState) (f g : ℕ) (b : Bool) → (f == g) ≡ b → f < length t.files → known_bytes (known_in t) g ≤ most_bytes
+    → option_map_or (λ size. size) (size_in (slice_index_or (slice_set t.files f file.Collected) g file.Absent)) 0 ≤ most_bytes
+bytes_by t f g true same inside small =
+    let here : slice_index_or (slice_set t.files f file.Collected) g file.Absent ≡ file.Collected =
+    ap (λ n. slice_index_or (slice_set t.files f file.Collected) n file.Absent) (sym (eqb-true f g same)) ∙ get_or-set_same t.files f file.Collected file.Absent inside in
+    subst (λ state. option_map_or (λ size. size) (size_in state) 0 ≤ most_bytes) (sym here) (omega arith)
+bytes_by t f g false other inside small =
+    subst (λ state. option_map_or (λ size. size) (size_in state) 0 ≤ most_bytes) (sym (get_or-set_other t.files f g file.Collected file.Absent (λ same. eqb-false f g other (sym same)))) small
+
+-- a file is dropped
+pub keeps-dropped : (t : TableState) (f : ℕ) → IsTable t → f < length t.plan.files → leaves_places (known_in t) 1 ≡ true → IsTable (after_drop t f)
+keeps-dropped t f is inside places =
+    let room = leb-true (t.records + length (running (known_in t)) + 1 + 1) 1000000 places in
+    record {
+      valid = is.valid;
+      mode = is.mode;
+      rules = is.rules;
+      files = length-set t.files f file.Collected ∙ is.files;
+      small = λ g. bytes_by t f g (f == g) refl (omega (arith, is.files, inside)) (is.small g);
+      places = most_room t.begun (t.records + 1 + length (running (known_in t)) + cond t.ended 0 1) (omega (arith, room, end_one t.ended));
+      runs = omega (arith, is.runs);
+      starts = omega (arith, is.starts);
+      failures = λ r. omega (arith, is.failures r);
+    }

@@ -11,3 +11,8 @@ pub mod Closing
 pub mod Finishing
 pub mod Outputs
 pub mod Allowing
+pub mod Agreeing
+pub mod Opening
+pub mod Ending
+pub mod Reading
+pub mod Blank

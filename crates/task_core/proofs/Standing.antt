@@ -46,6 +46,16 @@ pub record IsQuiet (x : Record) : Type 0 where
   pub makes_none : (r : ℕ) → outs_in r x ≡ None
   pub drops_none : (f : ℕ) → drops f x ≡ false
 
+-- a record that makes, drops and cleans nothing and states no sources
+pub record KeepsFiles (x : Record) : Type 0 where
+  pub stays : is_cleaned x ≡ false
+  pub sources : sources_in x ≡ None
+  pub makes_none : (r : ℕ) → outs_in r x ≡ None
+  pub drops_none : (f : ℕ) → drops f x ≡ false
+
+quiet-keeps : (x : Record) → IsQuiet x → KeepsFiles x
+quiet-keeps x quiet = record { stays = quiet.stays; sources = quiet.sources; makes_none = quiet.makes_none; drops_none = quiet.drops_none }
+
 said_none : {B : Type 0} (said last : Option B) (rest : B) → said ≡ None → unwrap_or (option_map_or Some said last) rest ≡ unwrap_or last rest
 said_none said last rest none = ap (λ s. unwrap_or (option_map_or Some s last) rest) none
 
@@ -66,14 +76,14 @@ sources-same H x stays none =
     ∙ ap (λ said. unwrap_or said []) (last_said-push sources_in (part H) x)
     ∙ said_none (sources_in x) (last_said sources_in (part H)) [] none
 
-by_maker : (P : Plan) (H : List Record) (x : Record) (f : ℕ) (maker : Option ℕ) (next rest : FileState) → IsQuiet x → next ≡ rest
+by_maker : (P : Plan) (H : List Record) (x : Record) (f : ℕ) (maker : Option ℕ) (next rest : FileState) → KeepsFiles x → next ≡ rest
     → option_map_or (made_state P (H ++ (x ∷ [])) f) maker next ≡ option_map_or (made_state P H f) maker rest
 by_maker P H x f None next rest quiet same = same
 by_maker P H x f (Some r) next rest quiet same =
     ap (λ (outs : Option (List Content)). option_map_or (λ o. cond (list_any (drops f) (part (H ++ (x ∷ [])))) file.Collected (present_with (row_of f (makes P r) o))) outs file.Absent) (outs-same H x r quiet.stays (quiet.makes_none r))
     ∙ ap (λ b. option_map_or (λ o. cond b file.Collected (present_with (row_of f (makes P r) o))) (outs_of H r) file.Absent) (drops-same H x f quiet.stays (quiet.drops_none f))
 
-pub files-same : (P : Plan) (H : List Record) (x : Record) (f : ℕ) → IsQuiet x → file_state P (H ++ (x ∷ [])) f ≡ file_state P H f
+pub files-same : (P : Plan) (H : List Record) (x : Record) (f : ℕ) → KeepsFiles x → file_state P (H ++ (x ∷ [])) f ≡ file_state P H f
 files-same P H x f quiet =
     by_maker P H x f (maker_of P f) (present_with (row_of f (sources_of P) (opened_sources (H ++ (x ∷ []))))) (present_with (row_of f (sources_of P) (opened_sources H))) quiet
     (ap (λ (rows : List Content). present_with (row_of f (sources_of P) rows)) (sources-same H x quiet.stays quiet.sources))
@@ -149,7 +159,7 @@ row-stands t M x r row inside quiet this others going stands =
       begun = going ∙ sym (begun-after M x quiet.stays);
       rules = λ q. subst (λ (xs : List Record). IsRow xs q (slice_index_or (slice_set t.rules r row) q blank_row)) (sym longer)
           (subst (IsRow (H ++ (x ∷ [])) q) (sym (row_by t r q row (q == r) refl inside)) (rows_stand t H x r q row (q == r) refl inside quiet this (others q) (stands.rules q)));
-      files = λ f. stands.files f ∙ sym (ap (λ (xs : List Record). file_state t.plan xs f) longer ∙ files-same t.plan H x f quiet);
+      files = λ f. stands.files f ∙ sym (ap (λ (xs : List Record). file_state t.plan xs f) longer ∙ files-same t.plan H x f (quiet-keeps x quiet));
       dropped = λ f q made gone.
           ap (λ (xs : List Record). is_some (outs_of xs q)) longer ∙ ap is_some (outs-same H x q quiet.stays (quiet.makes_none q))
           ∙ stands.dropped f q made (sym (ap (λ (xs : List Record). list_any (drops f) (part xs)) longer ∙ drops-same H x f quiet.stays (quiet.drops_none f)) ∙ gone);
@@ -261,7 +271,8 @@ started-row x q row place here makes fails why =
     ∙ ap (λ n. record { place = Some place; done = row.done; failures = n; why = option_map_or Some (why_in q x) row.why }) (ap (λ b. row.failures + cond b 1 0) fails ∙ omega arith)
     ∙ ap (λ (w : Option Failure). record { place = Some place; done = row.done; failures = row.failures; why = option_map_or Some w row.why }) why)
 
-empty_list : (xs : List Record) → is_empty xs ≡ true → xs ≡ []
+-- a list without items
+pub empty_list : (xs : List Record) → is_empty xs ≡ true → xs ≡ []
 empty_list [] is = refl
 empty_list (x ∷ xs) is = absurd (true≢false (sym is))
 

@@ -1,4 +1,5 @@
 pub mod Known
+pub mod Parts
 pub mod States
 pub mod Surveys
 pub mod Allowed

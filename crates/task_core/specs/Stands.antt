@@ -1,5 +1,6 @@
 -- After which moves a table stands, and what its calls answer and leave.
-use Rattle.std.specs.Prelude.{◌≡◌, ℕ, ◌+◌, Bool, true, false, not, List, [], ◌∷◌, ◌++◌, length, Some, None, Result, Ok, Err, count_by, is_some, slice_set, Option}
+use Rattle.std.specs.Prelude.{◌≡◌, ℕ, ◌+◌, Bool, true, false, not, List, [], ◌∷◌, ◌++◌, length, Some, None, Result, Ok, Err, count_by, is_some, map, slice_set, Option}
+use Rattle.flow_types.specs.declared.lists.Memory.{Memory}
 use Rattle.flow_types.specs.declared.job.Failure.{Failure}
 use Rattle.flow_types.specs.declared.numbers.RuleNo.{RuleNo}
 use Rattle.flow_types.specs.declared.numbers.AttemptNo.{AttemptNo}
@@ -19,7 +20,7 @@ use Rattle.run_history.specs.declared.answers.Next.TheVariants as next
 use Rattle.run_history.specs.declared.answers.Nothing.{Nothing}
 use Rattle.run_history.specs.History.{part, next_attempt, next_run}
 use Rattle.run_history.specs.States.{drops, rule_state, file_state, running_in, outs_of, failures_of, retries_of, limit_of}
-use Rattle.run_history.specs.Legal.{runs}
+use Rattle.run_history.specs.Legal.{is_allowed, runs}
 use Rattle.run_history.specs.Links.{records_of, link_row}
 use Rattle.run_history.specs.Moves.{is_change, live_links, next_link}
 use Rattle.run_history.specs.Answers.{claim_of, has_ended, last_why}
@@ -76,6 +77,22 @@ after_failure t r why = with_row t r (record (row_at t r) { place = None; failur
 abbrev pub after_done : TableState → ℕ → List FileState → TableState
 after_done t r files = record (with_row t r (record (row_at t r) { place = None; done = true })) { files = files }
 
+-- a rule as an opening leaves it
+abbrev pub waiting_row : RuleRow → RuleRow
+waiting_row row = record row { place = None; failures = 0; why = None }
+
+-- a run is opened with these retries and this limit
+abbrev pub after_opening : TableState → ℕ → Option ℕ → TableState
+after_opening t retries limit = record t { rules = map waiting_row t.rules; records = t.records + 1; runs = t.runs + 1; retries = retries; limit = limit; begun = true; ended = false }
+
+-- file f is dropped
+abbrev pub after_drop : TableState → ℕ → TableState
+after_drop t f = record t { files = slice_set t.files f file.Collected; records = t.records + 1 }
+
+-- the run has ended
+abbrev pub after_end : TableState → TableState
+after_end t = record t { records = t.records + 1; ended = true }
+
 -- present with the row, or as before without one
 abbrev pub made_or : Option Content → FileState → FileState
 made_or None state = state
@@ -103,3 +120,13 @@ Closes t M rule attempt entry (Err state) after =
 abbrev pub is_final : Next → Bool
 is_final next.Final = true
 is_final next.Again = false
+
+-- the same plan, options and stop
+abbrev pub IsSameRun : TableState → TableState → Type 0
+IsSameRun t after = (after.plan ≡ t.plan) × (after.options ≡ t.options) × (after.stop ≡ t.stop)
+
+-- What the taking in of a record answers: it is allowed and the table stands behind it, or it isn't and nothing changes; without memory nothing changes either.
+abbrev pub Notes : TableState → List ℕ → List Move → Record → Result Bool Memory → TableState → Type 0
+Notes t digest M x (Ok true) after = (is_allowed t.plan digest (records_of M) x ≡ true) × IsSameRun t after × Stands after (logged M x)
+Notes t digest M x (Ok false) after = (is_allowed t.plan digest (records_of M) x ≡ false) × (after ≡ t)
+Notes t digest M x (Err memory) after = after ≡ t

@@ -104,7 +104,7 @@ impl Table {
     }
 
     // Each output of the rule is present with its content.
-    fn note_outputs(&mut self, rule: RuleNo, outs: &[Content])
+    pub(crate) fn note_outputs(&mut self, rule: RuleNo, outs: &[Content])
         requires rule { rule.0 < length self.old.plan.rules }
         requires outputs { are_within self.old.plan (makes self.old.plan rule.0) outs.now ≡ true }
         ensures same { self.new ≡ record self.old { files = self.new.files } }

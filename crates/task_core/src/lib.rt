@@ -5,11 +5,15 @@ mod allowed;
 mod choice;
 mod claims;
 mod closings;
+mod histories;
 mod loads;
+mod noting;
 mod overview;
+mod parts;
 mod rows;
 mod scans;
 mod storage;
 mod table;
 
+pub use histories::TableFault;
 pub use table::{Started, Table};

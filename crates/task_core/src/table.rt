@@ -1,16 +1,22 @@
 //! The table.
-ghost use Rattle.std.specs.Prelude.{◌≡◌, ◌<◌, ◌≤◌, ◌+◌, length, is_some, slice_set, true, false};
+ghost use Rattle.std.specs.Prelude.{◌≡◌, ◌<◌, ◌≤◌, ◌+◌, length, IfOk, is_some, slice_index_or, slice_set, true, false, ℕ};
 ghost use Rattle.run_history.specs.declared.options.Mode.TheVariants.{Never};
-ghost use Rattle.run_history.specs.declared.states.FileState.TheVariants.{Present};
+ghost use Rattle.run_history.specs.declared.states.FileState.TheVariants.{Absent, Present};
 ghost use Rattle.flow_types.specs.Plans.{IsValid, most_bytes, most_files, most_rules};
+ghost use Rattle.std.specs.Option.{option_map_or};
+ghost use Rattle.run_history.specs.Storage.{size_in};
+ghost use Rattle.task_core.specs.Allowed.{has_two_places};
 ghost use Rattle.task_core.specs.Known.{known_bytes, leaves_places, runs_now};
+ghost use Rattle.task_core.specs.Parts.{blank_table};
 ghost use Rattle.task_core.specs.States.{known_in, row_at, file_at};
-ghost use Rattle.task_core.specs.Stands.{after_done, after_failure, after_loss, after_start};
+ghost use Rattle.task_core.specs.Stands.{after_done, after_drop, after_end, after_failure, after_loss, after_opening, after_start};
 
-use crate::rows::{LinkEntry, RuleRow};
+use crate::parts::Numbers;
+use crate::rows::{LinkEntry, RuleRow, wait_again};
 use file_states::FileStates;
-use flow_types::{AttemptNo, Content, Failure, FileNo, LinkNo, Plan, Rule, RuleNo};
+use flow_types::{AttemptNo, Content, Failure, FileNo, LinkNo, Memory, Plan, Rule, RuleNo};
 use run_history::{FileState, Options, RuleState, Stop};
+use std::alloc::Global;
 use std::marker::Model;
 
 /// What each rule and file is doing, which links live, and which stop stands.
@@ -82,7 +88,54 @@ pub struct Started {
     pub attempt: AttemptNo,
 }
 
+/// A rule of which nothing is recorded.
+const BLANK_ROW: RuleRow = RuleRow {
+    place: None,
+    done: false,
+    failures: 0,
+    why: None,
+};
+
 impl Table {
+    // The table over a plan when only so many records of earlier parts are known.
+    pub(crate) fn blank(
+        alloc: Global,
+        plan: Plan,
+        options: Options,
+        earlier: usize,
+        numbers: Numbers,
+    ) -> Result<Table, Memory>
+        requires valid { IsValid plan }
+        requires mode { options.mode ≡ Never }
+        requires few { earlier < 9223372036854775808 }
+        requires runs { numbers.runs ≤ earlier }
+        requires starts { numbers.starts ≤ earlier }
+        ensures { IfOk result (λ table. table ≡ blank_table plan options earlier numbers.runs numbers.starts) }
+    {
+        let mut rules = Vec::new(alloc);
+        if rules.resize(plan.rules.len(), BLANK_ROW).is_err() {
+            return Err(Memory);
+        }
+        let files = FileStates::absent(alloc, plan.files.len())?;
+        Ok(Table {
+            plan,
+            options,
+            rules,
+            files,
+            links: Vec::new(alloc),
+            records: earlier as u64,
+            runs: numbers.runs,
+            starts: numbers.starts,
+            retries: 0,
+            limit: None,
+            begun: false,
+            ended: false,
+            joins: 0,
+            changes: 0,
+            stop: None,
+        })
+    }
+
     /// The plan.
     pub fn plan(&self) -> &Plan
         ensures plan { result.now ≡ self.now.plan }
@@ -248,6 +301,49 @@ impl Table {
         row.place = None;
         row.done = true;
         self.records += 1;
+    }
+
+    // A run is opened with these retries and this limit: no attempt runs, and no failure counts.
+    pub(crate) fn open(&mut self, retries: u32, limit: Option<u64>)
+        requires { has_two_places (known_in self.old) ≡ true }
+        ensures table { self.new ≡ after_opening self.old retries limit }
+    {
+        wait_again(&mut self.rules);
+        self.records += 1;
+        self.runs += 1;
+        self.retries = retries;
+        self.limit = limit;
+        self.begun = true;
+        self.ended = false;
+    }
+
+    // The files are in these states.
+    pub(crate) fn set_files(&mut self, files: FileStates)
+        requires all { length files ≡ length self.old.plan.files }
+        requires small { (f : ℕ) → option_map_or (λ size. size) (size_in (slice_index_or files f Absent)) 0 ≤ most_bytes }
+        ensures { self.new ≡ record self.old { files = files } }
+    {
+        self.files = files;
+    }
+
+    // The file is dropped.
+    pub(crate) fn note_drop(&mut self, file: FileNo)
+        requires inside { file.0 < length self.old.plan.files }
+        requires places { leaves_places (known_in self.old) 1 ≡ true }
+        ensures table { self.new ≡ after_drop self.old file.0 }
+        ensures files { length self.old.files ≡ length self.old.plan.files }
+    {
+        self.files.note(file, FileState::Collected);
+        self.records += 1;
+    }
+
+    // The run has ended.
+    pub(crate) fn note_end(&mut self)
+        requires { self.old.ended ≡ false }
+        ensures { self.new ≡ after_end self.old }
+    {
+        self.records += 1;
+        self.ended = true;
     }
 
     // The file is present with this content.
