@@ -14,3 +14,4 @@ pub mod Images
 pub mod Looks
 pub mod Starting
 pub mod Following
+pub mod Beginning

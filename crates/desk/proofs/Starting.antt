@@ -1,5 +1,5 @@
 -- Why a run may begin, and what its first record leaves.
-use Rattle.std.proofs.Common.{◌≡◌, ◌≢◌, ◌≤◌, ◌<◌, ◌∙◌, ℕ, zero, suc, ◌+◌, Bool, true, false, cond, List, [], ◌∷◌, ◌++◌, length, Option, Some, None, Result, Ok, Err, map, filter, refl, sym, ap, subst, arith, true≢false, length-append}
+use Rattle.std.proofs.Common.{◌≡◌, ◌≢◌, ◌≤◌, ◌<◌, ◌∙◌, ℕ, zero, suc, ◌+◌, Bool, true, false, cond, List, [], ◌∷◌, ◌++◌, length, Option, Some, None, Result, Ok, Err, map, filter, drop, refl, sym, ap, subst, arith, true≢false, length-append}
 use Rattle.std.specs.Prelude.{◌==◌, ◌&&◌, nat_lt, nat_le, is_some, is_none, not, slice_get, unwrap_or, option_map}
 use Rattle.std.specs.List.{list_all, list_any, range_with_len}
 use Rattle.std.specs.Option.{option_map_or, option_and_then}
@@ -10,6 +10,7 @@ use Rattle.std.proofs.lemmas.Slice.Eq.{bytes_eq-Decides}
 use Rattle.flow_types.specs.declared.plan.Plan.{Plan}
 use Rattle.flow_types.specs.declared.plan.FileRow.{FileRow}
 use Rattle.flow_types.specs.declared.numbers.Content.{Content}
+use Rattle.flow_types.specs.declared.numbers.Digest.{Digest}
 use Rattle.flow_types.specs.declared.records.Record.{Record}
 use Rattle.flow_types.specs.declared.records.Record.TheVariants as records
 use Rattle.flow_types.specs.Plans.{IsValid, is_empty, is_source, maker_of, makes, numbers, file_numbers, rule_numbers, sources_of, most_bytes, most_files}
@@ -54,6 +55,20 @@ legal_from P digest before (x ∷ xs) is =
 -- a history in which each record may stand is legal
 pub none_illegal : (P : Plan) (digest : List ℕ) (H : List Record) → first_illegal P digest H ≡ None → is_legal P digest H ≡ true
 none_illegal P digest H is = legal_from P digest [] H is
+
+illegal_by : (P : Plan) (digest : List ℕ) (before xs : List Record) (x : Record) (t : Bool) → (t && is_legal_from P digest (before ++ (x ∷ [])) xs) ≡ true
+    → (is_legal_from P digest (before ++ (x ∷ [])) xs ≡ true → first_illegal_from P digest (before ++ (x ∷ [])) xs ≡ None) → cond t (first_illegal_from P digest (before ++ (x ∷ [])) xs) (Some (length before)) ≡ None
+illegal_by P digest before xs x true is rest = rest is
+illegal_by P digest before xs x false is rest = absurd (true≢false (sym is))
+
+illegal_from : (P : Plan) (digest : List ℕ) (before xs : List Record) → is_legal_from P digest before xs ≡ true → first_illegal_from P digest before xs ≡ None
+illegal_from P digest before [] is = refl
+illegal_from P digest before (x ∷ xs) is =
+    illegal_by P digest before xs x (cond (list_any is_cleaned (x ∷ xs)) (is_numbered before x) (is_allowed P digest before x)) is (illegal_from P digest (before ++ (x ∷ [])) xs)
+
+-- and the other way round
+pub legal_none : (P : Plan) (digest : List ℕ) (H : List Record) → is_legal P digest H ≡ true → first_illegal P digest H ≡ None
+legal_none P digest H is = illegal_from P digest [] H is
 
 -- ---- openings
 
@@ -287,3 +302,76 @@ fault_at P false s t files f why same is = ap (λ state. state_fault (is_source 
 pub looks_same : (P : Plan) (first : Bool) (s t : ℕ → FileState) (files : Files) (why : StartFault) → ((f : ℕ) → s f ≡ t f)
     → LooksOver P first s files (let found : Result (Unit {0}) StartFault = Err why in found) → LooksOver P first t files (let found : Result (Unit {0}) StartFault = Err why in found)
 looks_same P first s t files why same found = (found.0, found.1, fault_at P first s t files found.0 why same found.2, sound_same P first s t files found.0 same found.3)
+
+-- ---- refusals
+
+-- the refusal by another plan
+pub refused_plan : (P : Plan) (H : List Record) (why : StartFault) → option_and_then (other_flow (plan_digest P)) (opened_plan H) ≡ Some why → early_fault P H ≡ Some why
+refused_plan P H why is =
+    ap (λ o. or_else o (or_else (option_map faults.NotLegal (first_illegal P (plan_digest P) H)) (or_else (where_so (nat_le full_log (length H)) (faults.LogFull (length H))) None))) is
+
+-- a digest is the same, or another
+pub same_flow : (logged digest : Digest) → logged ≡ digest → other_flow digest.0 logged ≡ None
+same_flow logged digest same = ap (λ (b : Bool). cond b None (Some (faults.OtherFlow logged digest))) ((bytes_eq-Decides logged.0 digest.0).1 (ap (λ (d : Digest). d.0) same))
+
+pub differing_flow : (logged digest : Digest) → (logged ≡ digest → ⊥) → other_flow digest.0 logged ≡ Some (faults.OtherFlow logged digest)
+differing_flow logged digest other = by_test (bytes_eq logged.0 digest.0) refl
+  where
+    by_test : (t : Bool) → bytes_eq logged.0 digest.0 ≡ t → cond t None (Some (faults.OtherFlow logged digest)) ≡ Some (faults.OtherFlow logged digest)
+    by_test true is = absurd (other (ap (λ (d : List ℕ). let one : Digest = record { 0 = d } in one) ((bytes_eq-Decides logged.0 digest.0).0 is)))
+    by_test false is = refl
+
+pub refused_record : (P : Plan) (H : List Record) (at : ℕ) → option_and_then (other_flow (plan_digest P)) (opened_plan H) ≡ None → first_illegal P (plan_digest P) H ≡ Some at
+    → early_fault P H ≡ Some (faults.NotLegal at)
+refused_record P H at plan illegal =
+    ap (λ o. or_else o (or_else (option_map faults.NotLegal (first_illegal P (plan_digest P) H)) (or_else (where_so (nat_le full_log (length H)) (faults.LogFull (length H))) None))) plan
+    ∙ ap (λ n. or_else (option_map faults.NotLegal n) (or_else (where_so (nat_le full_log (length H)) (faults.LogFull (length H))) None)) illegal
+
+pub by_room : (P : Plan) (H : List Record) (full : Bool) → nat_le full_log (length H) ≡ full → option_and_then (other_flow (plan_digest P)) (opened_plan H) ≡ None → is_legal P (plan_digest P) H ≡ true
+    → early_fault P H ≡ where_so full (faults.LogFull (length H))
+by_room P H full room plan legal =
+    ap (λ o. or_else o (or_else (option_map faults.NotLegal (first_illegal P (plan_digest P) H)) (or_else (where_so (nat_le full_log (length H)) (faults.LogFull (length H))) None))) plan
+    ∙ ap (λ n. or_else (option_map faults.NotLegal n) (or_else (where_so (nat_le full_log (length H)) (faults.LogFull (length H))) None)) (legal_none P (plan_digest P) H legal)
+    ∙ ap (λ b. or_else (where_so b (faults.LogFull (length H))) None) room ∙ none_else full (faults.LogFull (length H))
+  where
+    none_else : (b : Bool) (why : StartFault) → or_else (where_so b why) None ≡ where_so b why
+    none_else true why = refl
+    none_else false why = refl
+
+-- the place of the first record that may not stand is one of the records
+inside_by : (P : Plan) (digest : List ℕ) (before xs : List Record) (x : Record) (t : Bool) (n : ℕ) → cond t (first_illegal_from P digest (before ++ (x ∷ [])) xs) (Some (length before)) ≡ Some n
+    → (first_illegal_from P digest (before ++ (x ∷ [])) xs ≡ Some n → n < length (before ++ (x ∷ [])) + length xs) → n < length before + length (x ∷ xs)
+inside_by P digest before xs x true n is rest = let lt = rest is in omega (arith, lt, length-append before (x ∷ []))
+inside_by P digest before xs x false n is rest = let here : length before ≡ n = ap (λ (o : Option ℕ). unwrap_or o n) is in omega (arith, here)
+
+illegal_inside_from : (P : Plan) (digest : List ℕ) (before xs : List Record) (n : ℕ) → first_illegal_from P digest before xs ≡ Some n → n < length before + length xs
+illegal_inside_from P digest before [] n is = absurd (true≢false (sym (ap is_some is)))
+illegal_inside_from P digest before (x ∷ xs) n is =
+    inside_by P digest before xs x (cond (list_any is_cleaned (x ∷ xs)) (is_numbered before x) (is_allowed P digest before x)) n is (illegal_inside_from P digest (before ++ (x ∷ [])) xs n)
+
+pub illegal_inside : (P : Plan) (digest : List ℕ) (H : List Record) (n : ℕ) → first_illegal P digest H ≡ Some n → n < length H
+illegal_inside P digest H n is = let lt = illegal_inside_from P digest [] H n is in omega (arith, lt)
+
+empty_drop : (H : List Record) (n : ℕ) (t : Bool) → (n == length H) ≡ t → n ≤ length H → is_empty (drop n H) ≡ t
+empty_drop [] n true is le = past n
+  where
+    past : (n : ℕ) → is_empty (drop n (let none : List Record = [] in none)) ≡ true
+    past zero = refl
+    past (suc n) = refl
+empty_drop [] n false is le = absurd (eqb-false n 0 is (omega (arith, le)))
+empty_drop (x ∷ H) zero true is le = absurd (let wrong : ⊥ = omega (arith, eqb-true 0 (length (x ∷ H)) is) in wrong)
+empty_drop (x ∷ H) zero false is le = refl
+empty_drop (x ∷ H) (suc n) true is le = empty_drop H n true (equal n (length H) (n == length H) refl (let e = eqb-true (suc n) (length (x ∷ H)) is in omega (arith, e))) (omega (arith, le))
+  where
+    equal : (a b : ℕ) (t : Bool) → (a == b) ≡ t → a ≡ b → (a == b) ≡ true
+    equal a b true is e = is
+    equal a b false is e = absurd (eqb-false a b is e)
+empty_drop (x ∷ H) (suc n) false is le = empty_drop H n false (other n (length H) (n == length H) refl (λ e. eqb-false (suc n) (length (x ∷ H)) is (let up = e in omega (arith, up)))) (omega (arith, le))
+  where
+    other : (a b : ℕ) (t : Bool) → (a == b) ≡ t → (a ≡ b → ⊥) → (a == b) ≡ false
+    other a b true is e = absurd (e (eqb-true a b is))
+    other a b false is e = is
+
+-- a part is empty where it begins at the end
+pub first_run : (H : List Record) (start : ℕ) → drop start H ≡ part H → start ≤ length H → (start == length H) ≡ is_empty (part H)
+first_run H start is le = sym (ap is_empty (sym is) ∙ empty_drop H start (start == length H) refl le)
