@@ -14,11 +14,12 @@ use Rattle.task_core.specs.States.{TableState, known_in}
 use Rattle.task_core.specs.Surveys.{is_ready_for}
 use Rattle.task_core.specs.Choices.{by_least, chosen_in}
 
-abbrev head : List ℕ → Option ℕ
+-- the first item
+abbrev pub head : List ℕ → Option ℕ
 head [] = None
 head (x ∷ xs) = Some x
 
-head-find : (p : ℕ → Bool) (xs : List ℕ) → head (filter p xs) ≡ find p xs
+pub head-find : (p : ℕ → Bool) (xs : List ℕ) → head (filter p xs) ≡ find p xs
 head-find p [] = refl
 head-find p (x ∷ xs) = by_test (p x) (head-find p xs)
   where
@@ -26,7 +27,7 @@ head-find p (x ∷ xs) = by_test (p x) (head-find p xs)
     by_test true rest = refl
     by_test false rest = rest
 
-filter-both : (p q : ℕ → Bool) (xs : List ℕ) → filter q (filter p xs) ≡ filter (λ x. p x && q x) xs
+pub filter-both : (p q : ℕ → Bool) (xs : List ℕ) → filter q (filter p xs) ≡ filter (λ x. p x && q x) xs
 filter-both p q [] = refl
 filter-both p q (x ∷ xs) = by_test (p x) (q x) refl (filter-both p q xs)
   where

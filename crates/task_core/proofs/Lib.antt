@@ -16,3 +16,4 @@ pub mod Opening
 pub mod Ending
 pub mod Reading
 pub mod Blank
+pub mod Answering

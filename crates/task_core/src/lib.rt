@@ -5,6 +5,7 @@ mod allowed;
 mod choice;
 mod claims;
 mod closings;
+mod ends;
 mod histories;
 mod loads;
 mod noting;

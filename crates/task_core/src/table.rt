@@ -1,5 +1,5 @@
 //! The table.
-ghost use Rattle.std.specs.Prelude.{◌≡◌, ◌<◌, ◌≤◌, ◌+◌, length, IfOk, is_some, slice_index_or, slice_set, true, false, ℕ};
+ghost use Rattle.std.specs.Prelude.{◌≡◌, ◌<◌, ◌≤◌, ◌+◌, length, IfOk, Some, is_some, slice_index_or, slice_set, true, false, ℕ};
 ghost use Rattle.run_history.specs.declared.options.Mode.TheVariants.{Never};
 ghost use Rattle.run_history.specs.declared.states.FileState.TheVariants.{Absent, Present};
 ghost use Rattle.flow_types.specs.Plans.{IsValid, most_bytes, most_files, most_rules};
@@ -229,6 +229,27 @@ impl Table {
         ensures { result ≡ self.now.runs }
     {
         self.runs
+    }
+
+    // How many records there are, where the part is begun.
+    pub(crate) fn record_count(&self) -> u32
+        requires { self.now.begun ≡ true }
+        ensures { result ≡ self.now.records }
+    {
+        self.records as u32
+    }
+
+    pub(crate) fn stop_now(&self) -> Option<Stop>
+        ensures stop { result ≡ self.now.stop }
+        ensures mode { self.now.options.mode ≡ Never }
+    {
+        self.stop
+    }
+
+    pub(crate) fn set_stop(&mut self, stop: Stop)
+        ensures { self.new ≡ record self.old { stop = Some stop } }
+    {
+        self.stop = Some(stop);
     }
 
     pub(crate) fn has_ended(&self) -> bool
