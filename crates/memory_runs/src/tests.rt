@@ -188,6 +188,70 @@ fn what_is_refused_is_named_and_writes_nothing(rt: HostRuntime) -> Result<(), Fa
     Ok(())
 }
 
+// Ten rules of two loops with a condition.
+const TEN_RULES: &[u8] = br#"{"rules":[{"command":format("echo %d%d > o%d%d",i,j,i,j),"inputs":[],
+"outputs":[format("o%d%d",i,j)]} for i in range(5) for j in range(4) if (i+j)%2==0]}"#;
+
+// What a call over a flow in JX ends with, where commands as those of the ten rules are known.
+fn run_jx(alloc: Global, flow: &[u8]) -> Result<(Ended<MemSite>, MemSink), Fail> {
+    let mut runner = TableRunner::new(alloc);
+    for number in 0..20u32 {
+        let (i, j) = (number / 4, number % 4);
+        let command = format!(in alloc; "echo {i}{j} > o{i}{j}")?;
+        let content = format!(in alloc; "{i}{j}\n")?;
+        let made = Outcome::Success(one_output(alloc, content.as_bytes())?);
+        runner.put(command.as_str(), made)?;
+    }
+    let mut out = MemSink::new(alloc);
+    let words = ["makeflow", "--jx", "flow"];
+    let ended = run_on(alloc, &words, &[], &[("flow", flow)], &mut runner, &mut out)?;
+    Ok((ended, out))
+}
+
+#[test]
+fn a_flow_in_jx_runs_or_is_refused(rt: HostRuntime) -> Result<(), Fail> {
+    let alloc = rt.alloc();
+    let cases: [(&[u8], u8, &[u8]); 7] = [
+        (TEN_RULES, 0, b"complete, 10 rules, 0 files collected"),
+        (
+            b"{\"rules\":[{\"command\":\"x\"}]}",
+            3,
+            b"flow: missing field outputs",
+        ),
+        (
+            b"{\"rules\":[9223372036854775807 + 1]}",
+            3,
+            b"flow: evaluation fault at 30",
+        ),
+        (b"{\"rules\":", 3, b"flow: syntax fault at 9"),
+        (b"[]", 3, b"flow: bad field "),
+        (
+            b"{\"rules\":[{\"command\":\"x\",\"outputs\":[\"o\"],\"category\":\"c\"}]}",
+            3,
+            b"flow: unknown category",
+        ),
+        (
+            b"{\"rules\":[{\"command\":\"x\",\"outputs\":[]}]}",
+            3,
+            b"flow: rule 0: no output",
+        ),
+    ];
+    for (flow, status, line) in cases.iter() {
+        let (ended, out) = run_jx(alloc, flow)?;
+        let mut wanted = Vec::from_slice(alloc, b"makeflow: ")?;
+        wanted.extend_from_slice(line)?;
+        wanted.push(b'\n')?;
+        assert_eq!(rt; out.bytes(), wanted.as_slice());
+        assert_eq!(rt; ended.status, *status);
+        let runs = *status == 0;
+        let (first, last) = (ended.site.get(b"o00"), ended.site.get(b"o42"));
+        assert_eq!(rt; first, runs.then_some(b"00\n".as_slice()));
+        assert_eq!(rt; last, runs.then_some(b"42\n".as_slice()));
+        assert_eq!(rt; ended.site.get(b"o01"), None);
+    }
+    Ok(())
+}
+
 #[test]
 fn a_failed_rule_is_named_and_writes_nothing(rt: HostRuntime) -> Result<(), Fail> {
     let alloc = rt.alloc();
@@ -286,7 +350,7 @@ fn words_that_name_no_flow(rt: HostRuntime) -> Result<(), Fail> {
         (&["makeflow", "-j", "17", "flow"], 2, usage),
         (&["makeflow", "-T", "condor", "flow"], 2, usage),
         (&["makeflow", "-j", "1", "-j", "1", "flow"], 2, usage),
-        (&["makeflow", "--jx", "flow"], 3, unbuilt),
+        (&["makeflow", "--jx", "-c", "flow"], 3, unbuilt),
         (&["makeflow", "-T", "wq", "flow"], 3, unbuilt),
         (&["makeflow", "--generate", "6"], 3, unbuilt),
         (&["makeflow", "-r", "1", "absent"], 3, unbuilt),
