@@ -1,7 +1,8 @@
-use flow_types::Text;
+use flow_types::{Rows, Text};
 use jx_eval::{eval, eval_counted};
 use jx_meaning::{EvalFault, JxScope};
-use jx_syntax::{JxValue, parse, value_text};
+use jx_syntax::{JxPair, JxValue, parse, value_text};
+use jx_values::are_equal;
 use std::alloc::Global;
 use std::test::Fail;
 
@@ -287,7 +288,8 @@ fn values_within_the_limits(rt: HostRuntime) -> Result<(), Fail> {
 fn worth_within(alloc: Global, text: &str, nodes: u32) -> Result<String, Fail> {
     let expr = parse(alloc, text.as_bytes())?;
     let begun = MOST_NODES.saturating_sub(nodes);
-    match eval_counted(alloc, &expr, &JxScope::new(alloc), begun) {
+    let whole = expr.nodes().len() - 1;
+    match eval_counted(alloc, &expr, whole, &JxScope::new(alloc), begun) {
         Ok((value, count)) => {
             let left = MOST_NODES.saturating_sub(count);
             let shown = value_text(alloc, &value)?.into_string();
@@ -386,5 +388,70 @@ fn a_large_list_is_looked_at_where_it_stands(rt: HostRuntime) -> Result<(), Fail
         ),
     ];
     assert_eq!(rt; first_otherwise(alloc, &scope, &cases)?, None);
+    Ok(())
+}
+
+// Whether the text of a value is worth that value again.
+fn comes_back(alloc: Global, value: &JxValue) -> Result<bool, Fail> {
+    let text = value_text(alloc, value)?;
+    let expr = parse(alloc, text.as_str().as_bytes())?;
+    let back = eval(alloc, &expr, &JxScope::new(alloc))?;
+    Ok(are_equal(value, &back))
+}
+
+// A list of numbers at the ends of 64 bits and of texts with escapes.
+fn numbers_and_texts(alloc: Global) -> Result<JxValue, Fail> {
+    let mut items = Vec::new(alloc);
+    for number in [0, 1, -1, i64::MAX, -i64::MAX, i64::MIN] {
+        items.push(JxValue::Number(number))?;
+    }
+    let texts = [
+        "",
+        "null",
+        "a b/'",
+        "\"\\",
+        "\n\r\t\0\x1f\x7f",
+        "\u{e9}\u{1f600}",
+    ];
+    for text in texts.iter() {
+        items.push(JxValue::Text(Text::of(alloc, *text)?))?;
+    }
+    Ok(JxValue::List(Rows::of(items)))
+}
+
+// An object of these keys, in this order.
+fn object_of(alloc: Global, keys: &[&str]) -> Result<JxValue, Fail> {
+    let mut pairs = Vec::new(alloc);
+    for key in keys.iter() {
+        pairs.push(JxPair {
+            key: Text::of(alloc, *key)?,
+            value: numbers_and_texts(alloc)?,
+        })?;
+    }
+    Ok(JxValue::Object(Rows::of(pairs)))
+}
+
+// The value as the only item of a list, so many times over.
+fn within_lists(alloc: Global, value: JxValue, times: usize) -> Result<JxValue, Fail> {
+    let mut nested = value;
+    for _ in 0..times {
+        let mut items = Vec::new(alloc);
+        items.push(nested)?;
+        nested = JxValue::List(Rows::of(items));
+    }
+    Ok(nested)
+}
+
+#[test]
+fn values_come_back_from_their_texts(rt: HostRuntime) -> Result<(), Fail> {
+    let alloc = rt.alloc();
+    assert!(rt; comes_back(alloc, &JxValue::Null)?);
+    assert!(rt; comes_back(alloc, &JxValue::Truth(false))?);
+    assert!(rt; comes_back(alloc, &JxValue::Number(i64::MIN))?);
+    assert!(rt; comes_back(alloc, &numbers_and_texts(alloc)?)?);
+    let object = object_of(alloc, &["", "b\"", "a", "\u{e9}"])?;
+    assert!(rt; comes_back(alloc, &object)?);
+    // The object, its lists and the minus within these are three levels.
+    assert!(rt; comes_back(alloc, &within_lists(alloc, object, 125)?)?);
     Ok(())
 }
