@@ -1,5 +1,5 @@
 -- What a table is once it followed a record.
-use Rattle.std.proofs.Common.{◌≡◌, ◌∙◌, ◌≤◌, ℕ, zero, suc, Bool, true, false, List, [], ◌∷◌, ◌++◌, length, map, take, drop, get_or, Option, Result, Ok, Err, refl, sym, ap, subst, true≢false, arith, append-nil, length-append}
+use Rattle.std.proofs.Common.{◌≡◌, ◌∙◌, ◌≤◌, ℕ, Bool, true, false, List, [], ◌∷◌, ◌++◌, length, map, take, drop, get_or, Option, Result, Ok, Err, refl, sym, ap, subst, true≢false, arith, append-nil}
 use Rattle.flow_types.specs.declared.plan.Plan.{Plan}
 use Rattle.flow_types.specs.declared.numbers.Content.{Content}
 use Rattle.flow_types.specs.declared.numbers.RuleNo.{RuleNo}
@@ -13,7 +13,6 @@ use Rattle.run_history.specs.declared.states.RuleState.{RuleState}
 use Rattle.run_history.specs.declared.answers.Nothing.{Nothing}
 use Rattle.run_history.specs.Legal.{runs}
 use Rattle.run_history.specs.Links.{records_of}
-use Rattle.run_history.specs.Answers.{claim_of}
 use Rattle.task_core.specs.declared.table.Started.{Started}
 use Rattle.task_core.specs.States.{TableState}
 use Rattle.task_core.specs.Stands.{Claims, Closes, IsStill, Stands, logged}

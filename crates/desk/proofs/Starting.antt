@@ -1,10 +1,10 @@
 -- Why a run may begin, and what its first record leaves.
-use Rattle.std.proofs.Common.{◌≡◌, ◌≢◌, ◌≤◌, ◌<◌, ◌∙◌, ℕ, zero, suc, ◌+◌, Bool, true, false, cond, List, [], ◌∷◌, ◌++◌, length, Option, Some, None, Result, Ok, Err, map, filter, drop, refl, sym, ap, subst, arith, true≢false, length-append}
+use Rattle.std.proofs.Common.{◌≡◌, ◌≤◌, ◌<◌, ◌∙◌, ℕ, zero, suc, ◌+◌, Bool, true, false, cond, List, [], ◌∷◌, ◌++◌, length, Option, Some, None, Result, Err, map, filter, drop, refl, sym, ap, subst, arith, true≢false, length-append}
 use Rattle.std.specs.Prelude.{◌==◌, ◌&&◌, nat_lt, nat_le, is_some, is_none, not, slice_get, unwrap_or, option_map}
-use Rattle.std.specs.List.{list_all, list_any, range_with_len}
+use Rattle.std.specs.List.{list_any}
 use Rattle.std.specs.Option.{option_map_or, option_and_then}
 use Rattle.std.specs.Str.{bytes_eq}
-use Rattle.std.proofs.lemmas.Bool.{and_right, eqb-true, eqb-false, le-leb, leb-true, leb-false, ltb-true, lt-ltb}
+use Rattle.std.proofs.lemmas.Bool.{and_right, eqb-true, eqb-false, le-leb, leb-true, leb-false}
 use Rattle.std.proofs.lemmas.List.FromFn.{length-range_with_len}
 use Rattle.std.proofs.lemmas.Slice.Eq.{bytes_eq-Decides}
 use Rattle.flow_types.specs.declared.plan.Plan.{Plan}
@@ -12,9 +12,8 @@ use Rattle.flow_types.specs.declared.plan.FileRow.{FileRow}
 use Rattle.flow_types.specs.declared.numbers.Content.{Content}
 use Rattle.flow_types.specs.declared.numbers.Digest.{Digest}
 use Rattle.flow_types.specs.declared.records.Record.{Record}
-use Rattle.flow_types.specs.declared.records.Record.TheVariants as records
-use Rattle.flow_types.specs.Plans.{IsValid, is_empty, is_source, maker_of, makes, numbers, file_numbers, rule_numbers, sources_of, most_bytes, most_files}
-use Rattle.flow_types.specs.Serial.{Contents, Function, serial}
+use Rattle.flow_types.specs.Plans.{IsValid, is_empty, is_source, maker_of, makes, file_numbers, rule_numbers, sources_of, most_files}
+use Rattle.flow_types.specs.Serial.{Contents, Function}
 use Rattle.flow_types.proofs.SerialRun.{serial-source}
 use Rattle.run_history.specs.declared.options.Options.{Options}
 use Rattle.run_history.specs.declared.states.FileState.{FileState}
@@ -23,7 +22,6 @@ use Rattle.run_history.specs.History.{is_cleaned, is_opening, part, next_run, la
 use Rattle.run_history.specs.States.{outs_of, outs_in, row_of, present_with, made_state, opened_sources, sources_in, running_in}
 use Rattle.run_history.specs.Storage.{is_running, is_within, running_rules, stored}
 use Rattle.run_history.specs.Legal.{is_allowed, is_legal, is_legal_from, is_numbered, first_illegal, first_illegal_from, has_places, most_records}
-use Rattle.run_history.specs.Laws.{IsPresent}
 use Rattle.run_history.proofs.Bools.{both}
 use Rattle.run_history.proofs.Steps.{part-push, outs-push, last_said-push, running-opened, running-is}
 use Rattle.run_history.specs.Answers.{or_else, where_so}
@@ -326,6 +324,14 @@ pub refused_record : (P : Plan) (H : List Record) (at : ℕ) → option_and_then
 refused_record P H at plan illegal =
     ap (λ o. or_else o (or_else (option_map faults.NotLegal (first_illegal P (plan_digest P) H)) (or_else (where_so (nat_le full_log (length H)) (faults.LogFull (length H))) None))) plan
     ∙ ap (λ n. or_else (option_map faults.NotLegal n) (or_else (where_so (nat_le full_log (length H)) (faults.LogFull (length H))) None)) illegal
+
+-- a bound that isn't come to
+pub room_left : (most many : ℕ) → many < most → nat_le most many ≡ false
+room_left most many lt = by_test (nat_le most many) refl
+  where
+    by_test : (t : Bool) → nat_le most many ≡ t → nat_le most many ≡ false
+    by_test true is = let le = leb-true most many is in absurd (let wrong : ⊥ = omega (arith, le, lt) in wrong)
+    by_test false is = is
 
 pub by_room : (P : Plan) (H : List Record) (full : Bool) → nat_le full_log (length H) ≡ full → option_and_then (other_flow (plan_digest P)) (opened_plan H) ≡ None → is_legal P (plan_digest P) H ≡ true
     → early_fault P H ≡ where_so full (faults.LogFull (length H))

@@ -41,7 +41,7 @@ woven_records (steps.Joined link total largest cache ∷ ss) H are = one_record 
 woven_records (steps.Changed link total largest cache ∷ ss) H are = one_record (moves.Changed link total largest cache) (woven ss H) ∙ woven_records ss H are
 woven_records (steps.Left link ∷ ss) H are = one_record (moves.Left link) (woven ss H) ∙ woven_records ss H are
 
-all_records : (H : List Record) → records_of (map moves.Logged H) ≡ H
+pub all_records : (H : List Record) → records_of (map moves.Logged H) ≡ H
 all_records [] = refl
 all_records (x ∷ H) = one_record (moves.Logged x) (map moves.Logged H) ∙ ap (λ (l : List Record). x ∷ l) (all_records H)
 

@@ -16,7 +16,7 @@ use Rattle.desk.specs.declared.answers.StartFault.{StartFault}
 use Rattle.desk.specs.declared.answers.StartFault.TheVariants as faults
 use Rattle.desk.specs.declared.answers.StartRefused.{StartRefused}
 use Rattle.desk.specs.Kept.{Test, Keeps}
-use Rattle.desk.specs.Openings.{AreSound, LooksOver, Opens, early_fault}
+use Rattle.desk.specs.Openings.{IsFileFault, LooksOver, Opens, early_fault}
 use Rattle.desk.specs.State.{DeskState}
 
 -- why it is refused: the site's count rose, or memory was wanting
@@ -68,6 +68,13 @@ BeginsRun {S} P O log first H moment tells files old (Ok d) =
     (early_fault P H ≡ None) × (tells → FindsFiles P H files (let found : Result (Unit {0}) StartFault = Ok tt in found))
     × ((x : Record) × Opens P O (run_over H moment) tells files x × Begins P O log first H x (let begun : Result (DeskState S) (StartRefused S) = Ok d in begun))
 BeginsRun {S} P O log first H moment tells files old (Err refused) = (refused.history ≡ H) × IsRefusal P H first tells files old refused.site refused.why
+
+-- What the looks at the files before a run answer: the record with which it begins, or why it doesn't.
+abbrev pub Prepares : Plan → Options → List Record → ℕ → ℕ → Type 0 → Files → Result Record StartFault → Type 0
+Prepares P O H moment first tells files (Ok x) = Opens P O (run_over H moment) tells files x × (tells → FindsFiles P H files (let found : Result (Unit {0}) StartFault = Ok tt in found))
+Prepares P O H moment first tells files (Err (faults.Site before after)) = (before ≡ first) × (before < after)
+Prepares P O H moment first tells files (Err faults.Memory) = Unit {0}
+Prepares P O H moment first tells files (Err why) = IsFileFault why × (tells → FindsFiles P H files (let found : Result (Unit {0}) StartFault = Err why in found))
 
 -- The table of a run over this history, which has to be legal and of the same plan, with room in the log.
 abbrev pub Admits : Plan → Options → List Record → Result TableState StartFault → Type 0

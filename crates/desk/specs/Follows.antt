@@ -1,5 +1,5 @@
 -- The records that a table follows.
-use Rattle.std.specs.Prelude.{◌≡◌, ◌<◌, ℕ, true, false, List, length, Option, Ok, nat_le, sum_by}
+use Rattle.std.specs.Prelude.{◌≡◌, ◌<◌, true, false, List, length, Option, Ok, nat_le, sum_by}
 use Rattle.flow_types.specs.declared.plan.Plan.{Plan}
 use Rattle.flow_types.specs.declared.records.Record.{Record}
 use Rattle.flow_types.specs.declared.records.Record.TheVariants as records

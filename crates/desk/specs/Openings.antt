@@ -1,24 +1,21 @@
 -- What stands in the way of a run, and the record that it begins with.
-use Rattle.std.specs.Prelude.{◌≡◌, ◌≤◌, ◌<◌, ℕ, Bool, true, false, ◌==◌, ◌&&◌, List, [], ◌∷◌, ◌++◌, length, Option, Some, None, Result, Ok, Err, map, filter, option_map, if◌then◌else◌, nat_le, nat_lt}
+use Rattle.std.specs.Prelude.{◌≡◌, ◌≤◌, ◌<◌, ℕ, Bool, true, false, ◌==◌, List, [], ◌∷◌, ◌++◌, length, Option, Some, None, Result, Ok, Err, map, filter, option_map, if◌then◌else◌, nat_le, nat_lt}
 use Rattle.std.specs.List.{list_all}
-use Rattle.std.specs.Option.{option_map_or, option_and_then}
+use Rattle.std.specs.Option.{option_and_then}
 use Rattle.std.specs.Str.{bytes_eq}
 use Rattle.sha2.specs.Sha256.{sha256}
 use Rattle.flow_types.specs.declared.plan.Plan.{Plan}
 use Rattle.flow_types.specs.declared.numbers.Content.{Content}
 use Rattle.flow_types.specs.declared.numbers.Digest.{Digest}
-use Rattle.flow_types.specs.declared.numbers.FileNo.{FileNo}
 use Rattle.flow_types.specs.declared.records.Record.{Record}
 use Rattle.flow_types.specs.declared.records.Record.TheVariants as records
-use Rattle.flow_types.specs.Plans.{is_empty, is_source, numbers, sources_of, most_bytes}
+use Rattle.flow_types.specs.Plans.{is_source, numbers, sources_of, most_bytes}
 use Rattle.run_history.specs.declared.options.Options.{Options}
-use Rattle.run_history.specs.declared.moves.Move.TheVariants as moves
 use Rattle.run_history.specs.declared.states.FileState.{FileState}
 use Rattle.run_history.specs.declared.states.FileState.TheVariants as file
 use Rattle.run_history.specs.declared.states.Found.{Found}
 use Rattle.run_history.specs.declared.states.Found.TheVariants as found
-use Rattle.run_history.specs.History.{part, next_run}
-use Rattle.run_history.specs.States.{file_state}
+use Rattle.run_history.specs.History.{part}
 use Rattle.run_history.specs.Legal.{first_illegal}
 use Rattle.run_history.specs.Answers.{file_no, first_of, where_so}
 use Rattle.rule_graph.specs.Spelling.{plan_digest}
@@ -74,6 +71,14 @@ source_row P files f = logged (content (files (file_name P f)))
 -- the contents of all sources
 abbrev pub source_rows : Plan → Files → List Content
 source_rows P files = map (source_row P files) (sources_of P)
+
+-- It is a fault of a file.
+abbrev pub IsFileFault : StartFault → Type 0
+IsFileFault (faults.SourceMissing file) = Unit {0}
+IsFileFault (faults.SourceTooLarge file size) = Unit {0}
+IsFileFault (faults.SourceChanged file content found) = Unit {0}
+IsFileFault (faults.FileDamaged file content found) = Unit {0}
+IsFileFault why = ⊥
 
 -- A look at a file finds nothing wrong, or what is wrong with it.
 abbrev pub LooksAt : {A : Type 0} → Option StartFault → Result A StartFault → Type 0

@@ -1,5 +1,5 @@
 //! The files of a plan, as a run begins.
-ghost use Rattle.std.specs.Prelude.{◌≡◌, ◌≢◌, ◌≤◌, ◌<◌, List, ℕ, length, Option, OnOk, IfOk, true, false};
+ghost use Rattle.std.specs.Prelude.{◌≡◌, ◌≢◌, ◌≤◌, ◌<◌, List, ℕ, length, Option, OnOk, IfOk, IfErr, true, false};
 ghost use Rattle.flow_types.specs.Plans.{is_source};
 ghost use Rattle.outside.specs.Causes.{HasCause};
 ghost use Rattle.outside.specs.Disk.{IsImage, LeavesOnly, Within};
@@ -7,7 +7,7 @@ ghost use Rattle.outside.specs.Files.{content};
 ghost use Rattle.file_store.specs.Outputs.{file_name};
 ghost use Rattle.task_core.specs.States.{file_at};
 ghost use Rattle.desk.specs.Kept.{logged};
-ghost use Rattle.desk.specs.Openings.{AddsRow, AreDurable, AreRows, IsRow, LooksAt, LooksOver, changed_fault, damaged_fault, file_fault, source_fault, source_row};
+ghost use Rattle.desk.specs.Openings.{AddsRow, AreDurable, AreRows, IsFileFault, IsRow, LooksAt, LooksOver, changed_fault, damaged_fault, file_fault, source_fault, source_row};
 
 use crate::StartFault;
 use crate::inputs::read_logged;
@@ -27,6 +27,7 @@ fn new_source<S: Site>(
 ) -> Result<Result<Option<Content>, StartFault>, Fault>
     ensures found { IfOk result (λ found. S.tells
         → LooksAt (source_fault file.0 (S.files site.old name.now)) found) }
+    ensures kind { IfOk result (λ found. IfErr found IsFileFault) }
     ensures row { IfOk result (IsRow true S.tells (logged (content (S.files site.old name.now)))) }
     ensures durable { OnOk result (S.tells → (there : Option (List ℕ))
         → S.may_leave site.new name.now there → there ≡ S.files site.old name.now) }
@@ -53,6 +54,7 @@ fn old_source<S: Site>(
 ) -> Result<Result<(), StartFault>, Fault>
     ensures found { IfOk result (λ found. S.tells
         → LooksAt (changed_fault file.0 logged (S.files site.old name.now)) found) }
+    ensures kind { IfOk result (λ found. IfErr found IsFileFault) }
     ensures files { OnOk result (S.tells → (m : List ℕ) → S.files site.new m ≡ S.files site.old m) }
     ensures within { S.tells → Within (S.may_leave site.old) (S.may_leave site.new) }
     ensures any_moment { S.tells
@@ -78,6 +80,7 @@ fn made_file<S: Site>(
 ) -> Result<Result<(), StartFault>, Fault>
     ensures found { IfOk result (λ found. S.tells
         → LooksAt (damaged_fault file.0 logged (S.files site.old name.now)) found) }
+    ensures kind { IfOk result (λ found. IfErr found IsFileFault) }
     ensures files { OnOk result (S.tells → (m : List ℕ) → S.files site.new m ≡ S.files site.old m) }
     ensures within { S.tells → Within (S.may_leave site.old) (S.may_leave site.new) }
     ensures any_moment { S.tells
@@ -106,6 +109,7 @@ fn old_file<S: Site>(
     requires inside { file.0 < length table.now.plan.files }
     ensures found { IfOk result (λ found. S.tells
         → LooksAt (file_fault table.now.plan false (file_at table.now) (S.files site.old) file.0) found) }
+    ensures kind { IfOk result (λ found. IfErr found IsFileFault) }
     ensures files { OnOk result (S.tells → (m : List ℕ) → S.files site.new m ≡ S.files site.old m) }
     ensures within { S.tells → Within (S.may_leave site.old) (S.may_leave site.new) }
     ensures any_moment { S.tells
@@ -132,6 +136,7 @@ fn new_file<S: Site>(
     requires inside { file.0 < length table.now.plan.files }
     ensures found { IfOk result (λ found. S.tells
         → LooksAt (file_fault table.now.plan true (file_at table.now) (S.files site.old) file.0) found) }
+    ensures kind { IfOk result (λ found. IfErr found IsFileFault) }
     ensures row { IfOk result (IsRow (is_source table.now.plan file.0) S.tells (source_row table.now.plan (S.files site.old) file.0)) }
     ensures durable { OnOk result (S.tells → is_source table.now.plan file.0 ≡ true → (there : Option (List ℕ))
         → S.may_leave site.new (file_name table.now.plan file.0) there → there ≡ S.files site.old (file_name table.now.plan file.0)) }
@@ -160,6 +165,7 @@ fn note_new_file<S: Site>(
     requires inside { file.0 < length table.now.plan.files }
     ensures found { IfOk result (λ found. S.tells
         → LooksAt (file_fault table.now.plan true (file_at table.now) (S.files site.old) file.0) found) }
+    ensures kind { IfOk result (λ found. IfErr found IsFileFault) }
     ensures rows { IfOk result (λ found. AddsRow (is_source table.now.plan file.0) S.tells (source_row table.now.plan (S.files site.old) file.0) rows.old found rows.new) }
     ensures durable { OnOk result (S.tells → is_source table.now.plan file.0 ≡ true → (there : Option (List ℕ))
         → S.may_leave site.new (file_name table.now.plan file.0) there → there ≡ S.files site.old (file_name table.now.plan file.0)) }
@@ -187,6 +193,7 @@ pub(crate) fn check_files<S: Site>(
 ) -> Result<Result<(), StartFault>, Fault>
     ensures found { IfOk result (λ found. S.tells
         → LooksOver table.now.plan false (file_at table.now) (S.files site.old) found) }
+    ensures kind { IfOk result (λ found. IfErr found IsFileFault) }
     ensures within { S.tells → Within (S.may_leave site.old) (S.may_leave site.new) }
     ensures any_moment { S.tells
         → LeavesOnly S.moment S.images_since site.old site.new (IsImage (S.may_leave site.old)) }
@@ -210,6 +217,7 @@ pub(crate) fn settle_sources<S: Site>(
 ) -> Result<Result<Rows<Content>, StartFault>, Fault>
     ensures found { IfOk result (λ found. S.tells
         → LooksOver table.now.plan true (file_at table.now) (S.files site.old) found) }
+    ensures kind { IfOk result (λ found. IfErr found IsFileFault) }
     ensures rows { IfOk result (λ found. IfOk found (AreRows table.now.plan S.tells (S.files site.old) (length table.now.plan.files))) }
     ensures durable { IfOk result (λ found. OnOk found (S.tells
         → AreDurable table.now.plan (S.files site.old) (length table.now.plan.files) (S.may_leave site.new))) }

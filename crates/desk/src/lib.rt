@@ -12,6 +12,7 @@ mod inputs;
 mod openings;
 mod seen;
 mod sources;
+mod start;
 mod starts;
 mod step;
 mod terms;

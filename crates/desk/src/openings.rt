@@ -1,10 +1,10 @@
 //! The record with which a run begins.
-ghost use Rattle.std.specs.Prelude.{◌≡◌, length, OnOk, IfOk, true};
+ghost use Rattle.std.specs.Prelude.{◌≡◌, length, OnOk, IfOk, IfErr, true};
 ghost use Rattle.rule_graph.specs.Spelling.{plan_digest};
 ghost use Rattle.outside.specs.Causes.{HasCause};
 ghost use Rattle.outside.specs.Disk.{IsImage, LeavesOnly, Within};
 ghost use Rattle.task_core.specs.States.{file_at};
-ghost use Rattle.desk.specs.Openings.{AreDurable, LooksOver, Opens};
+ghost use Rattle.desk.specs.Openings.{AreDurable, IsFileFault, LooksOver, Opens};
 
 use crate::StartFault;
 use crate::files::{check_files, settle_sources};
@@ -33,6 +33,7 @@ pub(crate) fn opening<S: Site>(
     requires digest { digest.0 ≡ plan_digest table.now.plan }
     ensures found { IfOk result (λ found. S.tells
         → LooksOver table.now.plan run.first (file_at table.now) (S.files site.old) found) }
+    ensures kind { IfOk result (λ found. IfErr found IsFileFault) }
     ensures opens { IfOk result (λ found. IfOk found (λ entry. Opens table.now.plan table.now.options run S.tells (S.files site.old) entry)) }
     ensures durable { IfOk result (λ found. OnOk found (S.tells → run.first ≡ true
         → AreDurable table.now.plan (S.files site.old) (length table.now.plan.files) (S.may_leave site.new))) }

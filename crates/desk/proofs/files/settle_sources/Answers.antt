@@ -1,4 +1,4 @@
-use Rattle.std.proofs.Common.{◌∙◌, Result, Ok, ap, sym, subst, true, arith}
+use Rattle.std.proofs.Common.{◌∙◌, Result, ap, sym, subst, true, arith}
 use Rattle.flow_types.specs.Plans.{is_source}
 use Rattle.task_core.specs.States.{file_at}
 use Rattle.desk.specs.declared.answers.StartFault.{StartFault}

@@ -1,4 +1,4 @@
-use Rattle.std.proofs.Common.{◌≡◌, ◌∙◌, sym, subst}
+use Rattle.std.proofs.Common.{◌≡◌, sym, subst}
 use Rattle.outside.specs.Disk.{LeavesOnly}
 use Rattle.run_history.specs.Links.{records_of}
 use Rattle.run_history.specs.Answers.{claim_of}
