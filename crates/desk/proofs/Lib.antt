@@ -15,3 +15,5 @@ pub mod Looks
 pub mod Starting
 pub mod Following
 pub mod Beginning
+pub mod Absent
+pub mod Stopping

@@ -1,6 +1,8 @@
 -- A file as it was logged, or what stands in its place.
 use Rattle.std.specs.Prelude.{◌≡◌, ◌≢◌, ◌<◌, ℕ, List, length, take, Option, Some, None, Result, Ok, Err}
 use Rattle.flow_types.specs.declared.numbers.Content.{Content}
+use Rattle.run_history.specs.declared.states.FileState.{FileState}
+use Rattle.run_history.specs.declared.states.FileState.TheVariants as file
 use Rattle.run_history.specs.declared.states.Found.{Found}
 use Rattle.run_history.specs.declared.states.Found.TheVariants as found
 use Rattle.outside.specs.Files.{content}
@@ -10,6 +12,12 @@ use Rattle.desk.specs.declared.answers.InputRefused.TheVariants as refused
 use Rattle.desk.specs.declared.answers.Trouble.TheVariants as trouble
 use Rattle.desk.specs.Kept.{logged}
 use Rattle.desk.specs.State.{DeskState, IsFine}
+
+-- the content of a file that is present
+abbrev pub content_in : FileState → Option Content
+content_in (file.Present content) = Some content
+content_in file.Absent = None
+content_in file.Collected = None
 
 -- so many first bytes of a file
 abbrev pub Reads : ℕ → Option (List ℕ) → List ℕ → Type 0

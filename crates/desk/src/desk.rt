@@ -7,10 +7,12 @@ ghost use Rattle.flow_types.specs.Serial.{job_of, serial};
 ghost use Rattle.run_history.specs.declared.moves.Move.TheVariants as moves;
 ghost use Rattle.run_history.specs.History.{is_cleaned, next_attempt, part};
 ghost use Rattle.run_history.specs.Legal.{is_allowed, is_failure_at, has_places, runs};
-ghost use Rattle.run_history.specs.Answers.{claim_of};
+ghost use Rattle.run_history.specs.declared.answers.Stop.TheVariants as stops;
+ghost use Rattle.run_history.specs.Answers.{claim_of, stop_of};
+ghost use Rattle.run_history.specs.States.{file_state};
 ghost use Rattle.run_history.specs.Laws.{IsPresent, started_as};
 ghost use Rattle.run_history.specs.Links.{is_live, records_of};
-ghost use Rattle.run_history.specs.Storage.{has_failed, running_rules};
+ghost use Rattle.run_history.specs.Storage.{has_failed, is_present, running_rules};
 ghost use Rattle.rule_graph.specs.Spelling.{plan_digest};
 ghost use Rattle.log_records.specs.Spelling.{ListsFew};
 ghost use Rattle.outside.specs.Disk.{LeavesOnly, IsImage};
@@ -22,7 +24,7 @@ ghost use Rattle.task_core.specs.Stands.{Stands};
 ghost use Rattle.task_core.specs.Surveys.{claimed};
 ghost use Rattle.desk.specs.Claims.{Claims, KeepsClaim, Starts, Works};
 ghost use Rattle.desk.specs.Follows.{Follows, IsShaped};
-ghost use Rattle.desk.specs.Inputs.{IsWhole, Looks, Tells};
+ghost use Rattle.desk.specs.Inputs.{IsWhole, Looks, Tells, content_in};
 ghost use Rattle.desk.specs.Kept.{Fits, IsLegal, Keeps, WasKept, FilesHold, KeepsEither, logged};
 ghost use Rattle.desk.specs.State.{AreNamed, AreOutputs, CanLose, CanWrite, Checks, Closes, IsCut, IsDue, IsFine, Records, Takes, Writes, closed, is_final};
 
@@ -30,7 +32,7 @@ use crate::attempt::Attempt;
 use crate::contents::store_outputs;
 use crate::entry::log_entry;
 use crate::follow::follow;
-use crate::inputs::read_logged;
+use crate::inputs::{content_in, read_logged};
 use crate::seen::look;
 use crate::starts::next_attempt;
 use crate::step::Step;
@@ -524,6 +526,55 @@ impl<F: Commands, S: Site, T: Terms> Desk<F, S, T> {
                 Err(InputRefused::Memory)
             }
         }
+    }
+
+    /// What was logged of a file that is present.
+    fn logged(&self, file: FileNo) -> Option<Content>
+        ensures { result ≡ content_in (file_state self.now.plan (records_of self.now.moves) file.0) }
+    {
+        if file.0 as usize >= self.table.plan().files.len() {
+            return None;
+        }
+        content_in(self.table.file(file))
+    }
+
+    /// Whether a file is present, as the records say: a source, or made and not removed since.
+    pub fn present(&self, file: FileNo) -> bool
+        ensures { result ≡ is_present self.now.plan (records_of self.now.moves) file.0 }
+    {
+        self.logged(file).is_some()
+    }
+
+    /// The content of a file, as it was logged, or what stands in its place. Condition: the file is present.
+    pub fn read_input(&mut self, alloc: Global, file: FileNo) -> Result<Bytes, InputRefused>
+        requires present { is_present self.old.plan (records_of self.old.moves) file.0 ≡ true }
+        ensures reply { (logged : Content) → IsPresent self.old.plan (records_of self.old.moves) file.0 logged
+            → Looks self.old file logged result self.new }
+        ensures told { (logged : Content) → IsPresent self.old.plan (records_of self.old.moves) file.0 logged
+            → S.tells → IsFine self.old.trouble
+            → Tells logged (S.files self.old.site (file_name self.old.plan file.0)) result }
+        ensures whole { S.tells → T.kept → IsWhole result }
+        ensures honest { IfOk result (λ bytes. S.tells → T.kept → T.trust
+            → serial self.old.plan F.gives T.sources file.0 ≡ Some bytes) }
+        ensures any_moment { S.tells → T.kept → IsFine self.old.trouble
+            → LeavesOnly S.moment S.images_since self.old.site self.new.site
+            (Keeps (Fits T.trust F.gives T.sources) self.old.plan self.old.log
+            (records_of self.old.moves)) }
+    {
+        match self.logged(file) {
+            Some(logged) => self.read_present(alloc, file, logged),
+            None => unreachable!(),
+        }
+    }
+
+    /// A stop at once stands from now on, unless a stop stood before. It takes no memory.
+    pub fn halt(&mut self)
+        ensures { self.new ≡ record self.old {
+          stop = stop_of self.old.plan self.old.options self.old.moves
+              self.old.stop stops.Halt;
+        } }
+    {
+        self.table.halt();
     }
 
     /// The site and the records. Each attempt that was made is closed, or the desk doesn't work any more.

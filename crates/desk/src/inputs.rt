@@ -2,13 +2,23 @@
 ghost use Rattle.std.specs.Prelude.{◌≡◌, ◌≤◌, ◌<◌, ◌^◌, length, IfOk, Some};
 ghost use Rattle.outside.specs.Causes.{HasCause};
 ghost use Rattle.outside.specs.Disk.{IsImage, LeavesOnly, Within};
-ghost use Rattle.desk.specs.Inputs.{Finds, Reads};
+ghost use Rattle.desk.specs.Inputs.{Finds, Reads, content_in};
 
 use crate::contents::content_of;
 use flow_types::{Bytes, Content, Name};
 use outside::{Fault, Site};
-use run_history::Found;
+use run_history::{FileState, Found};
 use std::alloc::Global;
+
+/// The content of a file that is present.
+pub(crate) fn content_in(state: FileState) -> Option<Content>
+    ensures { result ≡ content_in state }
+{
+    match state {
+        FileState::Present(content) => Some(content),
+        FileState::Absent | FileState::Collected => None,
+    }
+}
 
 /// So many bytes of a file, or fewer where it has fewer.
 pub(crate) fn read_bytes<S: Site>(

@@ -1,0 +1,43 @@
+use Rattle.std.proofs.Common.{◌∙◌, ap}
+use Rattle.run_history.specs.declared.answers.Stop.TheVariants as stops
+use Rattle.run_history.specs.Answers.{stop_of}
+use Rattle.desk.specs.Kept.{Fits}
+use Rattle.desk.specs.State.{DeskState}
+use Rattle.desk.specs.Woven.{moves_of}
+use Rattle.desk.proofs.Stopping.{stopped_desk, stopped_view}
+use Rattle.desk.proofs.desk.Desk.halt.Goals as goal
+
+pub invariant_of-self : goal.invariant_of-self
+invariant_of-self g c = (
+  c.self.invariant.0,
+  stopped_desk (Fits g.T.Terms.trust g.F.Commands.gives g.T.Terms.sources) g.S.Site.tells g.T.Terms.kept g.S.Site.may_leave g.S.Site.moment g.S.Site.images_since g.S.Site.count g.T.Terms.born
+      (let d : DeskState g.row.S.Denot = record {
+        plan = c.self.inside.table.plan;
+        options = c.self.inside.table.options;
+        log = c.self.inside.log.name;
+        base = c.self.inside.base;
+        faults = c.self.inside.faults;
+        moves = moves_of c.self.inside.base c.self.inside.steps.items c.self.inside.records.items;
+        stop = c.self.inside.table.stop;
+        trouble = c.self.inside.trouble;
+        site = c.self.inside.site;
+      } in d)
+      c.self.inside.log c.self.inside.table c.halt.new.self (stop_of c.self.inside.table.plan c.self.inside.table.options (moves_of c.self.inside.base c.self.inside.steps.items c.self.inside.records.items) c.self.inside.table.stop stops.Halt) (c.halt.ensures.stop (moves_of c.self.inside.base c.self.inside.steps.items c.self.inside.records.items)) c.self.invariant.1,
+  c.halt.ensures.stands (moves_of c.self.inside.base c.self.inside.steps.items c.self.inside.records.items) c.self.invariant.2,
+)
+
+pub returns : goal.returns
+returns g c =
+    stopped_view (let d : DeskState g.row.S.Denot = record {
+      plan = c.self.inside.table.plan;
+      options = c.self.inside.table.options;
+      log = c.self.inside.log.name;
+      base = c.self.inside.base;
+      faults = c.self.inside.faults;
+      moves = moves_of c.self.inside.base c.self.inside.steps.items c.self.inside.records.items;
+      stop = c.self.inside.table.stop;
+      trouble = c.self.inside.trouble;
+      site = c.self.inside.site;
+    } in d)
+    c.self.inside.table c.halt.new.self (stop_of c.self.inside.table.plan c.self.inside.table.options (moves_of c.self.inside.base c.self.inside.steps.items c.self.inside.records.items) c.self.inside.table.stop stops.Halt) (c.halt.ensures.stop (moves_of c.self.inside.base c.self.inside.steps.items c.self.inside.records.items))
+    ∙ ap (λ (v : DeskState g.row.S.Denot). record v { stop = stop_of v.plan v.options v.moves v.stop stops.Halt }) c.self.view_is
