@@ -9,7 +9,7 @@ use Rattle.flow_types.specs.Plans.{IsValid, is_empty}
 use Rattle.run_history.specs.declared.moves.Move.{Move}
 use Rattle.run_history.specs.declared.moves.Move.TheVariants as moves
 use Rattle.run_history.specs.History.{is_cleaned, part}
-use Rattle.run_history.specs.Legal.{is_allowed, has_places}
+use Rattle.run_history.specs.Legal.{is_allowed}
 use Rattle.run_history.specs.Laws.{IsPresent}
 use Rattle.run_history.specs.Links.{records_of}
 use Rattle.run_history.proofs.Steps.{part-push}
@@ -25,7 +25,7 @@ use Rattle.desk.proofs.Named.{named}
 use Rattle.desk.specs.declared.answers.Trouble.{Trouble}
 use Rattle.desk.specs.declared.answers.Trouble.TheVariants as trouble
 use Rattle.desk.specs.Kept.{IsLegal, Keeps, Rests, WasKept, FilesHold, KeepsEither}
-use Rattle.desk.specs.State.{CanWrite, DeskState, IsDesk, IsFine, IsCut, HasCounts, Takes}
+use Rattle.desk.specs.State.{CanWrite, DeskState, has_room, IsDesk, IsFine, IsCut, HasCounts, Takes}
 
 -- a log that is there spells its records
 pub log_spells : (H : List Record) (file : Option (List ℕ)) → IsLogOf H file → Spells H file
@@ -110,7 +110,7 @@ pub record MayStand {S : Type 0} (fits : Plan → ℕ → Content → Option (Li
   pub fine : IsFine d.trouble
   pub allowed : is_allowed d.plan (plan_digest d.plan) (records_of d.moves) x ≡ true
   pub goes_on : is_cleaned x ≡ false
-  pub places : has_places d.plan (records_of d.moves ++ (x ∷ [])) 0 ≡ true
+  pub places : has_room d.plan (records_of d.moves ++ (x ∷ [])) ≡ true
   pub files : tells → FilesHold fits d.plan (records_of d.moves ++ (x ∷ [])) (may_leave d.site)
 
 module _ {S : Type 0} (fits : Plan → ℕ → Content → Option (List ℕ) → Type 0) (tells keeps : Type 0) (may_leave : S → Outcomes) (moment : S → ℕ) (images_since : S → ℕ → Files → Type 0)
@@ -143,7 +143,7 @@ module _ {S : Type 0} (fits : Plan → ℕ → Content → Option (List ℕ) →
         legal = subst (IsLegal d.plan) (sym same) next;
         opened = ap (λ (G : List Record). is_empty (part G)) same ∙ still_opened H x may.goes_on;
         based = let le = is.based in let long = ap (λ (l : List Record). length l) same in omega (arith, le, long, length-append H (x ∷ []));
-        places = ap (λ (G : List Record). has_places d.plan G 0) same ∙ may.places;
+        places = ap (λ (G : List Record). has_room d.plan G) same ∙ may.places;
         apart = is.apart;
         named = is.named;
         log_name = same_name ∙ is.log_name;
@@ -185,7 +185,7 @@ module _ {S : Type 0} (fits : Plan → ℕ → Content → Option (List ℕ) →
         legal = subst (IsLegal d.plan) (sym here) is.legal;
         opened = ap (λ (G : List Record). is_empty (part G)) here ∙ is.opened;
         based = subst (λ (G : List Record). d.base ≤ length G) (sym here) is.based;
-        places = ap (λ (G : List Record). has_places d.plan G 0) here ∙ is.places;
+        places = ap (λ (G : List Record). has_room d.plan G) here ∙ is.places;
         apart = is.apart;
         named = is.named;
         log_name = same_name ∙ is.log_name;
@@ -282,7 +282,7 @@ pub record MayBegin {S : Type 0} (fits : Plan → ℕ → Content → Option (Li
   pub legal : IsLegal P H
   pub allowed : is_allowed P (plan_digest P) H x ≡ true
   pub goes_on : is_cleaned x ≡ false
-  pub places : has_places P (H ++ (x ∷ [])) 0 ≡ true
+  pub places : has_room P (H ++ (x ∷ [])) ≡ true
   pub files : tells × keeps → FilesHold fits P H (may_leave site)
   pub next_files : tells × keeps → FilesHold fits P (H ++ (x ∷ [])) (may_leave site)
   pub later : tells × keeps → born ≤ moment site
@@ -316,7 +316,7 @@ module _ {S : Type 0} (fits : Plan → ℕ → Content → Option (List ℕ) →
         legal = subst (IsLegal d.plan) back (legal-push d.plan (plan_digest d.plan) H x may.legal may.goes_on may.allowed);
         opened = ap (λ (G : List Record). is_empty (part G)) records ∙ still_opened H x may.goes_on;
         based = let long = ap (λ (l : List Record). length l) records in omega (arith, base_is, long, length-append H (x ∷ []));
-        places = ap (λ (G : List Record). has_places d.plan G 0) records ∙ may.places;
+        places = ap (λ (G : List Record). has_room d.plan G) records ∙ may.places;
         apart = λ f here. may.apart f (here ∙ sym name_is);
         named = named d.plan may.valid;
         log_name = sym log_is;

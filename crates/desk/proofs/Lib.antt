@@ -17,3 +17,4 @@ pub mod Following
 pub mod Beginning
 pub mod Absent
 pub mod Stopping
+pub mod Ending

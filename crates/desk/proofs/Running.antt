@@ -1,6 +1,8 @@
 -- How many rules run once one more record stands.
 use Rattle.std.proofs.Common.{◌≡◌, ◌∙◌, ℕ, ◌+◌, ◌<◌, ◌≤◌, Bool, true, false, cond, ◌&&◌, List, [], ◌∷◌, ◌++◌, length, Option, Some, None, refl, sym, ap, arith, true≢false, length-append}
-use Rattle.std.specs.Prelude.{◌==◌, is_some, is_none}
+use Rattle.std.specs.Prelude.{◌==◌, ◌||◌, filter, is_some, is_none}
+use Rattle.std.specs.List.{list_any}
+use Rattle.flow_types.specs.declared.records.EndKind.{EndKind}
 use Rattle.std.specs.Option.{option_map_or}
 use Rattle.std.proofs.lemmas.Bool.{and_parts, and_right, eqb-true, leb-true, le-leb, ltb-true}
 use Rattle.std.proofs.lemmas.List.Sums.{length-filter}
@@ -16,11 +18,15 @@ use Rattle.flow_types.specs.Plans.{rule_numbers}
 use Rattle.flow_types.proofs.Totals.{total, total-is, total-add, total-take, at_place, place-once, place-inside}
 use Rattle.run_history.specs.declared.states.RuleState.{RuleState}
 use Rattle.run_history.specs.declared.states.RuleState.TheVariants as rule
-use Rattle.run_history.specs.History.{is_cleaned, is_opening}
+use Rattle.run_history.specs.History.{is_cleaned, is_cleaned_kind, is_end, is_opening, since_opening}
+use Rattle.run_history.specs.Answers.{has_ended}
 use Rattle.run_history.specs.States.{outs_of, outs_in, running_in, running_says, rule_state}
 use Rattle.run_history.specs.Storage.{is_running, is_running_state, running_rules}
 use Rattle.run_history.specs.Legal.{has_places, most_records, runs, runs_as}
 use Rattle.run_history.proofs.Steps.{outs-push, running-push, running-is}
+use Rattle.task_core.proofs.Pushing.{since-more}
+use Rattle.task_core.proofs.Standing.{ended-same}
+use Rattle.desk.specs.State.{has_room}
 
 -- a record that says nothing of a rule leaves it running or not
 running_same : (H : List Record) (x : Record) (r : ℕ) → is_cleaned x ≡ false → is_opening x ≡ false → outs_in r x ≡ None → running_says r x ≡ None
@@ -73,37 +79,53 @@ closing P H x place a outs running more stays says logs =
     let inside : place < length P.rules = ltb-true place (length P.rules) parts.0 in
     omega (arith, le, place-inside 1 place 0 (length P.rules) (omega arith) (omega (arith, inside)), count_is P H, count_is P (H ++ (x ∷ [])))
 
--- so there is a place for each record that closes an attempt still
-pub closing_places : (P : Plan) (H : List Record) (x : Record) → length (running_rules P (H ++ (x ∷ []))) + 1 ≤ length (running_rules P H) → has_places P H 0 ≡ true → has_places P (H ++ (x ∷ [])) 0 ≡ true
-closing_places P H x falls places =
-    le-leb (length (H ++ (x ∷ [])) + length (running_rules P (H ++ (x ∷ []))) + 1 + 0) most_records
-    (omega (arith, falls, length-append H (x ∷ []), leb-true (length H + length (running_rules P H) + 1 + 0) most_records places))
+-- the place that an end still needs
+abbrev place_of : Bool → ℕ
+place_of ended = cond ended 0 1
 
--- there is a place
-pub has_place : (P : Plan) (H : List Record) → has_places P H 0 ≡ true → length H < most_records
-has_place P H places = let le = leb-true (length H + length (running_rules P H) + 1 + 0) most_records places in omega (arith, le)
+one_place : (ended : Bool) → place_of ended ≤ 1
+one_place true = omega arith
+one_place false = omega arith
+
+-- with a place more than the running rules need there is one for the end
+pub room_by : (P : Plan) (H : List Record) → length H + length (running_rules P H) + 1 ≤ most_records → has_room P H ≡ true
+room_by P H few = let le = one_place (has_ended H) in le-leb (length H + length (running_rules P H) + place_of (has_ended H)) most_records (omega (arith, le, few))
+
+-- so there is a place for each record that closes an attempt still
+pub closing_places : (P : Plan) (H : List Record) (x : Record) → is_cleaned x ≡ false → is_opening x ≡ false → is_end x ≡ false → length (running_rules P (H ++ (x ∷ []))) + 1 ≤ length (running_rules P H) → has_room P H ≡ true
+    → has_room P (H ++ (x ∷ [])) ≡ true
+closing_places P H x more stays goes falls places =
+    let same : place_of (has_ended (H ++ (x ∷ []))) ≡ place_of (has_ended H) = ap place_of (ended-same H x more stays goes) in
+    let le = leb-true (length H + length (running_rules P H) + place_of (has_ended H)) most_records places in
+    le-leb (length (H ++ (x ∷ [])) + length (running_rules P (H ++ (x ∷ []))) + place_of (has_ended (H ++ (x ∷ [])))) most_records
+    (omega (arith, falls, length-append H (x ∷ []), same, le))
+
+-- there was a place for the last record
+pub had_place : (P : Plan) (H : List Record) (x : Record) → has_room P (H ++ (x ∷ [])) ≡ true → length H < most_records
+had_place P H x places =
+    let le = leb-true (length (H ++ (x ∷ [])) + length (running_rules P (H ++ (x ∷ []))) + place_of (has_ended (H ++ (x ∷ [])))) most_records places in omega (arith, le, length-append H (x ∷ []))
 
 -- a rule that is done
-pub done_places : (P : Plan) (H : List Record) (moment : ℕ) (rule : RuleNo) (attempt : AttemptNo) (outs : List Content) → runs P H rule.0 attempt.0 ≡ true → has_places P H 0 ≡ true
-    → has_places P (H ++ (records.Done moment rule attempt outs ∷ [])) 0 ≡ true
+pub done_places : (P : Plan) (H : List Record) (moment : ℕ) (rule : RuleNo) (attempt : AttemptNo) (outs : List Content) → runs P H rule.0 attempt.0 ≡ true → has_room P H ≡ true
+    → has_room P (H ++ (records.Done moment rule attempt outs ∷ [])) ≡ true
 done_places P H moment rule attempt outs running places =
-    closing_places P H (records.Done moment rule attempt outs) (closing P H (records.Done moment rule attempt outs) rule.0 attempt.0 (Some outs) running refl refl (λ r. refl) (λ r. refl)) places
+    closing_places P H (records.Done moment rule attempt outs) refl refl refl (closing P H (records.Done moment rule attempt outs) rule.0 attempt.0 (Some outs) running refl refl (λ r. refl) (λ r. refl)) places
 
 no_outs : (b : Bool) → let none : Option (List Content) = None in none ≡ cond b none none
 no_outs true = refl
 no_outs false = refl
 
 -- one that failed
-pub failed_places : (P : Plan) (H : List Record) (moment : ℕ) (rule : RuleNo) (attempt : AttemptNo) (why : Failure) → runs P H rule.0 attempt.0 ≡ true → has_places P H 0 ≡ true
-    → has_places P (H ++ (records.Failed moment rule attempt why ∷ [])) 0 ≡ true
+pub failed_places : (P : Plan) (H : List Record) (moment : ℕ) (rule : RuleNo) (attempt : AttemptNo) (why : Failure) → runs P H rule.0 attempt.0 ≡ true → has_room P H ≡ true
+    → has_room P (H ++ (records.Failed moment rule attempt why ∷ [])) ≡ true
 failed_places P H moment rule attempt why running places =
-    closing_places P H (records.Failed moment rule attempt why) (closing P H (records.Failed moment rule attempt why) rule.0 attempt.0 None running refl refl (λ r. refl) (λ r. no_outs (rule.0 == r))) places
+    closing_places P H (records.Failed moment rule attempt why) refl refl refl (closing P H (records.Failed moment rule attempt why) rule.0 attempt.0 None running refl refl (λ r. refl) (λ r. no_outs (rule.0 == r))) places
 
 -- and one that was lost
-pub lost_places : (P : Plan) (H : List Record) (moment : ℕ) (rule : RuleNo) (attempt : AttemptNo) → runs P H rule.0 attempt.0 ≡ true → has_places P H 0 ≡ true
-    → has_places P (H ++ (records.Lost moment rule attempt ∷ [])) 0 ≡ true
+pub lost_places : (P : Plan) (H : List Record) (moment : ℕ) (rule : RuleNo) (attempt : AttemptNo) → runs P H rule.0 attempt.0 ≡ true → has_room P H ≡ true
+    → has_room P (H ++ (records.Lost moment rule attempt ∷ [])) ≡ true
 lost_places P H moment rule attempt running places =
-    closing_places P H (records.Lost moment rule attempt) (closing P H (records.Lost moment rule attempt) rule.0 attempt.0 None running refl refl (λ r. refl) (λ r. no_outs (rule.0 == r))) places
+    closing_places P H (records.Lost moment rule attempt) refl refl refl (closing P H (records.Lost moment rule attempt) rule.0 attempt.0 None running refl refl (λ r. refl) (λ r. no_outs (rule.0 == r))) places
 
 starting_by : (H : List Record) (x : Record) (place r : ℕ) (b : Bool) → (place == r) ≡ b → is_cleaned x ≡ false → is_opening x ≡ false
     → (b ≡ false → running_says r x ≡ None) → outs_in r x ≡ None → one (is_running (H ++ (x ∷ [])) r) ≤ one (is_running H r) + cond b 1 0
@@ -117,11 +139,35 @@ starting_by H x place r false other more stays says logs =
 
 -- a start of a rule leaves a place for each running attempt where it needed two
 pub started_places : (P : Plan) (H : List Record) (moment : ℕ) (rule : RuleNo) (attempt : AttemptNo) (link : LinkNo) → has_places P H 2 ≡ true
-    → has_places P (H ++ (records.Started moment rule attempt link ∷ [])) 0 ≡ true
+    → has_room P (H ++ (records.Started moment rule attempt link ∷ [])) ≡ true
 started_places P H moment rule attempt link places =
     let x : Record = records.Started moment rule attempt link in
     let le : total (λ r. one (is_running (H ++ (x ∷ [])) r)) (rule_numbers P) ≤ total (λ r. one (is_running H r)) (rule_numbers P) + total (at_place 1 rule.0) (rule_numbers P) =
     total-add (λ r. one (is_running (H ++ (x ∷ [])) r)) (λ r. one (is_running H r)) (at_place 1 rule.0) (rule_numbers P)
     (λ r. starting_by H x rule.0 r (rule.0 == r) refl refl refl (λ other. ap (λ b. cond b (Some (Some (attempt, link))) None) other) refl) in
-    le-leb (length (H ++ (x ∷ [])) + length (running_rules P (H ++ (x ∷ []))) + 1 + 0) most_records
+    room_by P (H ++ (x ∷ []))
     (omega (arith, le, place-once 1 rule.0 0 (length P.rules), count_is P H, count_is P (H ++ (x ∷ [])), length-append H (x ∷ []), leb-true (length H + length (running_rules P H) + 1 + 2) most_records places))
+
+same_rules : (p q : ℕ → Bool) (xs : List ℕ) → ((r : ℕ) → p r ≡ q r) → filter p xs ≡ filter q xs
+same_rules p q [] same = refl
+same_rules p q (x ∷ xs) same = ap (λ (b : Bool). cond b (x ∷ filter p xs) (filter p xs)) (same x) ∙ ap (λ (l : List ℕ). cond (q x) (x ∷ l) l) (same_rules p q xs same)
+
+any_last : (xs : List Record) (x : Record) → is_end x ≡ true → list_any is_end (xs ++ (x ∷ [])) ≡ true
+any_last [] x ends = ap (λ (b : Bool). b || false) ends
+any_last (y ∷ ys) x ends = ap (λ (b : Bool). is_end y || b) (any_last ys x ends) ∙ or_last (is_end y)
+  where
+    or_last : (b : Bool) → (b || true) ≡ true
+    or_last true = refl
+    or_last false = refl
+
+-- the end of a run takes the place that was left for it
+pub ended_places : (P : Plan) (H : List Record) (moment : ℕ) (kind : EndKind) → is_cleaned_kind kind ≡ false → has_ended H ≡ false → has_room P H ≡ true → has_room P (H ++ (records.Ended moment kind ∷ [])) ≡ true
+ended_places P H moment kind stays goes places =
+    let x : Record = records.Ended moment kind in
+    let same : length (running_rules P (H ++ (x ∷ []))) ≡ length (running_rules P H) =
+    ap length (same_rules (is_running (H ++ (x ∷ []))) (is_running H) (rule_numbers P) (λ r. running_same H x r stays refl refl refl)) in
+    let now : place_of (has_ended (H ++ (x ∷ []))) ≡ 0 = ap place_of (ap (list_any is_end) (since-more H x stays refl) ∙ any_last (since_opening H) x refl) in
+    let before : place_of (has_ended H) ≡ 1 = ap place_of goes in
+    let le = leb-true (length H + length (running_rules P H) + place_of (has_ended H)) most_records places in
+    le-leb (length (H ++ (x ∷ [])) + length (running_rules P (H ++ (x ∷ []))) + place_of (has_ended (H ++ (x ∷ [])))) most_records
+    (omega (arith, same, now, before, le, length-append H (x ∷ [])))

@@ -21,7 +21,7 @@ use Rattle.run_history.specs.declared.states.FileState.TheVariants as file
 use Rattle.run_history.specs.History.{is_cleaned, is_opening, part, next_run, last_said}
 use Rattle.run_history.specs.States.{outs_of, outs_in, row_of, present_with, made_state, opened_sources, sources_in, running_in}
 use Rattle.run_history.specs.Storage.{is_running, is_within, running_rules, stored}
-use Rattle.run_history.specs.Legal.{is_allowed, is_legal, is_legal_from, is_numbered, first_illegal, first_illegal_from, has_places, most_records}
+use Rattle.run_history.specs.Legal.{is_allowed, is_legal, is_legal_from, is_numbered, first_illegal, first_illegal_from, most_records}
 use Rattle.run_history.proofs.Bools.{both}
 use Rattle.run_history.proofs.Steps.{part-push, outs-push, last_said-push, running-opened, running-is}
 use Rattle.run_history.specs.Answers.{or_else, where_so}
@@ -35,8 +35,10 @@ use Rattle.desk.specs.declared.answers.StartFault.TheVariants as faults
 use Rattle.desk.specs.Kept.{Fits, FilesHold, Holds, Keeps, logged}
 use Rattle.desk.specs.Begins.{run_over}
 use Rattle.desk.specs.Openings.{AreDurable, AreRows, AreSound, LooksOver, Opens, early_fault, file_fault, full_log, opened_plan, opening, other_flow, source_fault, source_row, source_rows, state_fault}
+use Rattle.desk.specs.State.{has_room}
 use Rattle.desk.proofs.Images.{files_hold}
 use Rattle.desk.proofs.Presents.{quiet_holds, row_of_state}
+use Rattle.desk.proofs.Running.{room_by}
 
 -- ---- legality
 
@@ -100,12 +102,12 @@ none_pass p [] fails = refl
 none_pass p (x ∷ xs) fails = ap (λ (b : Bool). cond b (x ∷ filter p xs) (filter p xs)) (fails x) ∙ none_pass p xs fails
 
 -- no rule runs right behind an opening, so there is a place for the end
-pub opening_places : (P : Plan) (H : List Record) (x : Record) → is_cleaned x ≡ false → is_opening x ≡ true → length H + 2 ≤ most_records → has_places P (H ++ (x ∷ [])) 0 ≡ true
+pub opening_places : (P : Plan) (H : List Record) (x : Record) → is_cleaned x ≡ false → is_opening x ≡ true → length H + 2 ≤ most_records → has_room P (H ++ (x ∷ [])) ≡ true
 opening_places P H x more opens few =
     let idle : (r : ℕ) → is_running (H ++ (x ∷ [])) r ≡ false =
     λ r. running-is (H ++ (x ∷ [])) r ∙ and_right (is_none (outs_of (H ++ (x ∷ [])) r)) (is_some (running_in (H ++ (x ∷ [])) r)) (ap is_some (running-opened H x r more opens)) in
     let none : length (running_rules P (H ++ (x ∷ []))) ≡ 0 = ap length (none_pass (is_running (H ++ (x ∷ []))) (rule_numbers P) idle) in
-    le-leb (length (H ++ (x ∷ [])) + length (running_rules P (H ++ (x ∷ []))) + 1 + 0) most_records (omega (arith, none, few, length-append H (x ∷ [])))
+    room_by P (H ++ (x ∷ [])) (omega (arith, none, few, length-append H (x ∷ [])))
 
 -- ---- the files behind the first record of a part
 
@@ -232,7 +234,7 @@ pub record IsOpening (P : Plan) (H : List Record) (x : Record) : Type 0 where
   pub few : ListsFew x
   pub allowed : is_allowed P (plan_digest P) H x ≡ true
   pub goes_on : is_cleaned x ≡ false
-  pub places : has_places P (H ++ (x ∷ [])) 0 ≡ true
+  pub places : has_room P (H ++ (x ∷ [])) ≡ true
 
 opens_by : (P : Plan) (O : Options) (H : List Record) (first : Bool) (moment : ℕ) (tells : Type 0) (files : Files) (rows : List Content) → IsValid P → O.limit ≡ None → length H + 2 ≤ most_records → is_empty (part H) ≡ first
     → (first ≡ true → AreRows P tells files (length P.files) rows) → IsOpening P H (opening P O (record { first = first; number = next_run H; moment = moment }) rows)

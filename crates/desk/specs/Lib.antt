@@ -8,3 +8,4 @@ pub mod Inputs
 pub mod Sources
 pub mod Openings
 pub mod Follows
+pub mod Ends

@@ -1,5 +1,5 @@
 -- What a desk is to contracts, and what always holds of it.
-use Rattle.std.specs.Prelude.{◌≡◌, ◌≢◌, ◌≤◌, ◌<◌, ◌⊎◌, ◌&&◌, ◌==◌, ℕ, Bool, true, false, List, [], ◌∷◌, ◌++◌, length, Option, Some, None, Result, Ok, Err, slice_get, map, sum_by, nat_le}
+use Rattle.std.specs.Prelude.{◌≡◌, ◌≢◌, ◌≤◌, ◌<◌, ◌⊎◌, ◌&&◌, ◌==◌, ℕ, Bool, true, false, List, [], ◌∷◌, ◌++◌, length, Option, Some, None, Result, Ok, Err, slice_get, map, sum_by, nat_le, ◌+◌, if◌then◌else◌}
 use Rattle.std.specs.Option.{option_map_or}
 use mathlib.Core.List.{IsPrefix}
 use Rattle.flow_types.specs.declared.plan.Plan.{Plan}
@@ -19,9 +19,10 @@ use Rattle.run_history.specs.declared.answers.Next.{Next}
 use Rattle.run_history.specs.declared.answers.Next.TheVariants as next
 use Rattle.run_history.specs.History.{part}
 use Rattle.run_history.specs.States.{rule_state, running_in, Place}
-use Rattle.run_history.specs.Storage.{is_running, rule_bound}
-use Rattle.run_history.specs.Legal.{are_within, has_places}
+use Rattle.run_history.specs.Storage.{is_running, rule_bound, running_rules}
+use Rattle.run_history.specs.Legal.{are_within, most_records}
 use Rattle.run_history.specs.Laws.{IsPresent}
+use Rattle.run_history.specs.Answers.{has_ended}
 use Rattle.run_history.specs.Links.{records_of}
 use Rattle.run_history.specs.Moves.{most_joins, joins_and_changes}
 use Rattle.outside.specs.Disk.{Outcomes}
@@ -74,6 +75,10 @@ pub record Takes (log : LogState) (H : List Record) : Type 0 where
   pub fine : log.trouble ≡ None
   pub many : log.count ≡ length H
 
+-- There is a place for the end of each attempt that runs, and for that of the run where it has none.
+abbrev pub has_room : Plan → List Record → Bool
+has_room P H = nat_le (length H + length (running_rules P H) + (if has_ended H then 0 else 1)) most_records
+
 -- What holds of each desk, over what the trait of its site names, and over the fact that the site kept the records when the desk was started.
 pub record IsDesk {S : Type 0} (fits : Plan → ℕ → Content → Option (List ℕ) → Type 0) (tells keeps : Type 0) (may_leave : S → Outcomes) (moment : S → ℕ)
     (images_since : S → ℕ → Files → Type 0) (count : S → ℕ) (born : ℕ) (log : LogState) (d : DeskState S) : Type 0 where
@@ -83,7 +88,7 @@ pub record IsDesk {S : Type 0} (fits : Plan → ℕ → Content → Option (List
   pub opened : is_empty (part (records_of d.moves)) ≡ false
   pub based : d.base ≤ length (records_of d.moves)
   -- each running attempt can be closed
-  pub places : has_places d.plan (records_of d.moves) 0 ≡ true
+  pub places : has_room d.plan (records_of d.moves) ≡ true
   -- no file of the plan has the log's name
   pub apart : (f : ℕ) → file_name d.plan f ≢ d.log
   pub named : AreNamed d.plan

@@ -36,6 +36,14 @@ pub enum ClaimRefused {
     Memory,
 }
 
+/// Why an end isn't answered.
+#[derive(Clone, Copy, Debug, PartialEq, Eq)]
+pub enum EndRefused {
+    /// The site failed, in this call or in an earlier one.
+    Broken { before: u64, after: u64 },
+    Memory,
+}
+
 /// Why a desk isn't started, with the site and the records that were handed in.
 #[derive(Drop)]
 pub struct StartRefused<S: Drop> {

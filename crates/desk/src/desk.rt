@@ -6,9 +6,9 @@ ghost use Rattle.flow_types.specs.Plans.{IsValid, is_empty, makes};
 ghost use Rattle.flow_types.specs.Serial.{job_of, serial};
 ghost use Rattle.run_history.specs.declared.moves.Move.TheVariants as moves;
 ghost use Rattle.run_history.specs.History.{is_cleaned, next_attempt, part};
-ghost use Rattle.run_history.specs.Legal.{is_allowed, is_failure_at, has_places, runs};
+ghost use Rattle.run_history.specs.Legal.{is_allowed, is_failure_at, runs};
 ghost use Rattle.run_history.specs.declared.answers.Stop.TheVariants as stops;
-ghost use Rattle.run_history.specs.Answers.{claim_of, stop_of};
+ghost use Rattle.run_history.specs.Answers.{claim_of, end_of, has_ended, logged_end, stop_of};
 ghost use Rattle.run_history.specs.States.{file_state};
 ghost use Rattle.run_history.specs.Laws.{IsPresent, started_as};
 ghost use Rattle.run_history.specs.Links.{is_live, records_of};
@@ -23,25 +23,28 @@ ghost use Rattle.desk.specs.Begins.{Begins, site_in};
 ghost use Rattle.task_core.specs.Stands.{Stands};
 ghost use Rattle.task_core.specs.Surveys.{claimed};
 ghost use Rattle.desk.specs.Claims.{Claims, KeepsClaim, Starts, Works};
+ghost use Rattle.desk.specs.Ends.{Ends, KeepsEnd};
 ghost use Rattle.desk.specs.Follows.{Follows, IsShaped};
 ghost use Rattle.desk.specs.Inputs.{IsWhole, Looks, Tells, content_in};
 ghost use Rattle.desk.specs.Kept.{Fits, IsLegal, Keeps, WasKept, FilesHold, KeepsEither, logged};
-ghost use Rattle.desk.specs.State.{AreNamed, AreOutputs, CanLose, CanWrite, Checks, Closes, IsCut, IsDue, IsFine, Records, Takes, Writes, closed, is_final};
+ghost use Rattle.desk.specs.State.{AreNamed, AreOutputs, CanLose, CanWrite, Checks, Closes, IsCut, IsDue, IsFine, Records, Takes, Writes, closed, has_room, is_final};
 
 use crate::attempt::Attempt;
 use crate::contents::store_outputs;
 use crate::entry::log_entry;
 use crate::follow::follow;
 use crate::inputs::{content_in, read_logged};
+use crate::kinds::kind_of;
 use crate::seen::look;
 use crate::starts::next_attempt;
 use crate::step::Step;
 use crate::{
-    Claim, ClaimRefused, CloseRefused, InputRefused, StartFault, StartRefused, Terms, Trouble,
+    Claim, ClaimRefused, CloseRefused, EndRefused, InputRefused, StartFault, StartRefused, Terms,
+    Trouble,
 };
 use flow_types::{AttemptNo, Bytes, Content, Failure, FileNo, LinkNo, Record, Rows, RuleNo};
 use outside::{Commands, Fault, Site};
-use run_history::{Next, Nothing};
+use run_history::{Check, Next, Nothing};
 use std::alloc::Global;
 use std::marker::{Model, PhantomData};
 use task_core::Table;
@@ -128,7 +131,7 @@ impl<F: Commands, S: Site, T: Terms> Desk<F, S, T> {
         requires legal { IsLegal table.plan history }
         requires allowed { is_allowed table.plan (plan_digest table.plan) history entry ≡ true }
         requires goes_on { is_cleaned entry ≡ false }
-        requires places { has_places table.plan (history ++ entry ∷ []) 0 ≡ true }
+        requires places { has_room table.plan (history ++ entry ∷ []) ≡ true }
         requires files { S.tells → T.kept → FilesHold (Fits T.trust F.gives T.sources) table.plan
             history (S.may_leave site) }
         requires next_files { S.tells → T.kept → FilesHold (Fits T.trust F.gives T.sources) table.plan
@@ -207,7 +210,7 @@ impl<F: Commands, S: Site, T: Terms> Desk<F, S, T> {
             (S.may_leave self.now.site) }
         ensures valid { IsValid self.now.plan }
         ensures named { AreNamed self.now.plan }
-        ensures places { has_places self.now.plan (records_of self.now.moves) 0 ≡ true }
+        ensures places { has_room self.now.plan (records_of self.now.moves) ≡ true }
     {
         match self.trouble {
             Trouble::Fine => {
@@ -235,7 +238,7 @@ impl<F: Commands, S: Site, T: Terms> Desk<F, S, T> {
         requires goes_on { is_cleaned entry ≡ false }
         requires shaped { IsShaped self.old.plan entry }
         requires follows { Follows self.old.plan self.old.options self.old.stop self.old.moves entry }
-        requires places { has_places self.old.plan (records_of self.old.moves ++ entry ∷ []) 0
+        requires places { has_room self.old.plan (records_of self.old.moves ++ entry ∷ [])
             ≡ true }
         requires files { S.tells → T.kept → FilesHold (Fits T.trust F.gives T.sources) self.old.plan
             (records_of self.old.moves ++ entry ∷ []) (S.may_leave self.old.site) }
@@ -525,6 +528,60 @@ impl<F: Commands, S: Site, T: Terms> Desk<F, S, T> {
                 self.trouble = Trouble::Wants;
                 Err(InputRefused::Memory)
             }
+        }
+    }
+
+    /// Whether this run has ended: `end` has logged it.
+    pub fn has_ended(&self) -> bool
+        ensures { result ≡ has_ended (records_of self.now.moves) }
+    {
+        self.table.has_ended()
+    }
+
+    /// How the run ends, or why it goes on, for a desk whose run has not ended.
+    fn ending(&self) -> Check
+        requires goes_on { has_ended (records_of self.now.moves) ≡ false }
+        ensures answer { result ≡ end_of self.now.plan self.now.options self.now.moves self.now.stop }
+        ensures opened { is_empty (part (records_of self.now.moves)) ≡ false }
+        ensures places { has_room self.now.plan (records_of self.now.moves) ≡ true }
+        ensures files { S.tells → T.kept → IsFine self.now.trouble
+            → FilesHold (Fits T.trust F.gives T.sources) self.now.plan (records_of self.now.moves)
+            (S.may_leave self.now.site) }
+        ensures still { S.tells → T.kept → IsFine self.now.trouble
+            → LeavesOnly S.moment S.images_since self.now.site self.now.site
+            (Keeps (Fits T.trust F.gives T.sources) self.now.plan self.now.log
+            (records_of self.now.moves)) }
+    {
+        self.table.ending()
+    }
+
+    /// How the run ends, or why it goes on. Complete, CommandFailed, InputsTooLarge, NoRoom and Waited are logged as its
+    /// end. Condition: this run has not ended.
+    pub fn end(&mut self, moment: u64) -> Result<Check, EndRefused>
+        requires goes_on { has_ended (records_of self.old.moves) ≡ false }
+        ensures reply { Ends self.old moment result self.new }
+        ensures any_moment { S.tells → T.kept → IsFine self.old.trouble
+            → LeavesOnly S.moment S.images_since self.old.site self.new.site
+            (KeepsEnd (Fits T.trust F.gives T.sources) self.old moment) }
+    {
+        match self.working() {
+            Ok(()) => {}
+            Err(ClaimRefused::Broken { before, after }) => {
+                return Err(EndRefused::Broken { before, after });
+            }
+            Err(ClaimRefused::Memory) => return Err(EndRefused::Memory),
+        }
+        let answer = self.ending();
+        match kind_of(answer) {
+            Some(kind) => match self.record(Record::Ended { moment, kind }) {
+                Ok(()) => Ok(answer),
+                Err(CloseRefused::Stale { .. }) => unreachable!(),
+                Err(CloseRefused::Broken { before, after }) => {
+                    Err(EndRefused::Broken { before, after })
+                }
+                Err(CloseRefused::Memory) => Err(EndRefused::Memory),
+            },
+            None => Ok(answer),
         }
     }
 

@@ -2,12 +2,22 @@
 ghost use Rattle.std.specs.Prelude.{List};
 ghost use Rattle.run_history.specs.declared.moves.Move.{Move};
 ghost use Rattle.task_core.specs.Stands.{IsStill, Stands, logged};
-ghost use Rattle.desk.specs.Follows.{Follows, IsShaped};
+ghost use Rattle.desk.specs.Follows.{Follows, FollowsEnd, IsShaped};
 
 use flow_types::Record;
 use task_core::Table;
 
-/// The table takes in a record that was logged: the start of the rule that its claim answers, or the end of an attempt.
+/// The table takes in the end of its run, as it answers it.
+fn follow_end(table: &mut Table)
+    ensures { (moves : List Move) → Stands table.old moves → FollowsEnd table.old moves table.new }
+{
+    if table.is_begun() && !table.has_ended() {
+        let _ = table.end();
+    }
+}
+
+/// The table takes in a record that was logged: the start of the rule that its claim answers, the end of its run, or the
+/// end of an attempt.
 pub(crate) fn follow(table: &mut Table, entry: &Record)
     requires shaped { IsShaped table.old.plan entry.now }
     ensures stands { (moves : List Move) → Stands table.old moves
@@ -37,6 +47,7 @@ pub(crate) fn follow(table: &mut Table, entry: &Record)
         Record::Lost { rule, attempt, .. } => {
             let _ = table.lose(*rule, *attempt);
         }
+        Record::Ended { .. } => follow_end(table),
         _ => {}
     }
 }

@@ -9,6 +9,7 @@ mod entry;
 mod files;
 mod follow;
 mod inputs;
+mod kinds;
 mod openings;
 mod seen;
 mod sources;
@@ -18,7 +19,7 @@ mod step;
 mod terms;
 
 pub use answers::{
-    Claim, ClaimRefused, CloseRefused, InputRefused, StartFault, StartRefused, Trouble,
+    Claim, ClaimRefused, CloseRefused, EndRefused, InputRefused, StartFault, StartRefused, Trouble,
 };
 pub use attempt::Attempt;
 pub use desk::Desk;

@@ -9,7 +9,7 @@ ghost use Rattle.run_history.specs.Answers.{idles_in, is_collected_state, is_hal
 ghost use Rattle.task_core.specs.Known.{collected_in, is_lost_rule, known_failure, number_in, rules_of};
 ghost use Rattle.task_core.specs.Ends.{Ends, checked_in, late_in, least_ready, least_roomy, roomless_by, waited_by};
 ghost use Rattle.task_core.specs.States.{file_at, known_in};
-ghost use Rattle.task_core.specs.Stands.{Stands};
+ghost use Rattle.task_core.specs.Stands.{IsStill, Stands};
 ghost use Rattle.task_core.specs.Surveys.{IsOverview, IsStorage};
 
 use crate::overview::Overview;
@@ -50,7 +50,8 @@ impl Table {
     pub fn end(&mut self) -> Check
         requires begun { self.old.begun ≡ true }
         requires goes_on { self.old.ended ≡ false }
-        ensures { (moves : List Move) → Stands self.old moves → Ends self.old moves result self.new }
+        ensures ends { (moves : List Move) → Stands self.old moves → Ends self.old moves result self.new }
+        ensures still { IsStill self.old self.new }
     {
         let answer = self.check();
         if !is_logged(answer) {
@@ -118,7 +119,7 @@ impl Table {
         count
     }
 
-    fn check(&self) -> Check
+    pub(crate) fn check(&self) -> Check
         requires { self.now.begun ≡ true }
         ensures answer { result ≡ checked_in (known_in self.now) self.now.stop }
         ensures mode { self.now.options.mode ≡ Never }

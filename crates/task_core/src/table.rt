@@ -252,7 +252,8 @@ impl Table {
         self.stop = Some(stop);
     }
 
-    pub(crate) fn has_ended(&self) -> bool
+    /// The run has ended: no other record of it may follow.
+    pub fn has_ended(&self) -> bool
         ensures { result ≡ self.now.ended }
     {
         self.ended

@@ -43,3 +43,11 @@ returns-in-Lost c = record {
       (closed_follows t c.lose.new.self moves c.in-Lost.rule c.in-Lost.attempt (λ m. records.Lost m c.in-Lost.rule c.in-Lost.attempt) c.in-Lost.moment c.lose.result
       (c.lose.ensures moves stands) (subst (Follows t.plan t.options t.stop moves) c.in-Lost.is follows));
 }
+
+pub returns-in-Ended : goal.returns-in-Ended
+returns-in-Ended c = record {
+  stands = λ moves stands follows.
+      let t = c.args.table.now in
+      subst (λ (x : Record). Stands c.follow_end.new.table (logged moves x) × IsStill t c.follow_end.new.table) (sym c.in-Ended.is)
+      (c.follow_end.ensures moves stands c.in-Ended.moment c.in-Ended.kind (subst (Follows t.plan t.options t.stop moves) c.in-Ended.is follows));
+}

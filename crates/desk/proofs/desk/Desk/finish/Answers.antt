@@ -1,14 +1,13 @@
 use Rattle.std.proofs.Common.{◌≡◌, ◌∙◌, List, ◌++◌, ◌∷◌, [], length, true, ap, sym, subst, refl, arith}
 use Rattle.std.proofs.lemmas.List.{length-map}
 use Rattle.flow_types.specs.Plans.{makes}
-use Rattle.run_history.specs.Legal.{has_places}
 use Rattle.std.specs.Prelude.{slice_get}
 use Rattle.flow_types.specs.declared.records.Record.TheVariants as entries
 use Rattle.run_history.specs.Links.{records_of}
 use Rattle.desk.specs.Kept.{Fits, FilesHold, logged}
 use Rattle.flow_types.specs.declared.numbers.Content.{Content}
 use Rattle.desk.specs.Follows.{Follows, IsShaped}
-use Rattle.desk.specs.State.{DeskState}
+use Rattle.desk.specs.State.{DeskState, has_room}
 use Rattle.desk.proofs.Outputs.{can_write, count_outs, differ_by_name, outputs_differ, done_holds, done_adds, files_stay, honest_at, few_outputs}
 use Rattle.desk.proofs.Presents.{runs_from}
 use Rattle.desk.proofs.Running.{done_places}
@@ -31,7 +30,7 @@ record-requires-clause-few g c κs within =
 
 pub record-requires-clause-places : goal.record-requires-clause-places
 record-requires-clause-places g c κs within =
-    subst (λ (v : DeskState g.row.S.Denot). has_places v.plan (records_of v.moves ++ (entries.Done c.args.moment c.args.attempt.rule c.args.attempt.number c.in_ok-rows.rows ∷ [])) 0 ≡ true)
+    subst (λ (v : DeskState g.row.S.Denot). has_room v.plan (records_of v.moves ++ (entries.Done c.args.moment c.args.attempt.rule c.args.attempt.number c.in_ok-rows.rows ∷ [])) ≡ true)
     (sym c.in_ok-rows.ensures.reply)
     (done_places c.args.self.now.plan (records_of c.args.self.now.moves) c.args.moment c.args.attempt.rule c.args.attempt.number c.in_ok-rows.rows
     (runs_from c.args.self.now.plan (records_of c.args.self.now.moves) c.args.attempt.rule.0 c.args.attempt.number.0 c.args.attempt.link.0 c.requires.rule c.in_ok-check.ensures.reply.1)

@@ -1,4 +1,4 @@
-use Rattle.std.proofs.Common.{◌≡◌, ◌∙◌, None, Some, true, Option, ap, sym, subst, refl, true≢false}
+use Rattle.std.proofs.Common.{◌∙◌, ap, sym, subst, true≢false}
 use Rattle.std.specs.Prelude.{is_some}
 use Rattle.flow_types.specs.declared.numbers.Content.{Content}
 use Rattle.run_history.specs.Links.{records_of}

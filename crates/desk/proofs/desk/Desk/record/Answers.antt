@@ -4,7 +4,8 @@ use Rattle.desk.specs.declared.answers.Trouble.TheVariants as trouble
 use Rattle.desk.specs.Kept.{Fits}
 use Rattle.desk.specs.State.{DeskState, IsFine}
 use Rattle.desk.proofs.Woven.{moves_records}
-use Rattle.desk.proofs.Running.{has_place}
+use Rattle.desk.proofs.Running.{had_place}
+use Rattle.run_history.specs.Links.{records_of}
 use Rattle.desk.proofs.Following.{followed, last_is, still_desk, still_view}
 use Rattle.desk.specs.declared.step.Step.{Step}
 use Rattle.desk.specs.Follows.{Follows}
@@ -20,8 +21,8 @@ log_entry-requires-clause-takes g c κs within =
 
 pub log_entry-requires-clause-place : goal.log_entry-requires-clause-place
 log_entry-requires-clause-place g c κs within =
-    subst (λ (H : List Record). length H < 1000000) (moves_records c.self.inside.base c.self.inside.steps.items c.self.inside.records.items c.self.invariant.0)
-    (has_place c.self.inside.table.plan _ c.self.invariant.1.places)
+    subst (λ (H : List Record). length H < 1000000) (sym (ap (λ (v : DeskState g.row.S.Denot). records_of v.moves) c.self.view_is) ∙ moves_records c.self.inside.base c.self.inside.steps.items c.self.inside.records.items c.self.invariant.0)
+    (had_place c.args.self.now.plan (records_of c.args.self.now.moves) c.args.entry c.requires.places)
 
 pub log_entry-requires-clause-gate : goal.log_entry-requires-clause-gate
 log_entry-requires-clause-gate g c κs within =

@@ -1,12 +1,17 @@
-use Rattle.std.proofs.Common.{◌∙◌, sym}
+use Rattle.std.proofs.Common.{◌∙◌, ap, sym}
+use Rattle.task_core.specs.States.{TableState}
 use Rattle.task_core.proofs.Answering.{ends-logged, ends-quietly}
 use Rattle.task_core.proofs.table.Table.end.Goals as goal
 
-pub returns-then-not-is_logged : goal.returns-then-not-is_logged
-returns-then-not-is_logged c moves stands =
+pub returns-then-not-is_logged-clause-ends : goal.returns-then-not-is_logged-clause-ends
+returns-then-not-is_logged-clause-ends c moves stands =
     ends-quietly c.args.self.now moves c.check-answer.result c.check-answer.ensures.mode c.requires.goes_on c.check-answer.ensures.answer (sym c.is_logged.ensures ∙ c.if-not-is_logged.true) stands
 
-pub returns : goal.returns
-returns c moves stands =
+pub returns-clause-ends : goal.returns-clause-ends
+returns-clause-ends c moves stands =
     ends-logged c.args.self.now c.note_end.new.self moves c.check-answer.result c.check-answer.ensures.mode c.requires.goes_on c.check-answer.ensures.answer (sym c.is_logged.ensures ∙ c.if-not-is_logged.false)
     c.note_end.ensures c.requires.begun stands
+
+pub returns-clause-still : goal.returns-clause-still
+returns-clause-still c =
+    (ap (λ (t : TableState). t.plan) c.note_end.ensures, ap (λ (t : TableState). t.options) c.note_end.ensures, ap (λ (t : TableState). t.stop) c.note_end.ensures)
