@@ -552,7 +552,7 @@ impl<F: Commands, S: Site, T: Terms> Desk<F, S, T> {
             (Keeps (Fits T.trust F.gives T.sources) self.now.plan self.now.log
             (records_of self.now.moves)) }
     {
-        self.table.ending()
+        self.table.check()
     }
 
     /// How the run ends, or why it goes on. Complete, CommandFailed, InputsTooLarge, NoRoom and Waited are logged as its

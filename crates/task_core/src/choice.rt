@@ -1,14 +1,14 @@
 //! Looks at a table that change nothing.
-ghost use Rattle.std.specs.Prelude.{◌≡◌, ◌<◌, List, length, true, false};
+ghost use Rattle.std.specs.Prelude.{◌≡◌, ◌<◌, List, length};
 ghost use Rattle.run_history.specs.declared.moves.Move.{Move};
-ghost use Rattle.run_history.specs.Answers.{claim_of, end_of};
+ghost use Rattle.run_history.specs.Answers.{claim_of};
 ghost use Rattle.task_core.specs.Stands.{Stands};
 ghost use Rattle.task_core.specs.States.{row_at};
 ghost use Rattle.task_core.specs.Surveys.{claimed};
 
 use crate::table::Table;
 use flow_types::{AttemptNo, LinkNo, RuleNo};
-use run_history::{Check, Nothing};
+use run_history::Nothing;
 
 impl Table {
     /// The rule that a claim for the link would start, or why there is none. Condition: the link lives.
@@ -17,16 +17,6 @@ impl Table {
             → claimed result ≡ claim_of self.now.plan self.now.options moves self.now.stop link.0 }
     {
         self.claim_answer(link)
-    }
-
-    /// How the run ends, or why it goes on, as `end` answers it. Condition: the run is opened and has not ended.
-    pub fn ending(&self) -> Check
-        requires begun { self.now.begun ≡ true }
-        requires goes_on { self.now.ended ≡ false }
-        ensures { (moves : List Move) → Stands self.now moves
-            → result ≡ end_of self.now.plan self.now.options moves self.now.stop }
-    {
-        self.check()
     }
 
     /// The attempt that runs a rule, and the link on which it was started.

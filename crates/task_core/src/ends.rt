@@ -5,7 +5,7 @@ ghost use Rattle.run_history.specs.declared.answers.Check.TheVariants as check;
 ghost use Rattle.run_history.specs.declared.answers.Stop.TheVariants as stops;
 ghost use Rattle.run_history.specs.declared.moves.Move.{Move};
 ghost use Rattle.run_history.specs.declared.options.Mode.TheVariants.{Never};
-ghost use Rattle.run_history.specs.Answers.{idles_in, is_collected_state, is_halt, kind_of, stop_of};
+ghost use Rattle.run_history.specs.Answers.{end_of, idles_in, is_collected_state, is_halt, kind_of, stop_of};
 ghost use Rattle.task_core.specs.Known.{collected_in, is_lost_rule, known_failure, number_in, rules_of};
 ghost use Rattle.task_core.specs.Ends.{Ends, checked_in, late_in, least_ready, least_roomy, roomless_by, waited_by};
 ghost use Rattle.task_core.specs.States.{file_at, known_in};
@@ -53,12 +53,21 @@ impl Table {
         ensures ends { (moves : List Move) → Stands self.old moves → Ends self.old moves result self.new }
         ensures still { IsStill self.old self.new }
     {
-        let answer = self.check();
+        let answer = self.found();
         if !is_logged(answer) {
             return answer;
         }
         self.note_end();
         answer
+    }
+
+    /// What an end answers now; nothing changes. Condition: the run is opened and has not ended.
+    pub fn check(&self) -> Check
+        requires begun { self.now.begun ≡ true }
+        requires goes_on { self.now.ended ≡ false }
+        ensures { (moves : List Move) → Stands self.now moves → result ≡ end_of self.now.plan self.now.options moves self.now.stop }
+    {
+        self.found()
     }
 
     /// A stop at once stands from now on, unless a stop stood before.
@@ -119,7 +128,7 @@ impl Table {
         count
     }
 
-    pub(crate) fn check(&self) -> Check
+    fn found(&self) -> Check
         requires { self.now.begun ≡ true }
         ensures answer { result ≡ checked_in (known_in self.now) self.now.stop }
         ensures mode { self.now.options.mode ≡ Never }

@@ -9,7 +9,7 @@ use Rattle.desk.proofs.desk.Desk.ending.Goals as goal
 
 pub returns-clause-answer : goal.returns-clause-answer
 returns-clause-answer g c =
-    subst (λ (v : DeskState g.row.S.Denot). c.ending.result ≡ end_of v.plan v.options v.moves v.stop) c.self.view_is (c.ending.ensures _ c.self.invariant.2)
+    subst (λ (v : DeskState g.row.S.Denot). c.check.result ≡ end_of v.plan v.options v.moves v.stop) c.self.view_is (c.check.ensures _ c.self.invariant.2)
 
 pub returns-clause-files : goal.returns-clause-files
 returns-clause-files g c told kept fine =

@@ -5,11 +5,11 @@ use Rattle.task_core.proofs.table.Table.end.Goals as goal
 
 pub returns-then-not-is_logged-clause-ends : goal.returns-then-not-is_logged-clause-ends
 returns-then-not-is_logged-clause-ends c moves stands =
-    ends-quietly c.args.self.now moves c.check-answer.result c.check-answer.ensures.mode c.requires.goes_on c.check-answer.ensures.answer (sym c.is_logged.ensures ∙ c.if-not-is_logged.true) stands
+    ends-quietly c.args.self.now moves c.found-answer.result c.found-answer.ensures.mode c.requires.goes_on c.found-answer.ensures.answer (sym c.is_logged.ensures ∙ c.if-not-is_logged.true) stands
 
 pub returns-clause-ends : goal.returns-clause-ends
 returns-clause-ends c moves stands =
-    ends-logged c.args.self.now c.note_end.new.self moves c.check-answer.result c.check-answer.ensures.mode c.requires.goes_on c.check-answer.ensures.answer (sym c.is_logged.ensures ∙ c.if-not-is_logged.false)
+    ends-logged c.args.self.now c.note_end.new.self moves c.found-answer.result c.found-answer.ensures.mode c.requires.goes_on c.found-answer.ensures.answer (sym c.is_logged.ensures ∙ c.if-not-is_logged.false)
     c.note_end.ensures c.requires.begun stands
 
 pub returns-clause-still : goal.returns-clause-still

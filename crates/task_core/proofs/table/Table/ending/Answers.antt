@@ -1,6 +1,0 @@
-use Rattle.std.proofs.Common.{◌∙◌}
-use Rattle.task_core.proofs.Answering.{check-is}
-use Rattle.task_core.proofs.table.Table.ending.Goals as goal
-
-pub returns : goal.returns
-returns c moves stands = c.check.ensures.answer ∙ check-is c.args.self.now moves c.check.ensures.mode c.requires.goes_on stands
