@@ -123,4 +123,5 @@ keeps-blank P O n runs starts valid mode few ran started =
       runs = ran;
       starts = started;
       failures = λ r. subst (λ row. row.failures ≤ n) (sym (same_at (length P.rules) r blank_row)) (omega arith);
+      joins = omega arith;
     }

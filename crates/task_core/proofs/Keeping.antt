@@ -36,6 +36,7 @@ written t r row starts is inside few begun places = record {
   places = places;
   runs = omega (arith, is.runs);
   starts = begun;
+  joins = is.joins;
   failures = λ q. failures_by t r q (t.records + 1) row (r == q) refl (omega (arith, is.rules, inside)) few (omega (arith, is.failures q));
 }
 
@@ -117,4 +118,5 @@ keeps-dropped t f is inside places =
       runs = omega (arith, is.runs);
       starts = omega (arith, is.starts);
       failures = λ r. omega (arith, is.failures r);
+      joins = is.joins;
     }

@@ -17,3 +17,4 @@ pub mod Ending
 pub mod Reading
 pub mod Blank
 pub mod Answering
+pub mod Linking

@@ -240,6 +240,7 @@ keeps-opened t retries limit is places =
       runs = omega (arith, is.runs);
       starts = omega (arith, is.starts);
       failures = λ r. subst (λ (row : RuleRow). row.failures ≤ t.records + 1) (sym (waiting_at t.rules r)) (omega arith);
+      joins = is.joins;
     }
 
 -- what is allowed only in a part that isn't begun

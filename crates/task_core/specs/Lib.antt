@@ -6,3 +6,4 @@ pub mod Surveys
 pub mod Allowed
 pub mod Choices
 pub mod Stands
+pub mod Links

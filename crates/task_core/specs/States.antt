@@ -13,6 +13,7 @@ use Rattle.run_history.specs.declared.answers.Stop.{Stop}
 use Rattle.run_history.specs.States.{unfinished_state}
 use Rattle.run_history.specs.Legal.{most_records}
 use Rattle.run_history.specs.Links.{LinkRow, local_row}
+use Rattle.run_history.specs.Moves.{most_joins}
 use Rattle.task_core.specs.declared.rows.RuleRow.{RuleRow}
 use Rattle.task_core.specs.declared.rows.LinkEntry.{LinkEntry}
 use Rattle.task_core.specs.Known.{Known, running, known_bytes}
@@ -99,3 +100,4 @@ pub record IsTable (t : TableState) : Type 0 where
   pub runs : t.runs ≤ t.records
   pub starts : t.starts ≤ t.records
   pub failures : (r : ℕ) → (row_at t r).failures ≤ t.records
+  pub joins : t.joins + t.changes ≤ most_joins

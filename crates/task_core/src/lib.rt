@@ -7,6 +7,7 @@ mod claims;
 mod closings;
 mod ends;
 mod histories;
+mod links;
 mod loads;
 mod noting;
 mod overview;

@@ -1,20 +1,24 @@
 //! The table.
-ghost use Rattle.std.specs.Prelude.{◌≡◌, ◌<◌, ◌≤◌, ◌+◌, length, IfOk, Some, is_some, slice_index_or, slice_set, true, false, ℕ};
+ghost use Rattle.std.specs.Prelude.{◌≡◌, ◌<◌, ◌≤◌, ◌+◌, length, IfOk, OnErr, Some, is_some, nat_lt, slice_index_or, slice_set, true, false, ℕ};
 ghost use Rattle.run_history.specs.declared.options.Mode.TheVariants.{Never};
 ghost use Rattle.run_history.specs.declared.states.FileState.TheVariants.{Absent, Present};
 ghost use Rattle.flow_types.specs.Plans.{IsValid, most_bytes, most_files, most_rules};
 ghost use Rattle.std.specs.Option.{option_map_or};
+ghost use Rattle.run_history.specs.Moves.{most_joins};
 ghost use Rattle.run_history.specs.Storage.{size_in};
 ghost use Rattle.task_core.specs.Allowed.{has_two_places};
 ghost use Rattle.task_core.specs.Known.{known_bytes, leaves_places, runs_now};
+ghost use Rattle.task_core.specs.Links.{after_change, after_join, after_leave};
 ghost use Rattle.task_core.specs.Parts.{blank_table};
 ghost use Rattle.task_core.specs.States.{known_in, row_at, file_at};
 ghost use Rattle.task_core.specs.Stands.{after_done, after_drop, after_end, after_failure, after_loss, after_opening, after_start};
 
 use crate::parts::Numbers;
-use crate::rows::{LinkEntry, RuleRow, wait_again};
+use crate::rows::{LinkEntry, RuleRow, restate, wait_again, without};
 use file_states::FileStates;
-use flow_types::{AttemptNo, Content, Failure, FileNo, LinkNo, Memory, Plan, Rule, RuleNo};
+use flow_types::{
+    Amounts, AttemptNo, Content, Failure, FileNo, LinkNo, Memory, Plan, Rule, RuleNo,
+};
 use run_history::{FileState, Options, RuleState, Stop};
 use std::alloc::Global;
 use std::marker::Model;
@@ -88,6 +92,9 @@ pub struct Started {
     pub attempt: AttemptNo,
 }
 
+/// The most joins and changes of one table.
+const MOST_JOINS: u64 = 1_000_000;
+
 /// A rule of which nothing is recorded.
 const BLANK_ROW: RuleRow = RuleRow {
     place: None,
@@ -156,6 +163,55 @@ impl Table {
         ensures { result.now ≡ self.now.links }
     {
         &self.links
+    }
+
+    // One more join or change may be made.
+    pub(crate) fn has_join_room(&self) -> bool
+        ensures { result ≡ nat_lt (self.now.joins + self.now.changes) most_joins }
+    {
+        self.joins + self.changes < MOST_JOINS
+    }
+
+    // One more link lives, with the next number.
+    pub(crate) fn add_link(
+        &mut self,
+        total: Amounts,
+        largest: Amounts,
+        cache: u64,
+    ) -> Result<LinkNo, Memory>
+        requires { self.old.joins + self.old.changes < most_joins }
+        ensures number { IfOk result (λ link. link.0 ≡ self.old.joins + 1) }
+        ensures joined { IfOk result (λ link. self.new ≡ after_join self.old (record { link = link; total = total; largest = largest; cache = cache })) }
+        ensures same { OnErr result (self.new ≡ self.old) }
+    {
+        let link = LinkNo(self.joins as u32 + 1);
+        let entry = LinkEntry {
+            link,
+            total,
+            largest,
+            cache,
+        };
+        if self.links.push(entry).is_err() {
+            return Err(Memory);
+        }
+        self.joins += 1;
+        Ok(link)
+    }
+
+    // The link states these amounts and this cache.
+    pub(crate) fn change_link(&mut self, link: LinkNo, total: Amounts, largest: Amounts, cache: u64)
+        requires { self.old.joins + self.old.changes < most_joins }
+        ensures { self.new ≡ after_change self.old link.0 total largest cache }
+    {
+        restate(&mut self.links, link, total, largest, cache);
+        self.changes += 1;
+    }
+
+    // The link lives no more.
+    pub(crate) fn drop_link(&mut self, link: LinkNo)
+        ensures { self.new ≡ after_leave self.old link.0 }
+    {
+        without(&mut self.links, link);
     }
 
     pub(crate) fn rule_count(&self) -> u32
