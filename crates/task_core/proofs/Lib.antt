@@ -18,3 +18,4 @@ pub mod Reading
 pub mod Blank
 pub mod Answering
 pub mod Linking
+pub mod Waiting

@@ -1,5 +1,5 @@
 -- What an end answers by what a table finds, and where the table stands then.
-use Rattle.std.specs.Prelude.{◌≡◌, ℕ, false, not, ◌&&◌, List, [], ◌∷◌, Option, Some, None, find, unwrap_or}
+use Rattle.std.specs.Prelude.{◌≡◌, ℕ, Bool, true, false, not, ◌&&◌, List, [], ◌∷◌, Option, Some, None, find, unwrap_or}
 use Rattle.std.specs.List.{list_all}
 use Rattle.std.specs.Option.{option_map_or, option_and_then}
 use Rattle.flow_types.specs.declared.records.EndKind.{EndKind}
@@ -7,10 +7,12 @@ use Rattle.flow_types.specs.declared.records.Record.TheVariants as records
 use Rattle.flow_types.specs.Plans.{is_empty}
 use Rattle.run_history.specs.declared.moves.Move.{Move}
 use Rattle.run_history.specs.declared.answers.Stop.{Stop}
+use Rattle.run_history.specs.declared.answers.Stop.TheVariants as stops
 use Rattle.run_history.specs.declared.answers.Check.{Check}
 use Rattle.run_history.specs.declared.answers.Check.TheVariants as check
+use Rattle.run_history.specs.Links.{may_run_on}
 use Rattle.run_history.specs.Answers.{end_of, first_of, idles_in, is_halt, logged_end, rule_no, where_so}
-use Rattle.task_core.specs.Known.{Known, can_start, collected_in, full_log, has_storage, input_sum, is_done, is_lost_rule, known_failure, leaves_places, passes_most, rules_of, running, short_of_room}
+use Rattle.task_core.specs.Known.{Known, can_start, collected_in, fits_link, full_log, has_storage, input_sum, is_done, is_lost_rule, is_taken_by_one, known_failure, leaves_places, passes_most, rules_of, running, short_of_room, vain_with}
 use Rattle.task_core.specs.States.{TableState}
 use Rattle.task_core.specs.Stands.{Stands, logged}
 
@@ -61,6 +63,19 @@ checked_in K stop = unwrap_or (first_of (
     ∷ where_so (list_all (is_done K) (rules_of K)) (check.Complete (collected_in K))
     ∷ Some (unwrap_or (late_in K stop) check.Going)
     ∷ [])) check.Going
+
+-- link k takes rule r
+abbrev pub takes_rule : Known → ℕ → ℕ → Bool
+takes_rule K r k = may_run_on K.plan K.options r k && fits_link K k r
+
+-- rule r can start and fits the storage, and a live link takes it
+abbrev pub is_taken_now : Known → ℕ → Bool
+is_taken_now K r = can_start K r && (has_storage K r && is_taken_by_one K r)
+
+-- The stop is set where none stands and no file is wanted: one at once always, one for waiting where waiting is in vain.
+abbrev pub sets_stop : Known → Stop → Bool
+sets_stop K stops.Halt = true
+sets_stop K (stops.Waited idles) = vain_with K None
 
 -- the table stands behind the end of this kind, or nothing changed
 abbrev pub EndsBy : Option EndKind → TableState → List Move → TableState → Type 0

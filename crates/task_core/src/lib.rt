@@ -14,6 +14,7 @@ mod overview;
 mod parts;
 mod rows;
 mod scans;
+mod stops;
 mod storage;
 mod table;
 
