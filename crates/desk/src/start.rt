@@ -157,7 +157,8 @@ impl<F: Commands, S: Site, T: Terms> Desk<F, S, T> {
     /// Begins a run over the records of a log: the first of its part, once each source outlives a crash, or a later one.
     ///
     /// The log's name is that of no file of the plan. The refusals that need no look at a file come first; then the least
-    /// file at fault.
+    /// file at fault. Conditions: the plan is valid, nothing is collected and there is no limit, and the log has these
+    /// records. At most four calls of the site for each file, and four more.
     pub fn start(
         alloc: Global,
         plan: Plan,
