@@ -98,6 +98,7 @@ blank-stands P O E n runs starts none count ran started =
       live = sym apart.live;
       joins = sym apart.next;
       changes = sym apart.changes;
+      answer = λ answer kept. absurd (true≢false (sym (ap is_some kept)));
     }
 
 blank_idle : (n retries r : ℕ) → is_running_state (state_of retries (slice_index_or (replicate n blank_row) r blank_row)) ≡ false

@@ -69,6 +69,9 @@ none_more : (n : ℕ) (b : Bool) → b ≡ false → n ≡ n + cond b 1 0
 none_more n true is = absurd (true≢false is)
 none_more n false is = omega arith
 
+pub none_some : {A : Type 0} {x : A} → None ≡ Some x → ⊥
+none_some same = true≢false (sym (ap is_some same))
+
 -- A table stands after an opening when its files do.
 pub opening-stands : (t : TableState) (M : List Move) (x : Record) (retries : ℕ) (limit : Option ℕ) (files : List FileState) → IsOpening x retries limit
     → ((f : ℕ) → slice_index_or files f file.Absent ≡ file_state t.plan (records_of M ++ (x ∷ [])) f) → Stands t M
@@ -96,6 +99,7 @@ opening-stands t M x retries limit files opening made stands =
       live = stands.live ∙ sym (live-same t.options M x);
       joins = stands.joins ∙ sym (next-same M x);
       changes = stands.changes ∙ sym (changes-same M x);
+      answer = λ answer kept. absurd (none_some kept);
     }
 
 resumed_keeps : (moment run retries : ℕ) (limit : Option ℕ) → KeepsFiles (records.Resumed moment run retries limit)

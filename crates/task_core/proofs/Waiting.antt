@@ -85,3 +85,28 @@ any-none p (e ∷ es) (suc i) past = any-none p es i (omega (arith, past))
 pub taken-by : (t : TableState) (r : ℕ) (a b : Bool) → takes_rule (known_in t) r 0 ≡ a → list_any (λ (entry : LinkEntry). takes_rule (known_in t) r entry.link.0) t.links ≡ b → is_taken_by_one (known_in t) r ≡ (a || b)
 taken-by t r a b here there =
     ap (λ c. c || list_any (takes_rule (known_in t) r) (map (λ (entry : LinkEntry). entry.link.0) t.links)) here ∙ ap (λ c. a || c) (any-number (takes_rule (known_in t) r) t.links ∙ there)
+
+none_stands : (stop : Option Stop) (first : Stop) → is_some stop ≡ false → stop ≡ Some first → ⊥
+none_stands stop first none is = true≢false (sym (ap is_some is) ∙ none)
+
+-- a stop is set where none stands
+pub stopped-stands : (t : TableState) (M : List Move) (stop : Stop) → is_some t.stop ≡ false → Stands t M → Stands (record t { stop = Some stop }) M
+stopped-stands t M stop none stands = record {
+  begun = stands.begun;
+  rules = stands.rules;
+  files = stands.files;
+  dropped = stands.dropped;
+  records = stands.records;
+  runs = stands.runs;
+  starts = stands.starts;
+  retries = stands.retries;
+  limit = stands.limit;
+  ended = stands.ended;
+  rows = stands.rows;
+  live = stands.live;
+  joins = stands.joins;
+  changes = stands.changes;
+  answer = λ answer kept.
+      let was = stands.answer answer kept in
+      (was.0, λ later stays. was.1 later (λ first is. absurd (none_stands t.stop first none is)));
+}

@@ -85,3 +85,7 @@ EndsBy (Some kind) t M after = (moment : ℕ) → Stands after (logged M (record
 -- What an end answers, and where the table stands then: behind the Ended that is logged, where one is.
 abbrev pub Ends : TableState → List Move → Check → TableState → Type 0
 Ends t M answer after = (answer ≡ end_of t.plan t.options M t.stop) × EndsBy (logged_end t.plan t.options M t.stop) t M after
+
+-- The run has ended, an end answers this, and logs nothing more.
+abbrev pub EndedWith : TableState → List Move → Check → Type 0
+EndedWith t M answer = (t.ended ≡ true) × (answer ≡ end_of t.plan t.options M t.stop) × (logged_end t.plan t.options M t.stop ≡ None)

@@ -7,3 +7,4 @@ pub mod Allowed
 pub mod Choices
 pub mod Stands
 pub mod Links
+pub mod Steps

@@ -9,6 +9,7 @@ use Rattle.run_history.specs.declared.states.RuleState.{RuleState}
 use Rattle.run_history.specs.declared.states.RuleState.TheVariants as rule
 use Rattle.run_history.specs.declared.states.FileState.{FileState}
 use Rattle.run_history.specs.declared.states.FileState.TheVariants as file
+use Rattle.run_history.specs.declared.answers.Check.{Check}
 use Rattle.run_history.specs.declared.answers.Stop.{Stop}
 use Rattle.run_history.specs.States.{unfinished_state}
 use Rattle.run_history.specs.Legal.{most_records}
@@ -18,7 +19,7 @@ use Rattle.task_core.specs.declared.rows.RuleRow.{RuleRow}
 use Rattle.task_core.specs.declared.rows.LinkEntry.{LinkEntry}
 use Rattle.task_core.specs.Known.{Known, running, known_bytes}
 
--- The rows of rules and files by their numbers, the links that live beside the local place, the numbers of records, runs, starts, joins and changes, and what the last opening states.
+-- The rows of rules and files by their numbers, the links that live beside the local place, the numbers of records, runs, starts, joins and changes, what the last opening states, the stop, and what the end of this run answered.
 pub record TableState : Type 0 where
   pub plan : Plan
   pub options : Options
@@ -35,6 +36,7 @@ pub record TableState : Type 0 where
   pub joins : ℕ
   pub changes : ℕ
   pub stop : Option Stop
+  pub answer : Option Check
 
 -- a rule of which nothing is recorded
 abbrev pub blank_row : RuleRow

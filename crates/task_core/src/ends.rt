@@ -1,5 +1,5 @@
 //! What an end of a run answers, and stops at once.
-ghost use Rattle.std.specs.Prelude.{◌≡◌, ◌<◌, List, Option, find, is_some, length, true, false, unwrap_or};
+ghost use Rattle.std.specs.Prelude.{◌≡◌, ◌<◌, List, IfSome, Option, find, is_some, length, true, false, unwrap_or};
 ghost use Rattle.std.specs.Option.{option_and_then, option_map_or};
 ghost use Rattle.run_history.specs.declared.answers.Check.TheVariants as check;
 ghost use Rattle.run_history.specs.declared.answers.Stop.TheVariants as stops;
@@ -7,7 +7,7 @@ ghost use Rattle.run_history.specs.declared.moves.Move.{Move};
 ghost use Rattle.run_history.specs.declared.options.Mode.TheVariants.{Never};
 ghost use Rattle.run_history.specs.Answers.{end_of, idles_in, is_collected_state, is_halt, kind_of, stop_of};
 ghost use Rattle.task_core.specs.Known.{collected_in, is_lost_rule, known_failure, number_in, rules_of};
-ghost use Rattle.task_core.specs.Ends.{Ends, checked_in, late_in, least_ready, least_roomy, roomless_by, waited_by};
+ghost use Rattle.task_core.specs.Ends.{EndedWith, Ends, checked_in, late_in, least_ready, least_roomy, roomless_by, waited_by};
 ghost use Rattle.task_core.specs.States.{file_at, known_in};
 ghost use Rattle.task_core.specs.Stands.{IsStill, Stands};
 ghost use Rattle.task_core.specs.Surveys.{IsOverview, IsStorage};
@@ -57,7 +57,7 @@ impl Table {
         if !is_logged(answer) {
             return answer;
         }
-        self.note_end();
+        self.note_end(Some(answer));
         answer
     }
 
@@ -68,6 +68,14 @@ impl Table {
         ensures { (moves : List Move) → Stands self.now moves → result ≡ end_of self.now.plan self.now.options moves self.now.stop }
     {
         self.found()
+    }
+
+    /// What `end` answered when it ended this run, and answers from then on; a later stop changes that no more, and nothing
+    /// more is logged. None where it has not ended the run.
+    pub fn ended_with(&self) -> Option<Check>
+        ensures { (moves : List Move) → Stands self.now moves → IfSome result (λ answer. EndedWith self.now moves answer) }
+    {
+        self.answer()
     }
 
     /// A stop at once stands from now on, unless a stop stood before.

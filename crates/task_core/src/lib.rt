@@ -14,9 +14,11 @@ mod overview;
 mod parts;
 mod rows;
 mod scans;
+mod step;
 mod stops;
 mod storage;
 mod table;
 
 pub use histories::TableFault;
+pub use step::{Event, Reply};
 pub use table::{Started, Table};

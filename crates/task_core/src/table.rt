@@ -19,7 +19,7 @@ use file_states::FileStates;
 use flow_types::{
     Amounts, AttemptNo, Content, Failure, FileNo, LinkNo, Memory, Plan, Rule, RuleNo,
 };
-use run_history::{FileState, Options, RuleState, Stop};
+use run_history::{Check, FileState, Options, RuleState, Stop};
 use std::alloc::Global;
 use std::marker::Model;
 
@@ -41,6 +41,7 @@ pub struct Table {
     joins: u64,
     changes: u64,
     stop: Option<Stop>,
+    answer: Option<Check>,
 }
 
 impl Model for Table {
@@ -64,6 +65,7 @@ impl Model for Table {
       joins = t.joins;
       changes = t.changes;
       stop = t.stop;
+      answer = t.answer;
     } };
 
     ghost invariant = { λ t. IsTable (record {
@@ -82,6 +84,7 @@ impl Model for Table {
       joins = t.joins;
       changes = t.changes;
       stop = t.stop;
+      answer = t.answer;
     }) };
 }
 
@@ -140,6 +143,7 @@ impl Table {
             joins: 0,
             changes: 0,
             stop: None,
+            answer: None,
         })
     }
 
@@ -308,6 +312,12 @@ impl Table {
         self.stop = Some(stop);
     }
 
+    pub(crate) fn answer(&self) -> Option<Check>
+        ensures { result ≡ self.now.answer }
+    {
+        self.answer
+    }
+
     /// The run has ended: no other record of it may follow.
     pub fn has_ended(&self) -> bool
         ensures { result ≡ self.now.ended }
@@ -393,6 +403,7 @@ impl Table {
         self.limit = limit;
         self.begun = true;
         self.ended = false;
+        self.answer = None;
     }
 
     // The files are in these states.
@@ -415,13 +426,14 @@ impl Table {
         self.records += 1;
     }
 
-    // The run has ended.
-    pub(crate) fn note_end(&mut self)
+    // The run has ended, with this answer, where it is known.
+    pub(crate) fn note_end(&mut self, answer: Option<Check>)
         requires { self.old.ended ≡ false }
-        ensures { self.new ≡ after_end self.old }
+        ensures { self.new ≡ after_end self.old answer }
     {
         self.records += 1;
         self.ended = true;
+        self.answer = answer;
     }
 
     // The file is present with this content.
