@@ -17,7 +17,7 @@ pub use examples::{
     texts_that_give_names, texts_that_give_no_name,
 };
 pub use flow::{Pair, RawFile, RawFlow, RawRule, SizeBound};
-pub use job::{Failure, Given, Job, Outcome, Want};
+pub use job::{Failure, Given, Job, Outcome, Task, Want};
 pub use laws::{names_are_fixed, serial_run_is_fixed};
 pub use lists::{Bytes, Memory, Rows, Text};
 pub use name::{Name, NameFault, form_of};
