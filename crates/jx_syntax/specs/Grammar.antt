@@ -230,6 +230,7 @@ sign_kind sign.Minus = kind.Minus
 sign_kind sign.Plus = kind.Plus
 sign_kind sign.Not = kind.Not
 
+-- a token at a place
 abbrev pub token : ℕ → Kind → Token
 token place k = record { place = place; kind = k }
 

@@ -84,6 +84,7 @@ depth (keyed from ps p key colon ∷ fs) = suc (depth fs)
 depth (indexed d from ∷ fs) = suc (depth fs)
 depth (sliced d from a colon ∷ fs) = suc (depth fs)
 
+-- how many levels are open in a state
 abbrev pub state_depth : State → ℕ
 state_depth (wants fs) = depth fs
 state_depth (has fs x) = depth fs
@@ -112,6 +113,7 @@ completed (only i p q n r d s) x = each_if i p q n r d s x
 
 -- ---- where an expression is wanted
 
+-- the move where the test holds, and none else
 abbrev pub when : Bool → Move → Move
 when b m = if b then m else stuck
 
@@ -141,6 +143,7 @@ abbrev pub begins_slice : List Frame → ℕ → Move
 begins_slice (indexed d from ∷ fs) p = goes (wants (sliced d from open_end p ∷ fs))
 begins_slice fs p = stuck
 
+-- what a token does where an expression is wanted
 abbrev pub wanted : List Frame → ℕ → Kind → Move
 wanted fs p kind.Null = goes (has fs (literal p null))
 wanted fs p kind.True = goes (has fs (literal p (truth true)))
@@ -165,6 +168,7 @@ wanted fs p k = stuck
 abbrev pub operated : ℕ → Operator → List Frame × Derivation → Move
 operated p o (fs, x) = when (nat_le (level fs) (binds o)) (goes (wants (left x p o ∷ fs)))
 
+-- an operator behind an expression, which closes all that bind tighter on its left
 abbrev pub operates : List Frame → Derivation → ℕ → Operator → Move
 operates fs x p o = operated p o (reduce (binds_left o) fs x)
 
@@ -224,6 +228,7 @@ ends p kind.For r = loops p r
 ends p kind.If r = selects p r
 ends p k r = stuck
 
+-- what a token does behind an expression
 abbrev pub had : List Frame → Derivation → ℕ → Kind → Move
 had fs x p kind.Or = operates fs x p op.Or
 had fs x p kind.And = operates fs x p op.And
@@ -250,14 +255,17 @@ key_wanted fs from ps p (kind.Text key) = goes (wants_colon fs from ps p key)
 key_wanted fs from ps to kind.CloseObject = goes (has fs (object from ps to))
 key_wanted fs from ps p k = stuck
 
+-- what a token does behind a key
 abbrev pub colon_wanted : List Frame → ℕ → Pairs → ℕ → List ℕ → ℕ → Kind → Move
 colon_wanted fs from ps p key colon kind.Colon = goes (wants (keyed from ps p key colon ∷ fs))
 colon_wanted fs from ps p key colon k = stuck
 
+-- what a token does behind `for`
 abbrev pub name_wanted : List Frame → ℕ → Items → Item → ℕ → ℕ → Kind → Move
 name_wanted fs from is i p q (kind.Name x) = goes (wants_in fs from is i p q x)
 name_wanted fs from is i p q k = stuck
 
+-- what a token does behind the name of a `for`
 abbrev pub in_wanted : List Frame → ℕ → Items → Item → ℕ → ℕ → List ℕ → ℕ → Kind → Move
 in_wanted fs from is i p q x r kind.In = goes (wants (listed from is (over i p q x r) ∷ fs))
 in_wanted fs from is i p q x r k = stuck
@@ -293,6 +301,7 @@ moved limit open_levels p k stuck = Err (blamed p k)
 moved limit open_levels p k (goes next) = Ok next
 moved limit open_levels p k (opens next) = opened limit open_levels p next
 
+-- one token more
 abbrev pub step : ℕ → State → Token → Result State JxFault
 step limit st t = moved limit (state_depth st) t.place t.kind (move st t.place t.kind)
 
@@ -306,6 +315,7 @@ unfoldable pub run : ℕ → State → List Token → Result State JxFault
 run limit st [] = Ok st
 run limit st (t ∷ ts) = then_on (step limit st t) (λ next. run limit next ts)
 
+-- the expression where nothing is open behind it; else the text ends too early
 abbrev pub alone : ℕ → List Frame × Derivation → Result Derivation JxFault
 alone len ([], x) = Ok x
 alone len (f ∷ fs, x) = Err (Unexpected len)
@@ -335,6 +345,7 @@ unless_fault (Some f) st = Err f
 abbrev pub reading : State → Scan → Result State JxFault
 reading st s = then_on (run 128 st s.tokens) (unless_fault s.fault)
 
+-- the fault of a text that is cut: that of the tokens before, or that of the cut
 abbrev pub cut_by : ℕ → Option JxFault → Result State JxFault → JxFault
 cut_by n f (Ok st) = cut_fault n f
 cut_by n f (Err e) = e

@@ -30,10 +30,12 @@ pub record IsLast (ns : List Node) (i : ℕ) (t : Tree) : Type 0 where
   pub node : IsNode ns i t
   pub last : suc i ≡ length ns
 
+-- there are no arguments
 abbrev pub is_none : Arguments → Bool
 is_none no_arguments = true
 is_none (argument args d comma) = false
 
+-- the list is empty
 abbrev pub is_nil : {A : Type 0} → List A → Bool
 is_nil [] = true
 is_nil (x ∷ xs) = false
@@ -64,6 +66,7 @@ pub record IsEnd (ns : List Node) (e : Option ℕ) (b : Bound) : Type 0 where
   pub within : AreBefore (length ns) (given e)
   pub shows : end_at (trees ns) e ≡ end_of b
 
+-- the part of an item that is being read is this one of its derivation
 abbrev pub IsPart : List Node → code.Part → Part → Type 0
 IsPart ns part.Body q = q ≡ body
 IsPart ns (part.Over i p x) q = (j : Item) × (n : ℕ) × (r : ℕ) × (q ≡ over j p n x r) × IsItem ns i j

@@ -60,6 +60,7 @@ mutual
 
 -- ---- of a derivation
 
+-- a literal as a tree
 abbrev pub literal_tree : ℕ → jx.Literal → Tree
 literal_tree p jx.null = null p
 literal_tree p (jx.truth b) = truth p b
@@ -111,10 +112,12 @@ abbrev mutual
 abbrev pub node_at : List Tree → ℕ → Tree
 node_at ts i = get_or ts i (null 0)
 
+-- the end of a slice at a node, where there is one
 abbrev pub end_at : List Tree → Option ℕ → End
 end_at ts None = no_end
 end_at ts (Some i) = end (node_at ts i)
 
+-- the condition at its node, where there is one
 abbrev pub test_at : List Tree → Option Condition → Test
 test_at ts None = no_test
 test_at ts (Some c) = test c.place (node_at ts c.test)
@@ -139,6 +142,7 @@ abbrev pub fields_at : List Tree → List Field → Fields → Fields
 fields_at ts [] rest = rest
 fields_at ts (f ∷ fs) rest = field f.key (node_at ts f.value) (fields_at ts fs rest)
 
+-- the tree of a form over the trees of its nodes
 abbrev pub form_tree : List Tree → ℕ → Form → Tree
 form_tree ts p form.Null = null p
 form_tree ts p (form.Truth b) = truth p b
@@ -164,20 +168,25 @@ expression_of ns = node_at (trees_onto [] ns) (length ns - 1)
 
 -- ---- order
 
+-- the node, where there is one
 abbrev pub given : Option ℕ → List ℕ
 given None = []
 given (Some i) = i ∷ []
 
+-- the node of a condition
 abbrev pub condition_operands : Option Condition → List ℕ
 condition_operands None = []
 condition_operands (Some c) = c.test ∷ []
 
+-- the nodes of a loop
 abbrev pub loop_operands : Loop → List ℕ
 loop_operands l = l.over ∷ condition_operands l.condition
 
+-- the nodes of an item
 abbrev pub item_operands : Item → List ℕ
 item_operands i = i.body ∷ flat_map loop_operands i.loops
 
+-- the node of a field
 abbrev pub field_operands : Field → List ℕ
 field_operands f = f.value ∷ []
 

@@ -69,6 +69,7 @@ levels_step (JxValue-F.Text t) = 0
 levels_step (JxValue-F.List items) = suc (greatest items)
 levels_step (JxValue-F.Object pairs) = suc (greatest pairs)
 
+-- the levels of a pair are those of its value
 abbrev pub pair_levels_step : JxPair-F ℕ ℕ → ℕ
 pair_levels_step p = p.value
 
@@ -76,6 +77,7 @@ pair_levels_step p = p.value
 abbrev pub levels : JxValue → ℕ
 levels = fold-JxValue ℕ ℕ levels_step pair_levels_step
 
+-- how many levels the value of a pair opens
 abbrev pub pair_levels : JxPair → ℕ
 pair_levels = fold-JxPair ℕ ℕ levels_step pair_levels_step
 
@@ -86,10 +88,12 @@ abbrev pub in_range : ℤ → Bool
 in_range (pos n) = nat_lt n (2 ^ 63)
 in_range (negsuc n) = nat_lt n (2 ^ 63)
 
+-- each of these holds
 abbrev pub all_hold : List Bool → Bool
 all_hold [] = true
 all_hold (b ∷ bs) = b && all_hold bs
 
+-- a value holds what a program can, by what those inside it do
 abbrev pub holds_step : JxValue-F Bool Bool → Bool
 holds_step JxValue-F.Null = true
 holds_step (JxValue-F.Truth t) = true
@@ -98,6 +102,7 @@ holds_step (JxValue-F.Text t) = is_utf8 t
 holds_step (JxValue-F.List items) = all_hold items
 holds_step (JxValue-F.Object pairs) = all_hold pairs
 
+-- a pair holds what a program can, by what its value does
 abbrev pub pair_holds_step : JxPair-F Bool Bool → Bool
 pair_holds_step p = is_utf8 p.key && p.value
 
@@ -105,5 +110,6 @@ pair_holds_step p = is_utf8 p.key && p.value
 abbrev pub is_held : JxValue → Bool
 is_held = fold-JxValue Bool Bool holds_step pair_holds_step
 
+-- the same of a pair
 abbrev pub pair_is_held : JxPair → Bool
 pair_is_held = fold-JxPair Bool Bool holds_step pair_holds_step

@@ -11,18 +11,21 @@ pub fn byte_at(text: &[u8], at: usize) -> u8
     if at < text.len() { text[at] } else { 0 }
 }
 
+/// A space, a tab or an end of a line.
 pub fn is_blank(b: u8) -> bool
     ensures { result ≡ bytes.is_blank b }
 {
     b == b' ' || b == b'\t' || b == b'\r' || b == b'\n'
 }
 
+/// A name may begin with it.
 pub fn begins_name(b: u8) -> bool
     ensures { result ≡ bytes.begins_name b }
 {
     (b'A' <= b && b <= b'Z') || (b'a' <= b && b <= b'z') || b == b'_'
 }
 
+/// It may stand in a name behind its first byte.
 pub fn in_name(b: u8) -> bool
     ensures { result ≡ bytes.in_name b }
 {

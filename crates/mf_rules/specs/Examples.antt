@@ -11,9 +11,11 @@ use Rattle.mf_rules.specs.Flow.{formed, flow_in}
 abbrev pub flow_from : List (List ℕ × List ℕ) → List (List ℕ) → Result RawFlow MakeFault
 flow_from env lines = flow_in env (map formed (joined 1 lines))
 
+-- a command behind its tab
 abbrev pub command_line : List ℕ → List ℕ
 command_line text = 9 ∷ text
 
+-- A head and a command are a rule.
 abbrev pub OneRule : Type 0
 OneRule = flow_from [] ((codes "out: in" ∷ command_line (codes "cat in > out") ∷ [])) ≡ Ok (record {
   rules = record {
@@ -49,6 +51,7 @@ ManyForms = flow_from ((codes "E", codes "env") ∷ []) ((
       bounds = record { name = codes "out"; bytes = 7 } ∷ [];
     })
 
+-- Of several faults the first is told.
 abbrev pub FirstFaults : Type 0
 FirstFaults =
     (flow_from [] ((codes "out:" ∷ command_line (codes "echo $(X) > out") ∷ [])) ≡ Err (UnknownName 2 (codes "X")))

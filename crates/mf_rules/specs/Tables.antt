@@ -9,6 +9,7 @@ use Rattle.flow_types.specs.declared.flow.Pair.{Pair}
 abbrev pub NameSet : Type 0
 NameSet = finite.FinMap (slice_cmp nat_cmp) (Unit {0})
 
+-- a name as an entry of a set
 abbrev pub entry_of : List ℕ → List ℕ × Unit {0}
 entry_of name = (name, tt)
 
