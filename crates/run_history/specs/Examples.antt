@@ -1,8 +1,9 @@
--- Worked courses of runs: the chain of three copies, three cuts of one source, two rules without inputs, and one rule alone.
-use Rattle.std.specs.Prelude.{ℕ, true, false, List, [], ◌∷◌, replicate, codes, Option, Some, None, map, pos}
+-- Worked courses of runs: the chain of three copies, three cuts of one source, two rules without inputs, a rule with large inputs, and one rule alone.
+use Rattle.std.specs.Prelude.{ℕ, true, false, List, [], ◌∷◌, ◌++◌, replicate, codes, Option, Some, None, map, pos}
 use Rattle.std.specs.List.{range_with_len}
 use Rattle.flow_types.specs.declared.plan.Plan.{Plan}
 use Rattle.flow_types.specs.declared.plan.Rule.{Rule}
+use Rattle.flow_types.specs.declared.plan.Port.{Port}
 use Rattle.flow_types.specs.declared.numbers.Amounts.{Amounts}
 use Rattle.flow_types.specs.declared.numbers.Needs.{Needs}
 use Rattle.flow_types.specs.declared.numbers.Needs.TheVariants.{Stated}
@@ -12,7 +13,7 @@ use Rattle.flow_types.specs.declared.records.Record.{Record}
 use Rattle.flow_types.specs.declared.records.Record.TheVariants as records
 use Rattle.flow_types.specs.declared.records.EndKind.{EndKind}
 use Rattle.flow_types.specs.declared.records.EndKind.TheVariants as kinds
-use Rattle.flow_types.specs.Examples.{copy_rule, source_row, made_row}
+use Rattle.flow_types.specs.Examples.{copy_rule, port, source_row, made_row}
 use Rattle.run_history.specs.declared.options.Mode.{Mode}
 use Rattle.run_history.specs.declared.options.Mode.TheVariants as modes
 use Rattle.run_history.specs.declared.options.Options.{Options}
@@ -92,6 +93,10 @@ demanded_course =
 abbrev pub full_course : List Record
 full_course = opened 0 (Some 100) ∷ started 0 0 ∷ done 0 0 ∷ started 1 1 ∷ done 1 1 ∷ []
 
+-- The run ends by that.
+abbrev pub roomless_course : List Record
+roomless_course = full_course ++ (ended kinds.NoRoom ∷ [])
+
 -- The chain complete, nothing collected, under a limit of 200 bytes.
 abbrev pub kept_course : List Record
 kept_course = opened 0 (Some 200) ∷ started 0 0 ∷ done 0 0 ∷ started 1 1 ∷ done 1 1 ∷ started 2 2 ∷ done 2 2 ∷ ended kinds.Complete ∷ []
@@ -115,9 +120,35 @@ tried_again = opened 0 None ∷ started 0 0 ∷ resumed 1 0 None ∷ started 0 1
 abbrev pub ended_again : List Record
 ended_again = opened 0 None ∷ started 0 0 ∷ done 0 0 ∷ resumed 1 0 None ∷ ended kinds.Complete ∷ []
 
+-- the first run of a later part, as run n
+abbrev pub opened_later : ℕ → Record
+opened_later n = records.Opened 9 n 0 None (record { 0 = digest }) (sized 40 ∷ [])
+
+-- A run complete and cleaned, and the same flow run again.
+abbrev pub cleaned_course : List Record
+cleaned_course =
+    opened 0 None ∷ started 0 0 ∷ done 0 0 ∷ ended kinds.Complete ∷ ended kinds.Cleaned ∷ opened_later 1 ∷ started 0 1 ∷ done 0 1
+    ∷ ended kinds.Complete ∷ []
+
+-- An earlier part of some other plan, whose starts are numbered so, and then a part of two rules without inputs.
+abbrev pub after_other : ℕ → List Record
+after_other a =
+    opened 0 None ∷ started 7 0 ∷ failed 7 0 ∷ started 9 a ∷ dropped 12 ∷ ended kinds.Cleaned
+    ∷ records.Opened 9 1 0 None (record { 0 = digest }) [] ∷ started 0 2 ∷ []
+
 -- A command that fails with one retry.
 abbrev pub failed_course : List Record
 failed_course = opened 1 None ∷ started 0 0 ∷ failed 0 0 ∷ started 0 1 ∷ failed 0 1 ∷ ended kinds.CommandFailed ∷ []
+
+-- The third rule of the chain fails with no retry, the run ends by that, and the first file is dropped.
+abbrev pub dropped_later : List Record
+dropped_later =
+    opened 0 (Some 200) ∷ started 0 0 ∷ done 0 0 ∷ started 1 1 ∷ done 1 1 ∷ started 2 2 ∷ failed 2 2 ∷ ended kinds.CommandFailed ∷ dropped 0
+    ∷ []
+
+-- attempt a of rule r made contents of so many bytes
+abbrev pub made : ℕ → ℕ → List ℕ → Record
+made r a sizes = records.Done 0 (record { 0 = r }) (record { 0 = a }) (map sized sizes)
 
 -- so many cores and nothing else
 abbrev pub cores : ℕ → Needs
@@ -164,6 +195,36 @@ two_makers = record {
   rules = maker (codes "a") 0 ∷ maker (codes "b") 1 ∷ [];
   files = made_row (codes "a") 0 true 40 ∷ made_row (codes "b") 1 true 40 ∷ [];
 }
+
+-- two sources, each under its name
+abbrev pub two_inputs : List Port
+two_inputs = port 0 (codes "a") ∷ port 1 (codes "b") ∷ []
+
+-- the second of them under another name too
+abbrev pub three_inputs : List Port
+three_inputs = port 0 (codes "a") ∷ port 1 (codes "b") ∷ port 1 (codes "again") ∷ []
+
+-- one rule that takes these in
+abbrev pub join_of : List Port → Plan
+join_of inputs = record {
+  rules = record (copy_rule (codes "join") 0 (codes "a") 2 (codes "out") 40) { inputs = inputs } ∷ [];
+  files = source_row (codes "a") ∷ source_row (codes "b") ∷ made_row (codes "out") 0 true 40 ∷ [];
+}
+
+-- a run over two sources of 67,108,864 bytes each
+abbrev pub large_run : List Record
+large_run = records.Opened 0 0 0 None (record { 0 = digest }) (sized 67108864 ∷ sized 67108864 ∷ []) ∷ []
+
+-- one rule that makes two files, each of which may have as many bytes as both together
+abbrev pub two_halves : Plan
+two_halves = record {
+  rules = record (maker (codes "a") 0) { outputs = port 0 (codes "a") ∷ port 1 (codes "b") ∷ []; bound = 67108864 } ∷ [];
+  files = made_row (codes "a") 0 true 67108864 ∷ made_row (codes "b") 0 true 67108864 ∷ [];
+}
+
+-- its attempt runs
+abbrev pub halves_run : List Record
+halves_run = records.Opened 0 0 0 None (record { 0 = digest }) [] ∷ started 0 0 ∷ []
 
 -- an opening without sources, with a limit of 60 bytes
 abbrev pub opened_narrow : Record

@@ -1,5 +1,5 @@
 //! Worked examples of the definitions, each proved by computing. Nothing calls these functions.
-ghost use Rattle.std.specs.Prelude.{◌≡◌, [], ◌∷◌, ◌++◌, take, replicate, pos, true, false};
+ghost use Rattle.std.specs.Prelude.{◌≡◌, [], ◌∷◌, ◌++◌, drop, take, replicate, pos, true, false};
 ghost use Rattle.flow_types.specs.Examples.{chain};
 ghost use Rattle.flow_types.specs.declared.job.Failure.TheVariants as failures;
 ghost use Rattle.flow_types.specs.declared.numbers.Needs.TheVariants as needs;
@@ -21,6 +21,7 @@ ghost use Rattle.run_history.specs.Answers.{claim_of, end_of, logged_end, stop_o
 ghost use Rattle.run_history.specs.Examples.{digest, local_run, worker_run, moves_of, opened, resumed, started, started_on, done, failed, lost, dropped, ended, sized};
 ghost use Rattle.run_history.specs.Examples.{collected_course, demanded_course, full_course, kept_course, resumed_course, tried_again, ended_again, failed_course};
 ghost use Rattle.run_history.specs.Examples.{one_copy, three_cuts, two_makers, opened_narrow, cores, on_worker, two_started, joined, left, joins, wide_row, load};
+ghost use Rattle.run_history.specs.Examples.{after_other, cleaned_course, dropped_later, halves_run, join_of, large_run, made, opened_later, roomless_course, three_inputs, two_halves, two_inputs};
 
 /// One rule is started and done once, and the run ends complete. A second end answers the same, also after a stop.
 pub fn one_run_of_one_rule()
@@ -65,6 +66,22 @@ pub fn runs_without_room()
     ensures reused { is_allowed two_makers digest (opened_narrow ∷ started 0 0 ∷ lost 0 0 ∷ []) (started 0 0) ≡ false }
 {}
 
+/// What a desk may do with the chain in each mode. The mode that never collects drops nothing and ends for want of room;
+/// as soon as nothing needs a file it is dropped before all else; on demand it is dropped only where a ready rule has no
+/// room.
+pub fn chain_in_each_mode()
+    ensures never { serves chain digest (local_run modes.Never) [] (moves_of roomless_course) ≡ true }
+    ensures never_logs { logged_end chain (local_run modes.Never) (moves_of full_course) None ≡ Some kinds.NoRoom }
+    ensures never_drops { serves chain digest (local_run modes.Never) [] (moves_of (take 6 collected_course)) ≡ false }
+    ensures soon { serves chain digest (local_run modes.RefCount) [] (moves_of collected_course) ≡ true }
+    ensures soon_first { claim_of chain (local_run modes.RefCount) (moves_of (take 5 collected_course)) None 0 ≡ Err (nothing.CollectFirst (record { 0 = 0 })) }
+    ensures soon_last { end_of chain (local_run modes.RefCount) (moves_of (take 8 collected_course)) None ≡ check.Going }
+    ensures soon_starts_none { serves chain digest (local_run modes.RefCount) [] (moves_of (take 6 kept_course)) ≡ false }
+    ensures on_demand { serves chain digest (local_run modes.OnDemand) [] (moves_of demanded_course) ≡ true }
+    ensures on_demand_keeps { serves chain digest (local_run modes.OnDemand) [] (moves_of kept_course) ≡ true }
+    ensures on_demand_drops { serves chain digest (local_run modes.OnDemand) [] (moves_of collected_course) ≡ false }
+{}
+
 /// After a resume the rule that ran waits, and its next attempt has the next number; what its old attempt gives is
 /// stale, and a rule is done once.
 pub fn resumed_run()
@@ -79,6 +96,72 @@ pub fn resumed_run()
     ensures claims_again { claim_of one_copy (local_run modes.Never) (moves_of (take 3 tried_again)) None 0 ≡ Ok 0 }
     ensures ended_again { is_legal one_copy digest ended_again ≡ true }
     ensures ends_again { end_of one_copy (local_run modes.Never) (moves_of (take 4 ended_again)) None ≡ check.Complete 0 }
+{}
+
+/// A run cut short at its Done. Without the Done the rule is claimed again, under the next number alone, and the run ends
+/// once that is done; with it nothing is left to claim.
+pub fn resume_at_a_done()
+    ensures goes_on { is_allowed one_copy digest (take 2 tried_again) (resumed 1 0 None) ≡ true }
+    ensures run { is_allowed one_copy digest (take 2 tried_again) (resumed 0 0 None) ≡ false }
+    ensures once_opened { is_allowed one_copy digest (take 2 tried_again) (opened_later 1) ≡ false }
+    ensures going { end_of one_copy (local_run modes.Never) (moves_of (take 3 tried_again)) None ≡ check.Going }
+    ensures numbered { is_allowed one_copy digest (take 3 tried_again) (started 0 0) ≡ false }
+    ensures late { is_allowed one_copy digest (take 4 tried_again) (done 0 0) ≡ false }
+    ensures ends { end_of one_copy (local_run modes.Never) (moves_of (take 5 tried_again)) None ≡ check.Complete 0 }
+    ensures logs { logged_end one_copy (local_run modes.Never) (moves_of (take 5 tried_again)) None ≡ Some kinds.Complete }
+    ensures nothing_left { claim_of one_copy (local_run modes.Never) (moves_of (take 4 ended_again)) None 0 ≡ Err nothing.NoneReady }
+    ensures still_there { file_state one_copy (take 4 ended_again) 1 ≡ file.Present (sized 40) }
+    ensures served { serves one_copy digest (local_run modes.Never) (take 2 tried_again) (moves_of (drop 2 tried_again)) ≡ true }
+    ensures served_at_once { serves one_copy digest (local_run modes.Never) (take 3 ended_again) (moves_of (drop 3 ended_again)) ≡ true }
+{}
+
+/// A cleaning ends a part: no file is there any more, rules wait, and runs and attempts are numbered on. Of an earlier
+/// part, which may be of another plan, only the numbers count.
+pub fn part_behind_a_cleaning()
+    ensures legal { is_legal one_copy digest cleaned_course ≡ true }
+    ensures absent { file_state one_copy (take 5 cleaned_course) 1 ≡ file.Absent }
+    ensures waits { rule_state (take 6 cleaned_course) 0 ≡ rule.Waiting }
+    ensures claims { claim_of one_copy (local_run modes.Never) (moves_of (take 6 cleaned_course)) None 0 ≡ Ok 0 }
+    ensures numbered { is_allowed one_copy digest (take 6 cleaned_course) (started 0 0) ≡ false }
+    ensures opened { is_allowed one_copy digest (take 5 cleaned_course) (resumed 1 0 None) ≡ false }
+    ensures empty { is_allowed one_copy digest (take 5 cleaned_course) (ended kinds.Cleaned) ≡ false }
+    ensures other { is_legal two_makers digest (after_other 1) ≡ true }
+    ensures misnumbered { first_illegal two_makers digest (after_other 0) ≡ Some 3 }
+{}
+
+/// One job takes 134,217,728 bytes and not one file more, each counted as often as the rule takes it in.
+pub fn inputs_of_one_job()
+    ensures fits { claim_of (join_of two_inputs) (local_run modes.Never) (moves_of large_run) None 0 ≡ Ok 0 }
+    ensures starts { is_allowed (join_of two_inputs) digest large_run (started 0 0) ≡ true }
+    ensures large { claim_of (join_of three_inputs) (local_run modes.Never) (moves_of large_run) None 0 ≡ Err (nothing.InputsTooLarge (record { 0 = 0 }) 201326592) }
+    ensures starts_none { is_allowed (join_of three_inputs) digest large_run (started 0 0) ≡ false }
+    ensures ends { end_of (join_of three_inputs) (local_run modes.Never) (moves_of large_run) None ≡ check.InputsTooLarge (record { 0 = 0 }) 201326592 }
+    ensures logs { is_allowed (join_of three_inputs) digest large_run (ended kinds.InputsTooLarge) ≡ true }
+    ensures not_so { is_allowed (join_of two_inputs) digest large_run (ended kinds.InputsTooLarge) ≡ false }
+{}
+
+/// What closes an attempt: one content for each output, each within the bound of its file and together within that of the
+/// rule, or a failure at one of the outputs.
+pub fn closing_of_an_attempt()
+    ensures within { is_allowed two_halves digest halves_run (made 0 0 (67108863 ∷ 1 ∷ [])) ≡ true }
+    ensures together { is_allowed two_halves digest halves_run (made 0 0 (67108864 ∷ 1 ∷ [])) ≡ false }
+    ensures few { is_allowed two_halves digest halves_run (made 0 0 (1 ∷ [])) ≡ false }
+    ensures many { is_allowed two_halves digest halves_run (made 0 0 (1 ∷ 1 ∷ 1 ∷ [])) ≡ false }
+    ensures bound { is_allowed chain digest (take 2 collected_course) (made 0 0 (41 ∷ [])) ≡ false }
+    ensures other_rule { is_allowed chain digest (take 2 collected_course) (done 1 0) ≡ false }
+    ensures last_output { is_allowed two_halves digest halves_run (records.Failed 0 (record { 0 = 0 }) (record { 0 = 0 }) (failures.MissingOutput 1)) ≡ true }
+    ensures no_output { is_allowed two_halves digest halves_run (records.Failed 0 (record { 0 = 0 }) (record { 0 = 0 }) (failures.MissingOutput 2)) ≡ false }
+    ensures no_long_output { is_allowed two_halves digest halves_run (records.Failed 0 (record { 0 = 0 }) (record { 0 = 0 }) (failures.TooLong 2 67108865)) ≡ false }
+{}
+
+/// A second end answers what the first did and logs nothing, whatever came between: a drop, a stop, a link.
+pub fn end_that_stays()
+    ensures legal { is_legal chain digest dropped_later ≡ true }
+    ensures before { end_of chain (local_run modes.RefCount) (moves_of (take 7 dropped_later)) None ≡ check.CommandFailed (record { 0 = 2 }) (failures.Status (pos 3)) }
+    ensures after { end_of chain (local_run modes.RefCount) (moves_of dropped_later) (Some stops.Halt) ≡ check.CommandFailed (record { 0 = 2 }) (failures.Status (pos 3)) }
+    ensures logs { logged_end chain (local_run modes.RefCount) (moves_of dropped_later) None ≡ None }
+    ensures claims { claim_of chain (local_run modes.RefCount) (moves_of dropped_later) None 0 ≡ Err nothing.Stopping }
+    ensures waited { end_of (three_cuts (cores 2)) worker_run (moves_of (opened 0 None ∷ ended kinds.Waited ∷ []) ++ joined 1 1000 ∷ []) (Some (stops.Waited 3)) ≡ check.Waited (record { idles = 3; rule = record { 0 = 0 } }) }
 {}
 
 /// With one retry a rule has failed after its second failure, and nothing is started from then on.

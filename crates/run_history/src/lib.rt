@@ -11,8 +11,9 @@ mod states;
 
 pub use answers::{Check, Next, Nothing, Stop, Wait};
 pub use examples::{
-    failures_of_a_rule, one_run_of_one_rule, packing_of_a_link, resumed_run, run_that_collects,
-    runs_without_room, stops_for_waiting,
+    chain_in_each_mode, closing_of_an_attempt, end_that_stays, failures_of_a_rule,
+    inputs_of_one_job, one_run_of_one_rule, packing_of_a_link, part_behind_a_cleaning,
+    resume_at_a_done, resumed_run, run_that_collects, runs_without_room, stops_for_waiting,
 };
 pub use laws::{
     answers_may_follow, complete_rule_is_final, dropped_file_is_not_needed,
