@@ -1,4 +1,3 @@
-pub mod Places
 pub mod Woven
 pub mod Running
 pub mod Presents

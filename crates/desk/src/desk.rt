@@ -35,8 +35,7 @@ use crate::entry::log_entry;
 use crate::follow::follow;
 use crate::inputs::{content_in, read_logged};
 use crate::kinds::kind_of;
-use crate::seen::look;
-use crate::starts::next_attempt;
+use crate::standing::runs_with;
 use crate::step::Step;
 use crate::{
     Claim, ClaimRefused, CloseRefused, EndRefused, InputRefused, StartFault, StartRefused, Terms,
@@ -200,6 +199,7 @@ impl<F: Commands, S: Site, T: Terms> Desk<F, S, T> {
 
     /// Whether an attempt may be closed.
     fn check(&self, rule: RuleNo, number: AttemptNo, link: LinkNo) -> Result<(), CloseRefused>
+        requires { rule.0 < length self.now.plan.rules }
         ensures reply { Checks self.now rule number link result }
         ensures still { S.tells → T.kept → IsFine self.now.trouble
             → LeavesOnly S.moment S.images_since self.now.site self.now.site
@@ -214,13 +214,12 @@ impl<F: Commands, S: Site, T: Terms> Desk<F, S, T> {
     {
         match self.trouble {
             Trouble::Fine => {
-                let seen = look(&self.records, rule);
-                if seen.runs_with(number, link) {
+                if runs_with(&self.table, rule, number, link) {
                     Ok(())
                 } else {
                     Err(CloseRefused::Stale {
                         rule,
-                        state: seen.state(),
+                        state: self.table.state(rule),
                     })
                 }
             }
@@ -345,6 +344,18 @@ impl<F: Commands, S: Site, T: Terms> Desk<F, S, T> {
         })
     }
 
+    /// What comes after a failure of the rule.
+    fn next(&self, rule: RuleNo) -> Next
+        requires { rule.0 < length self.now.plan.rules }
+        ensures { is_final result ≡ has_failed (records_of self.now.moves) rule.0 }
+    {
+        if self.table.has_failed(rule) {
+            Next::Final
+        } else {
+            Next::Again
+        }
+    }
+
     /// Closes an attempt whose command failed, and answers whether the rule has failed by it.
     pub fn fail(
         &mut self,
@@ -374,7 +385,7 @@ impl<F: Commands, S: Site, T: Terms> Desk<F, S, T> {
             attempt: number,
             why,
         })?;
-        Ok(look(&self.records, rule).next())
+        Ok(self.next(rule))
     }
 
     /// Gives an attempt up.
@@ -405,7 +416,7 @@ impl<F: Commands, S: Site, T: Terms> Desk<F, S, T> {
             → FilesHold (Fits T.trust F.gives T.sources) self.now.plan (records_of self.now.moves)
             (S.may_leave self.now.site) }
     {
-        AttemptNo(next_attempt(&self.records))
+        self.table.next_attempt()
     }
 
     /// Starts the rule that a claim for a live link answers. All but the choice of the rule is done here.

@@ -1,9 +1,9 @@
 //! Links that join, change their amounts and leave.
-ghost use Rattle.std.specs.Prelude.{◌≡◌, ◌<◌, List, is_some, length, nat_le, nat_lt, not, true};
+ghost use Rattle.std.specs.Prelude.{◌≡◌, ◌≤◌, ◌<◌, List, is_some, length, nat_le, nat_lt, not, true};
 ghost use Rattle.flow_types.specs.Plans.{is_empty};
 ghost use Rattle.run_history.specs.declared.moves.Move.{Move};
 ghost use Rattle.run_history.specs.Links.{is_live, records_of, running_on};
-ghost use Rattle.run_history.specs.Moves.{most_links};
+ghost use Rattle.run_history.specs.Moves.{live_links, most_links};
 ghost use Rattle.task_core.specs.Links.{Changes, Joins, Leaves};
 ghost use Rattle.task_core.specs.States.{known_in, link_at};
 ghost use Rattle.task_core.specs.Stands.{Stands};
@@ -78,6 +78,15 @@ impl Table {
         ensures live { (moves : List Move) → Stands self.now moves → result ≡ is_live self.now.options moves link.0 }
     {
         self.stated(link).is_some()
+    }
+
+    /// How many links live, the local place among them.
+    pub fn link_count(&self) -> usize
+        ensures live { (moves : List Move) → Stands self.now moves
+            → result ≡ length (live_links self.now.options moves) }
+        ensures few { result ≤ 9223372036854775808 }
+    {
+        self.links().len() + 1
     }
 
     /// Whether a rule runs on the link.

@@ -1,9 +1,12 @@
 //! The table.
-ghost use Rattle.std.specs.Prelude.{◌≡◌, ◌<◌, ◌≤◌, ◌+◌, length, IfOk, OnErr, Some, is_some, nat_lt, slice_index_or, slice_set, true, false, ℕ};
+ghost use Rattle.std.specs.Prelude.{◌≡◌, ◌<◌, ◌≤◌, ◌+◌, length, IfOk, OnErr, Some, is_some, List, nat_lt, slice_index_or, slice_set, true, false, ℕ};
 ghost use Rattle.run_history.specs.declared.options.Mode.TheVariants.{Never};
 ghost use Rattle.run_history.specs.declared.states.FileState.TheVariants.{Absent, Present};
 ghost use Rattle.flow_types.specs.Plans.{IsValid, most_bytes, most_files, most_rules};
 ghost use Rattle.std.specs.Option.{option_map_or};
+ghost use Rattle.run_history.specs.declared.moves.Move.{Move};
+ghost use Rattle.run_history.specs.History.{next_attempt};
+ghost use Rattle.run_history.specs.Links.{records_of};
 ghost use Rattle.run_history.specs.Moves.{most_joins};
 ghost use Rattle.run_history.specs.Storage.{size_in};
 ghost use Rattle.task_core.specs.Allowed.{has_two_places};
@@ -11,7 +14,7 @@ ghost use Rattle.task_core.specs.Known.{known_bytes, leaves_places, runs_now};
 ghost use Rattle.task_core.specs.Links.{after_change, after_join, after_leave};
 ghost use Rattle.task_core.specs.Parts.{blank_table};
 ghost use Rattle.task_core.specs.States.{known_in, row_at, file_at};
-ghost use Rattle.task_core.specs.Stands.{after_done, after_drop, after_end, after_failure, after_loss, after_opening, after_start};
+ghost use Rattle.task_core.specs.Stands.{after_done, after_drop, after_end, after_failure, after_loss, after_opening, after_start, Stands};
 
 use crate::parts::Numbers;
 use crate::rows::{LinkEntry, RuleRow, restate, wait_again, without};
@@ -333,8 +336,10 @@ impl Table {
         self.stop.is_some()
     }
 
-    pub(crate) fn next_attempt(&self) -> AttemptNo
-        ensures { result.0 ≡ self.now.starts }
+    /// The number of the next attempt.
+    pub fn next_attempt(&self) -> AttemptNo
+        ensures starts { result.0 ≡ self.now.starts }
+        ensures next { (moves : List Move) → Stands self.now moves → result.0 ≡ next_attempt (records_of moves) }
     {
         AttemptNo(self.starts)
     }

@@ -1,12 +1,11 @@
-use Rattle.std.proofs.Common.{◌∙◌, List, sym, ap, subst, refl}
-use Rattle.flow_types.specs.declared.records.Record.{Record}
+use Rattle.std.proofs.Common.{◌∙◌, sym, ap, subst, refl}
+use Rattle.run_history.specs.States.{rule_state}
 use Rattle.run_history.specs.Links.{records_of}
 use Rattle.outside.specs.Disk.{LeavesOnly}
+use Rattle.task_core.proofs.Closing.{state-known}
 use Rattle.desk.specs.Kept.{Fits, FilesHold, Keeps}
-use Rattle.desk.specs.Places.{IsSeen}
-use Rattle.desk.specs.State.{DeskState, IsFine}
+use Rattle.desk.specs.State.{DeskState, IsFine, runs_with}
 use Rattle.desk.proofs.Keeping.{resting}
-use Rattle.desk.proofs.Woven.{moves_records}
 use Rattle.desk.proofs.desk.Desk.check.Goals as goal
 
 pub returns-then-runs_with-clause-still : goal.returns-then-runs_with-clause-still
@@ -18,9 +17,8 @@ returns-then-runs_with-clause-still g c told kept fine =
 pub returns-then-runs_with-clause-reply : goal.returns-then-runs_with-clause-reply
 returns-then-runs_with-clause-reply g c =
     let fine = subst (λ (v : DeskState g.row.S.Denot). IsFine v.trouble) c.self.view_is (subst IsFine (sym c.in-Fine.is) tt) in
-    let seen = subst (λ (H : List Record). IsSeen H c.args.rule.0 c.look-seen.result)
-    (c.deref.ensures.value ∙ sym (moves_records c.self.inside.base c.self.inside.steps.items c.self.inside.records.items c.self.invariant.0) ∙ ap (λ (v : DeskState g.row.S.Denot). records_of v.moves) c.self.view_is) c.look-seen.ensures in
-    (fine, sym (c.runs_with.ensures (records_of c.args.self.now.moves) c.args.rule.0 seen) ∙ c.if-runs_with.true)
+    let runs = c.runs_with.ensures _ c.self.invariant.2 ∙ ap (λ (v : DeskState g.row.S.Denot). runs_with (records_of v.moves) c.args.rule.0 c.args.number.0 c.args.link.0) c.self.view_is in
+    (fine, sym runs ∙ c.if-runs_with.true)
 
 pub returns-else-runs_with-clause-still : goal.returns-else-runs_with-clause-still
 returns-else-runs_with-clause-still g c told kept fine =
@@ -31,9 +29,9 @@ returns-else-runs_with-clause-still g c told kept fine =
 pub returns-else-runs_with-clause-reply : goal.returns-else-runs_with-clause-reply
 returns-else-runs_with-clause-reply g c =
     let fine = subst (λ (v : DeskState g.row.S.Denot). IsFine v.trouble) c.self.view_is (subst IsFine (sym c.in-Fine.is) tt) in
-    let seen = subst (λ (H : List Record). IsSeen H c.args.rule.0 c.look-seen.result)
-    (c.deref.ensures.value ∙ sym (moves_records c.self.inside.base c.self.inside.steps.items c.self.inside.records.items c.self.invariant.0) ∙ ap (λ (v : DeskState g.row.S.Denot). records_of v.moves) c.self.view_is) c.look-seen.ensures in
-    (fine, sym (c.runs_with.ensures (records_of c.args.self.now.moves) c.args.rule.0 seen) ∙ c.if-runs_with.false, refl, c.state.ensures (records_of c.args.self.now.moves) c.args.rule.0 seen)
+    let runs = c.runs_with.ensures _ c.self.invariant.2 ∙ ap (λ (v : DeskState g.row.S.Denot). runs_with (records_of v.moves) c.args.rule.0 c.args.number.0 c.args.link.0) c.self.view_is in
+    let state = c.state.ensures ∙ state-known c.self.inside.table _ c.args.rule.0 c.self.invariant.2 ∙ ap (λ (v : DeskState g.row.S.Denot). rule_state (records_of v.moves) c.args.rule.0) c.self.view_is in
+    (fine, sym runs ∙ c.if-runs_with.false, refl, state)
 
 pub returns-then-runs_with-clause-files : goal.returns-then-runs_with-clause-files
 returns-then-runs_with-clause-files g c told kept fine =

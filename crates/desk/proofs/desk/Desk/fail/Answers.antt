@@ -1,13 +1,9 @@
-use Rattle.std.proofs.Common.{◌∙◌, List, ap, sym, subst, refl}
-use Rattle.flow_types.specs.declared.records.Record.{Record}
+use Rattle.std.proofs.Common.{refl}
 use Rattle.flow_types.specs.declared.records.Record.TheVariants as entries
 use Rattle.run_history.specs.Links.{records_of}
 use Rattle.desk.specs.Kept.{Fits}
-use Rattle.desk.specs.Places.{IsSeen}
-use Rattle.desk.specs.State.{DeskState}
 use Rattle.desk.proofs.Presents.{quiet_holds, runs_from}
 use Rattle.desk.proofs.Running.{failed_places}
-use Rattle.desk.proofs.Woven.{moves_records}
 use Rattle.desk.proofs.desk.Desk.fail.Goals as goal
 
 pub record-requires-clause-files : goal.record-requires-clause-files
@@ -20,12 +16,6 @@ record-requires-clause-places g c κs within =
     failed_places c.args.self.now.plan (records_of c.args.self.now.moves) c.args.moment c.args.attempt.rule c.args.attempt.number c.args.why
     (runs_from c.args.self.now.plan (records_of c.args.self.now.moves) c.args.attempt.rule.0 c.args.attempt.number.0 c.args.attempt.link.0 c.requires.rule c.in_ok-check.ensures.reply.1)
     c.check.ensures.places
-
-pub returns-clause-next : goal.returns-clause-next
-returns-clause-next g c =
-    c.next.ensures (records_of c.record.new.self.moves) c.args.attempt.rule.0
-    (subst (λ (H : List Record). IsSeen H c.args.attempt.rule.0 c.look.result)
-    (c.deref.ensures.value ∙ sym (moves_records c.self.inside.base c.self.inside.steps.items c.self.inside.records.items c.self.invariant.0) ∙ ap (λ (v : DeskState g.row.S.Denot). records_of v.moves) c.self.view_is) c.look.ensures)
 
 pub record-requires-clause-shaped : goal.record-requires-clause-shaped
 record-requires-clause-shaped g c κs within = (c.requires.rule, c.requires.index)
