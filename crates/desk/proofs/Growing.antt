@@ -29,7 +29,7 @@ closes_grows {S} d rule number link x (Err refused.Memory) after h = subst (λ (
 
 -- the start of a rule
 pub starts_grows : {S : Type 0} (d : DeskState S) (rule : RuleNo) (link : LinkNo) (moment : ℕ) (r : Result Attempt ClaimRefused) (after : DeskState S) → Starts d rule link moment r after → Grows d after
-starts_grows {S} d rule link moment (Ok attempt) after h = subst (λ (a : DeskState S). Grows d a) (sym h.3) ((moves.Logged (started_as d.moves rule moment link) ∷ [], refl), (λ y e. e), refl, refl, refl, refl, refl)
+starts_grows {S} d rule link moment (Ok attempt) after h = subst (λ (a : DeskState S). Grows d a) (sym h.5) ((moves.Logged (started_as d.moves rule moment link) ∷ [], refl), (λ y e. e), refl, refl, refl, refl, refl)
 starts_grows {S} d rule link moment (Err (unclaimed.Broken before now)) after h = subst (λ (a : DeskState S). Grows d a) (sym h.0) (([], append-nil d.moves), (λ y e. e), refl, refl, refl, refl, refl)
 starts_grows {S} d rule link moment (Err unclaimed.Memory) after h = subst (λ (a : DeskState S). Grows d a) (sym h) (([], append-nil d.moves), (λ y e. e), refl, refl, refl, refl, refl)
 

@@ -17,3 +17,7 @@ pub mod Beginning
 pub mod Absent
 pub mod Stopping
 pub mod Ending
+pub mod Rooming
+pub mod Spelled
+pub mod Taking
+pub mod Handing

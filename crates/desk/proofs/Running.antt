@@ -111,7 +111,7 @@ pub done_places : (P : Plan) (H : List Record) (moment : ℕ) (rule : RuleNo) (a
 done_places P H moment rule attempt outs running places =
     closing_places P H (records.Done moment rule attempt outs) refl refl refl (closing P H (records.Done moment rule attempt outs) rule.0 attempt.0 (Some outs) running refl refl (λ r. refl) (λ r. refl)) places
 
-no_outs : (b : Bool) → let none : Option (List Content) = None in none ≡ cond b none none
+pub no_outs : (b : Bool) → let none : Option (List Content) = None in none ≡ cond b none none
 no_outs true = refl
 no_outs false = refl
 
@@ -137,16 +137,23 @@ starting_by H x place r true same more stays says logs = one_more (is_running (H
 starting_by H x place r false other more stays says logs =
     let same : one (is_running (H ++ (x ∷ [])) r) ≡ one (is_running H r) = ap one (running_same H x r more stays logs (says refl)) in omega (arith, same)
 
--- a start of a rule leaves a place for each running attempt where it needed two
-pub started_places : (P : Plan) (H : List Record) (moment : ℕ) (rule : RuleNo) (attempt : AttemptNo) (link : LinkNo) → has_places P H 2 ≡ true
-    → has_room P (H ++ (records.Started moment rule attempt link ∷ [])) ≡ true
-started_places P H moment rule attempt link places =
+-- a start lets at most one more rule run
+pub started_runs : (P : Plan) (H : List Record) (moment : ℕ) (rule : RuleNo) (attempt : AttemptNo) (link : LinkNo)
+    → length (running_rules P (H ++ (records.Started moment rule attempt link ∷ []))) ≤ length (running_rules P H) + 1
+started_runs P H moment rule attempt link =
     let x : Record = records.Started moment rule attempt link in
     let le : total (λ r. one (is_running (H ++ (x ∷ [])) r)) (rule_numbers P) ≤ total (λ r. one (is_running H r)) (rule_numbers P) + total (at_place 1 rule.0) (rule_numbers P) =
     total-add (λ r. one (is_running (H ++ (x ∷ [])) r)) (λ r. one (is_running H r)) (at_place 1 rule.0) (rule_numbers P)
     (λ r. starting_by H x rule.0 r (rule.0 == r) refl refl refl (λ other. ap (λ b. cond b (Some (Some (attempt, link))) None) other) refl) in
-    room_by P (H ++ (x ∷ []))
-    (omega (arith, le, place-once 1 rule.0 0 (length P.rules), count_is P H, count_is P (H ++ (x ∷ [])), length-append H (x ∷ []), leb-true (length H + length (running_rules P H) + 1 + 2) most_records places))
+    omega (arith, le, place-once 1 rule.0 0 (length P.rules), count_is P H, count_is P (H ++ (x ∷ [])))
+
+-- so it leaves a place for each running attempt where it needed two
+pub started_places : (P : Plan) (H : List Record) (moment : ℕ) (rule : RuleNo) (attempt : AttemptNo) (link : LinkNo) → has_places P H 2 ≡ true
+    → has_room P (H ++ (records.Started moment rule attempt link ∷ [])) ≡ true
+started_places P H moment rule attempt link places =
+    let x : Record = records.Started moment rule attempt link in
+    let le = started_runs P H moment rule attempt link in
+    room_by P (H ++ (x ∷ [])) (omega (arith, le, length-append H (x ∷ []), leb-true (length H + length (running_rules P H) + 1 + 2) most_records places))
 
 same_rules : (p q : ℕ → Bool) (xs : List ℕ) → ((r : ℕ) → p r ≡ q r) → filter p xs ≡ filter q xs
 same_rules p q [] same = refl
@@ -160,12 +167,17 @@ any_last (y ∷ ys) x ends = ap (λ (b : Bool). is_end y || b) (any_last ys x en
     or_last true = refl
     or_last false = refl
 
+-- at the end of a run as many rules run as before
+pub ended_runs : (P : Plan) (H : List Record) (moment : ℕ) (kind : EndKind) → is_cleaned_kind kind ≡ false → length (running_rules P (H ++ (records.Ended moment kind ∷ []))) ≡ length (running_rules P H)
+ended_runs P H moment kind stays =
+    let x : Record = records.Ended moment kind in
+    ap length (same_rules (is_running (H ++ (x ∷ []))) (is_running H) (rule_numbers P) (λ r. running_same H x r stays refl refl refl))
+
 -- the end of a run takes the place that was left for it
 pub ended_places : (P : Plan) (H : List Record) (moment : ℕ) (kind : EndKind) → is_cleaned_kind kind ≡ false → has_ended H ≡ false → has_room P H ≡ true → has_room P (H ++ (records.Ended moment kind ∷ [])) ≡ true
 ended_places P H moment kind stays goes places =
     let x : Record = records.Ended moment kind in
-    let same : length (running_rules P (H ++ (x ∷ []))) ≡ length (running_rules P H) =
-    ap length (same_rules (is_running (H ++ (x ∷ []))) (is_running H) (rule_numbers P) (λ r. running_same H x r stays refl refl refl)) in
+    let same = ended_runs P H moment kind stays in
     let now : place_of (has_ended (H ++ (x ∷ []))) ≡ 0 = ap place_of (ap (list_any is_end) (since-more H x stays refl) ∙ any_last (since_opening H) x refl) in
     let before : place_of (has_ended H) ≡ 1 = ap place_of goes in
     let le = leb-true (length H + length (running_rules P H) + place_of (has_ended H)) most_records places in

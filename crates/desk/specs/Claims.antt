@@ -1,5 +1,5 @@
 -- What the start of a rule answers.
-use Rattle.std.specs.Prelude.{◌≡◌, ◌<◌, ◌⊎◌, ℕ, [], ◌∷◌, ◌++◌, Result, Ok, Err}
+use Rattle.std.specs.Prelude.{◌≡◌, ◌<◌, ◌⊎◌, ℕ, [], ◌∷◌, ◌++◌, length, Result, Ok, Err}
 use Rattle.flow_types.specs.declared.numbers.RuleNo.{RuleNo}
 use Rattle.flow_types.specs.declared.numbers.LinkNo.{LinkNo}
 use Rattle.run_history.specs.declared.moves.Move.TheVariants as moves
@@ -15,12 +15,14 @@ use Rattle.desk.specs.declared.answers.ClaimRefused.{ClaimRefused}
 use Rattle.desk.specs.declared.answers.ClaimRefused.TheVariants as refused
 use Rattle.desk.specs.declared.attempt.Attempt.{Attempt}
 use Rattle.desk.specs.Kept.{Test, Keeps}
+use Rattle.desk.specs.Room.{HasRows}
 use Rattle.desk.specs.State.{DeskState, IsFine}
 
--- The attempt has the rule, the link and the next number, and its start is the last move.
+-- The attempt has the rule, which is one of the plan, the link, the next number and room for the rule's outputs, and its start is the last move.
 abbrev pub Starts : {S : Type 0} → DeskState S → RuleNo → LinkNo → ℕ → Result Attempt ClaimRefused → DeskState S → Type 0
 Starts d rule link moment (Ok attempt) after =
     (attempt.rule ≡ rule) × (attempt.number.0 ≡ next_attempt (records_of d.moves)) × (attempt.link ≡ link)
+    × (rule.0 < length d.plan.rules) × HasRows d.plan attempt
     × (after ≡ record d { moves = d.moves ++ (moves.Logged (started_as d.moves rule moment link) ∷ []); site = after.site })
 Starts d rule link moment (Err (refused.Broken before now)) after =
     (after ≡ record d { trouble = trouble.Broken before now; site = after.site }) × (before ≡ d.faults) × (before < now)

@@ -8,3 +8,4 @@ pub mod Sources
 pub mod Openings
 pub mod Follows
 pub mod Ends
+pub mod Room

@@ -1,5 +1,6 @@
 //! The desk.
-ghost use Rattle.std.specs.Prelude.{◌≡◌, ◌≢◌, ◌≤◌, ◌<◌, ◌++◌, ◌∷◌, [], ℕ, List, length, Option, Some, OnOk, IfOk, Ok, true, false, slice_get, map, None};
+ghost use Rattle.std.specs.Prelude.{◌≡◌, ◌≢◌, ◌≤◌, ◌<◌, ◌++◌, ◌∷◌, [], ℕ, List, length, Option, Some, OnOk, OnErr, IfOk, IsErrOf, Ok, true, false, slice_get, map, None};
+ghost use Rattle.std.specs.Vec.{vec_capacity};
 ghost use Rattle.flow_types.specs.declared.plan.Rule.{Rule};
 ghost use Rattle.flow_types.specs.declared.records.Record.TheVariants as entries;
 ghost use Rattle.flow_types.specs.Plans.{IsValid, is_empty, makes};
@@ -14,10 +15,10 @@ ghost use Rattle.run_history.specs.Laws.{IsPresent, started_as};
 ghost use Rattle.run_history.specs.Links.{is_live, records_of};
 ghost use Rattle.run_history.specs.Storage.{has_failed, is_present, running_rules};
 ghost use Rattle.rule_graph.specs.Spelling.{plan_digest};
-ghost use Rattle.log_records.specs.Spelling.{ListsFew};
+ghost use Rattle.log_records.specs.Spelling.{ListsFew, spelling};
 ghost use Rattle.outside.specs.Disk.{LeavesOnly, IsImage};
 ghost use Rattle.outside.specs.Files.{Files};
-ghost use Rattle.txn_log.specs.Logs.{IsAt, most_records};
+ghost use Rattle.txn_log.specs.Logs.{HasRoom, IsAt, most_records};
 ghost use Rattle.file_store.specs.Outputs.{file_name, Last, StayBeside, DifferByName};
 ghost use Rattle.desk.specs.Begins.{Begins, site_in};
 ghost use Rattle.task_core.specs.Stands.{Stands};
@@ -27,6 +28,9 @@ ghost use Rattle.desk.specs.Ends.{Ends, KeepsEnd};
 ghost use Rattle.desk.specs.Follows.{Follows, IsShaped};
 ghost use Rattle.desk.specs.Inputs.{IsWhole, Looks, Tells, content_in};
 ghost use Rattle.desk.specs.Kept.{Fits, IsLegal, Keeps, WasKept, FilesHold, KeepsEither, logged};
+ghost use Rattle.desk.specs.Room.{HasRows, KeepsAmple, closes, longest_closing};
+ghost use Rattle.desk.specs.declared.answers.CloseRefused.TheVariants as refused;
+ghost use Rattle.desk.specs.declared.answers.Trouble.TheVariants as trouble;
 ghost use Rattle.desk.specs.State.{AreNamed, AreOutputs, CanLose, CanWrite, Checks, Closes, IsCut, IsDue, IsFine, Records, Takes, Writes, closed, has_room, is_final};
 
 use crate::attempt::Attempt;
@@ -35,13 +39,16 @@ use crate::entry::log_entry;
 use crate::follow::follow;
 use crate::inputs::{content_in, read_logged};
 use crate::kinds::kind_of;
+use crate::room::{LONGEST_CLOSING, open_ends, places_behind, room_for};
 use crate::standing::runs_with;
 use crate::step::Step;
 use crate::{
     Claim, ClaimRefused, CloseRefused, EndRefused, InputRefused, StartFault, StartRefused, Terms,
     Trouble,
 };
-use flow_types::{AttemptNo, Bytes, Content, Failure, FileNo, LinkNo, Record, Rows, RuleNo};
+use flow_types::{
+    AttemptNo, Bytes, Content, Failure, FileNo, LinkNo, Memory, Record, Rows, RuleNo,
+};
 use outside::{Commands, Fault, Site};
 use run_history::{Check, Next, Nothing};
 use std::alloc::Global;
@@ -71,7 +78,9 @@ pub struct Desk<F: Commands, S: Site, T: Terms> {
 }
 
 impl<F: Commands, S: Site, T: Terms> Model for Desk<F, S, T> {
-    ghost use Rattle.std.specs.Prelude.{drop};
+    ghost use Rattle.std.specs.Prelude.{drop, length};
+    ghost use Rattle.std.specs.Vec.{vec_capacity};
+    ghost use Rattle.desk.specs.Room.{HasPlaces};
     ghost use Rattle.desk.specs.State.{DeskState, IsDesk};
     ghost use Rattle.desk.specs.Kept.{Fits};
     ghost use Rattle.desk.specs.Woven.{moves_of, AreWoven};
@@ -104,10 +113,89 @@ impl<F: Commands, S: Site, T: Terms> Model for Desk<F, S, T> {
           trouble = d.trouble;
           site = d.site;
         })
-        × Stands d.table (moves_of d.base d.steps.items d.records.items) };
+        × Stands d.table (moves_of d.base d.steps.items d.records.items)
+        × HasPlaces d.table.plan d.table.options (moves_of d.base d.steps.items d.records.items) (length d.steps.items)
+        (vec_capacity d.records) (vec_capacity d.steps) d.log };
 }
 
 impl<F: Commands, S: Site, T: Terms> Desk<F, S, T> {
+    /// Begins a desk with a record that may stand behind the history, over a site that has the files of both, and a log
+    /// that takes each record that closes an attempt.
+    fn begin_in_room(
+        alloc: Global,
+        table: Table,
+        site: S,
+        log: Log,
+        history: Rows<Record>,
+        faults: u64,
+        entry: Record,
+    ) -> Result<Desk<F, S, T>, StartRefused<S>>
+        requires few { ListsFew entry }
+        requires takes { Takes log history }
+        requires place { length history < most_records }
+        requires gate { S.tells → IsAt history log.gate (S.may_leave site log.name) }
+        requires room { HasRoom log longest_closing }
+        requires faults { faults ≤ S.count site }
+        requires valid { IsValid table.plan }
+        requires stands { Stands table (map moves.Logged history ++ moves.Logged entry ∷ []) }
+        requires no_stop { table.stop ≡ None }
+        requires apart { (f : ℕ) → file_name table.plan f ≢ log.name }
+        requires legal { IsLegal table.plan history }
+        requires allowed { is_allowed table.plan (plan_digest table.plan) history entry ≡ true }
+        requires goes_on { is_cleaned entry ≡ false }
+        requires places { has_room table.plan (history ++ entry ∷ []) ≡ true }
+        requires files { S.tells → T.kept → FilesHold (Fits T.trust F.gives T.sources) table.plan
+            history (S.may_leave site) }
+        requires next_files { S.tells → T.kept → FilesHold (Fits T.trust F.gives T.sources) table.plan
+            (history ++ entry ∷ []) (S.may_leave site) }
+        requires later { S.tells → T.kept → T.born ≤ S.moment site }
+        requires since { S.tells → T.kept → (image : Files) → S.images_since site T.born image
+            → Keeps (Fits T.trust F.gives T.sources) table.plan log.name history image }
+        ensures reply { Begins table.plan table.options log.name faults history entry result }
+        ensures any_moment { S.tells → T.kept
+            → LeavesOnly S.moment S.images_since site (site_in result)
+            (KeepsEither (Fits T.trust F.gives T.sources) table.plan log.name history entry) }
+        ensures ample { KeepsAmple (S.ample site) (S.ample (site_in result)) (S.count (site_in result))
+            result }
+    {
+        let mut site = site;
+        let mut log = log;
+        let mut records = history.into_vec();
+        let base = records.len();
+        let mut steps = Vec::new(alloc);
+        let more = open_ends(&table);
+        match log_entry(&mut site, &mut log, &mut records, &mut steps, entry, more) {
+            Ok(()) => Ok(Desk {
+                alloc,
+                table,
+                log,
+                base,
+                faults,
+                records,
+                steps,
+                trouble: Trouble::Fine,
+                site,
+                of: PhantomData,
+            }),
+            Err(Fault::Failed) => {
+                let after = site.faults();
+                Err(StartRefused {
+                    why: StartFault::Site {
+                        before: faults,
+                        after,
+                    },
+                    site,
+                    history: Rows::of(records),
+                })
+            }
+            Err(Fault::Memory) => Err(StartRefused {
+                why: StartFault::Memory,
+                site,
+                history: Rows::of(records),
+            }),
+        }
+    }
+
     /// Begins a desk with a record that may stand behind the history, over a site that has the files of both.
     pub(crate) fn begin(
         alloc: Global,
@@ -142,40 +230,16 @@ impl<F: Commands, S: Site, T: Terms> Desk<F, S, T> {
         ensures any_moment { S.tells → T.kept
             → LeavesOnly S.moment S.images_since site (site_in result)
             (KeepsEither (Fits T.trust F.gives T.sources) table.plan log.name history entry) }
+        ensures ample { KeepsAmple (S.ample site) (S.ample (site_in result)) (S.count (site_in result))
+            result }
     {
-        let mut site = site;
         let mut log = log;
-        let mut records = history.into_vec();
-        let base = records.len();
-        let mut steps = Vec::new(alloc);
-        match log_entry(&mut site, &mut log, &mut records, &mut steps, entry) {
-            Ok(()) => Ok(Desk {
-                alloc,
-                table,
-                log,
-                base,
-                faults,
-                records,
-                steps,
-                trouble: Trouble::Fine,
-                site,
-                of: PhantomData,
-            }),
-            Err(Fault::Failed) => {
-                let after = site.faults();
-                Err(StartRefused {
-                    why: StartFault::Site {
-                        before: faults,
-                        after,
-                    },
-                    site,
-                    history: Rows::of(records),
-                })
-            }
-            Err(Fault::Memory) => Err(StartRefused {
+        match log.reserve(LONGEST_CLOSING) {
+            Ok(()) => Self::begin_in_room(alloc, table, site, log, history, faults, entry),
+            Err(_) => Err(StartRefused {
                 why: StartFault::Memory,
                 site,
-                history: Rows::of(records),
+                history,
             }),
         }
     }
@@ -246,13 +310,19 @@ impl<F: Commands, S: Site, T: Terms> Desk<F, S, T> {
             → LeavesOnly S.moment S.images_since self.old.site self.new.site
             (KeepsEither (Fits T.trust F.gives T.sources) self.old.plan self.old.log
             (records_of self.old.moves) entry) }
+        ensures never { S.ample self.old.site → closes entry ≡ true
+            → length (spelling entry) ≤ longest_closing → IsErrOf result refused.Memory → ⊥ }
+        ensures ample { KeepsAmple (S.ample self.old.site) (S.ample self.new.site)
+            (S.count self.new.site) result }
     {
+        let more = places_behind(&self.table, &entry);
         match log_entry(
             &mut self.site,
             &mut self.log,
             &mut self.records,
             &mut self.steps,
             entry,
+            more,
         ) {
             Ok(()) => {
                 follow(&mut self.table, &self.records[self.records.len() - 1]);
@@ -271,11 +341,13 @@ impl<F: Commands, S: Site, T: Terms> Desk<F, S, T> {
         }
     }
 
-    /// Writes the outputs of a rule, none of which is present, so that they outlive a crash, and answers their rows.
+    /// Writes the outputs of a rule, none of which is present, so that they outlive a crash, and answers their rows, in the
+    /// room of these.
     fn write_outs(
         &mut self,
         rule: RuleNo,
         outs: &Rows<Bytes>,
+        rows: Vec<Content>,
     ) -> Result<Rows<Content>, CloseRefused>
         requires rule { rule.0 < length self.old.plan.rules }
         requires fine { IsFine self.old.trouble }
@@ -292,9 +364,13 @@ impl<F: Commands, S: Site, T: Terms> Desk<F, S, T> {
             → LeavesOnly S.moment S.images_since self.old.site self.new.site
             (Keeps (Fits T.trust F.gives T.sources) self.old.plan self.old.log
             (records_of self.old.moves)) }
+        ensures never { S.ample self.old.site → length outs.now ≤ vec_capacity rows
+            → IsErrOf result refused.Memory → ⊥ }
+        ensures ample { KeepsAmple (S.ample self.old.site) (S.ample self.new.site)
+            (S.count self.new.site) result }
     {
         match store_outputs(
-            self.alloc,
+            rows,
             &mut self.site,
             self.table.plan(),
             rule,
@@ -332,10 +408,19 @@ impl<F: Commands, S: Site, T: Terms> Desk<F, S, T> {
             (KeepsEither (Fits T.trust F.gives T.sources) self.old.plan self.old.log
             (records_of self.old.moves)
             (entries.Done moment attempt.rule attempt.number (map logged outs.now))) }
+        ensures never { S.ample self.old.site → IsFine self.old.trouble
+            → HasRows self.old.plan attempt → IsErrOf result refused.Memory → ⊥ }
+        ensures ample { KeepsAmple (S.ample self.old.site) (S.ample self.new.site)
+            (S.count self.new.site) result }
     {
-        let Attempt { rule, number, link } = attempt;
+        let Attempt {
+            rule,
+            number,
+            link,
+            rows,
+        } = attempt;
         self.check(rule, number, link)?;
-        let rows = self.write_outs(rule, outs)?;
+        let rows = self.write_outs(rule, outs, rows)?;
         self.record(Record::Done {
             moment,
             rule,
@@ -376,8 +461,17 @@ impl<F: Commands, S: Site, T: Terms> Desk<F, S, T> {
             → LeavesOnly S.moment S.images_since self.old.site self.new.site
             (KeepsEither (Fits T.trust F.gives T.sources) self.old.plan self.old.log
             (records_of self.old.moves) (entries.Failed moment attempt.rule attempt.number why)) }
+        ensures never { S.ample self.old.site → IsFine self.old.trouble
+            → IsErrOf result refused.Memory → ⊥ }
+        ensures ample { KeepsAmple (S.ample self.old.site) (S.ample self.new.site)
+            (S.count self.new.site) result }
     {
-        let Attempt { rule, number, link } = attempt;
+        let Attempt {
+            rule,
+            number,
+            link,
+            rows: _,
+        } = attempt;
         self.check(rule, number, link)?;
         self.record(Record::Failed {
             moment,
@@ -398,8 +492,17 @@ impl<F: Commands, S: Site, T: Terms> Desk<F, S, T> {
             → LeavesOnly S.moment S.images_since self.old.site self.new.site
             (KeepsEither (Fits T.trust F.gives T.sources) self.old.plan self.old.log
             (records_of self.old.moves) (entries.Lost moment attempt.rule attempt.number)) }
+        ensures never { S.ample self.old.site → IsFine self.old.trouble
+            → IsErrOf result refused.Memory → ⊥ }
+        ensures ample { KeepsAmple (S.ample self.old.site) (S.ample self.new.site)
+            (S.count self.new.site) result }
     {
-        let Attempt { rule, number, link } = attempt;
+        let Attempt {
+            rule,
+            number,
+            link,
+            rows: _,
+        } = attempt;
         self.check(rule, number, link)?;
         self.record(Record::Lost {
             moment,
@@ -419,6 +522,26 @@ impl<F: Commands, S: Site, T: Terms> Desk<F, S, T> {
         self.table.next_attempt()
     }
 
+    /// Room for the contents of a rule's outputs.
+    fn rows_for(&self, rule: RuleNo) -> Result<Vec<Content>, Memory>
+        requires rule { rule.0 < length self.now.plan.rules }
+        ensures { IfOk result (λ rows. length (makes self.now.plan rule.0) ≤ vec_capacity rows) }
+    {
+        room_for(self.alloc, self.table.plan(), rule)
+    }
+
+    /// The desk works no more, since memory was wanting.
+    fn want(&mut self)
+        requires { IsFine self.old.trouble }
+        ensures wants { self.new ≡ record self.old { trouble = trouble.Wants } }
+        ensures any_moment { S.tells → T.kept
+            → LeavesOnly S.moment S.images_since self.old.site self.new.site
+            (Keeps (Fits T.trust F.gives T.sources) self.old.plan self.old.log
+            (records_of self.old.moves)) }
+    {
+        self.trouble = Trouble::Wants;
+    }
+
     /// Starts the rule that a claim for a live link answers. All but the choice of the rule is done here.
     pub(crate) fn take(
         &mut self,
@@ -435,15 +558,26 @@ impl<F: Commands, S: Site, T: Terms> Desk<F, S, T> {
             → LeavesOnly S.moment S.images_since self.old.site self.new.site
             (KeepsEither (Fits T.trust F.gives T.sources) self.old.plan self.old.log
             (records_of self.old.moves) (started_as self.old.moves rule moment link)) }
+        ensures ample { KeepsAmple (S.ample self.old.site) (S.ample self.new.site)
+            (S.count self.new.site) result }
     {
         let number = self.next_number();
+        let Ok(rows) = self.rows_for(rule) else {
+            self.want();
+            return Err(ClaimRefused::Memory);
+        };
         match self.record(Record::Started {
             moment,
             rule,
             attempt: number,
             link,
         }) {
-            Ok(()) => Ok(Attempt { rule, number, link }),
+            Ok(()) => Ok(Attempt {
+                rule,
+                number,
+                link,
+                rows,
+            }),
             Err(CloseRefused::Stale { .. }) => unreachable!(),
             Err(CloseRefused::Broken { before, after }) => {
                 Err(ClaimRefused::Broken { before, after })
@@ -482,6 +616,8 @@ impl<F: Commands, S: Site, T: Terms> Desk<F, S, T> {
         ensures any_moment { S.tells → T.kept → IsFine self.old.trouble
             → LeavesOnly S.moment S.images_since self.old.site self.new.site
             (KeepsClaim (Fits T.trust F.gives T.sources) self.old link moment) }
+        ensures ample { KeepsAmple (S.ample self.old.site) (S.ample self.new.site)
+            (S.count self.new.site) result }
     {
         match self.working() {
             Ok(()) => {}
@@ -515,6 +651,8 @@ impl<F: Commands, S: Site, T: Terms> Desk<F, S, T> {
             → LeavesOnly S.moment S.images_since self.old.site self.new.site
             (Keeps (Fits T.trust F.gives T.sources) self.old.plan self.old.log
             (records_of self.old.moves)) }
+        ensures ample { KeepsAmple (S.ample self.old.site) (S.ample self.new.site)
+            (S.count self.new.site) result }
     {
         match self.trouble {
             Trouble::Fine => {}
@@ -574,6 +712,8 @@ impl<F: Commands, S: Site, T: Terms> Desk<F, S, T> {
         ensures any_moment { S.tells → T.kept → IsFine self.old.trouble
             → LeavesOnly S.moment S.images_since self.old.site self.new.site
             (KeepsEnd (Fits T.trust F.gives T.sources) self.old moment) }
+        ensures ample { KeepsAmple (S.ample self.old.site) (S.ample self.new.site)
+            (S.count self.new.site) result }
     {
         match self.working() {
             Ok(()) => {}
@@ -628,6 +768,8 @@ impl<F: Commands, S: Site, T: Terms> Desk<F, S, T> {
             → LeavesOnly S.moment S.images_since self.old.site self.new.site
             (Keeps (Fits T.trust F.gives T.sources) self.old.plan self.old.log
             (records_of self.old.moves)) }
+        ensures ample { KeepsAmple (S.ample self.old.site) (S.ample self.new.site)
+            (S.count self.new.site) result }
     {
         match self.logged(file) {
             Some(logged) => self.read_present(alloc, file, logged),

@@ -8,6 +8,7 @@ ghost use Rattle.file_store.specs.Outputs.{file_name};
 ghost use Rattle.task_core.specs.States.{file_at};
 ghost use Rattle.desk.specs.Kept.{logged};
 ghost use Rattle.desk.specs.Openings.{AddsRow, AreDurable, AreRows, IsFileFault, IsRow, LooksAt, LooksOver, changed_fault, damaged_fault, file_fault, source_fault, source_row};
+ghost use Rattle.desk.specs.Room.{KeepsAmple};
 
 use crate::StartFault;
 use crate::inputs::read_logged;
@@ -36,6 +37,7 @@ fn new_source<S: Site>(
     ensures any_moment { S.tells
         → LeavesOnly S.moment S.images_since site.old site.new (IsImage (S.may_leave site.old)) }
     ensures cause { HasCause (S.count site.old) (S.count site.new) result }
+    ensures ample { KeepsAmple (S.ample site.old) (S.ample site.new) (S.count site.new) result }
 {
     match settle(alloc, site, name)? {
         Ok(content) => Ok(Ok(Some(content))),
@@ -60,6 +62,7 @@ fn old_source<S: Site>(
     ensures any_moment { S.tells
         → LeavesOnly S.moment S.images_since site.old site.new (IsImage (S.may_leave site.old)) }
     ensures cause { HasCause (S.count site.old) (S.count site.new) result }
+    ensures ample { KeepsAmple (S.ample site.old) (S.ample site.new) (S.count site.new) result }
 {
     match read_logged(alloc, site, name, logged)? {
         Ok(_) => Ok(Ok(())),
@@ -86,6 +89,7 @@ fn made_file<S: Site>(
     ensures any_moment { S.tells
         → LeavesOnly S.moment S.images_since site.old site.new (IsImage (S.may_leave site.old)) }
     ensures cause { HasCause (S.count site.old) (S.count site.new) result }
+    ensures ample { KeepsAmple (S.ample site.old) (S.ample site.new) (S.count site.new) result }
 {
     let found = match site.size(name)? {
         None => Found::Absent,
@@ -115,6 +119,7 @@ fn old_file<S: Site>(
     ensures any_moment { S.tells
         → LeavesOnly S.moment S.images_since site.old site.new (IsImage (S.may_leave site.old)) }
     ensures cause { HasCause (S.count site.old) (S.count site.new) result }
+    ensures ample { KeepsAmple (S.ample site.old) (S.ample site.new) (S.count site.new) result }
 {
     let row = &table.plan().files.as_slice()[file.0 as usize];
     match table.file(file) {
@@ -145,6 +150,7 @@ fn new_file<S: Site>(
     ensures any_moment { S.tells
         → LeavesOnly S.moment S.images_since site.old site.new (IsImage (S.may_leave site.old)) }
     ensures cause { HasCause (S.count site.old) (S.count site.new) result }
+    ensures ample { KeepsAmple (S.ample site.old) (S.ample site.new) (S.count site.new) result }
 {
     let row = &table.plan().files.as_slice()[file.0 as usize];
     if row.maker.is_none() {
@@ -174,6 +180,7 @@ fn note_new_file<S: Site>(
     ensures any_moment { S.tells
         → LeavesOnly S.moment S.images_since site.old site.new (IsImage (S.may_leave site.old)) }
     ensures cause { HasCause (S.count site.old) (S.count site.new) result }
+    ensures ample { KeepsAmple (S.ample site.old) (S.ample site.new) (S.count site.new) result }
 {
     match new_file(alloc, site, table, file)? {
         Ok(Some(row)) => match rows.push(row) {
@@ -198,6 +205,7 @@ pub(crate) fn check_files<S: Site>(
     ensures any_moment { S.tells
         → LeavesOnly S.moment S.images_since site.old site.new (IsImage (S.may_leave site.old)) }
     ensures cause { HasCause (S.count site.old) (S.count site.new) result }
+    ensures ample { KeepsAmple (S.ample site.old) (S.ample site.new) (S.count site.new) result }
 {
     for place in 0..table.plan().files.len() {
         match old_file(alloc, site, table, FileNo(place as u32)) {
@@ -225,6 +233,7 @@ pub(crate) fn settle_sources<S: Site>(
     ensures any_moment { S.tells
         → LeavesOnly S.moment S.images_since site.old site.new (IsImage (S.may_leave site.old)) }
     ensures cause { HasCause (S.count site.old) (S.count site.new) result }
+    ensures ample { KeepsAmple (S.ample site.old) (S.ample site.new) (S.count site.new) result }
 {
     let mut rows = Rows::new(alloc);
     for place in 0..table.plan().files.len() {

@@ -11,6 +11,7 @@ mod follow;
 mod inputs;
 mod kinds;
 mod openings;
+mod room;
 mod sources;
 mod standing;
 mod start;

@@ -4,6 +4,7 @@ ghost use Rattle.flow_types.specs.Plans.{most_bytes};
 ghost use Rattle.outside.specs.Causes.{HasCause};
 ghost use Rattle.outside.specs.Disk.{IsImage, LeavesOnly, Within};
 ghost use Rattle.desk.specs.Sources.{Settled};
+ghost use Rattle.desk.specs.Room.{KeepsAmple};
 
 use crate::contents::content_of;
 use crate::inputs::read_bytes;
@@ -40,6 +41,7 @@ pub(crate) fn settle<S: Site>(
     ensures any_moment { S.tells
         → LeavesOnly S.moment S.images_since site.old site.new (IsImage (S.may_leave site.old)) }
     ensures cause { HasCause (S.count site.old) (S.count site.new) result }
+    ensures ample { KeepsAmple (S.ample site.old) (S.ample site.new) (S.count site.new) result }
 {
     site.sync(name)?;
     let Some(size) = site.size(name)? else {

@@ -15,6 +15,7 @@ ghost use Rattle.task_core.specs.Stands.{IsSameRun, Stands};
 ghost use Rattle.desk.specs.Openings.{AreDurable, early_fault, first_record, opened_plan, other_flow, plan_in};
 ghost use Rattle.desk.specs.Begins.{Admits, BeginsRun, KeepsOpening, Prepares, run_over, site_in};
 ghost use Rattle.desk.specs.Kept.{Fits, Keeps};
+ghost use Rattle.desk.specs.Room.{KeepsAmple};
 ghost use Rattle.desk.specs.State.{Takes};
 
 use crate::openings::{Run, opening};
@@ -132,6 +133,7 @@ fn prepare<S: Site>(
     ensures any_moment { S.tells
         → LeavesOnly S.moment S.images_since site.old site.new (IsImage (S.may_leave site.old)) }
     ensures later { S.count site.old ≤ S.count site.new }
+    ensures ample { KeepsAmple (S.ample site.old) (S.ample site.new) (S.count site.new) result }
 {
     let before = site.faults();
     let run = run_over(history, moment);
@@ -185,6 +187,8 @@ impl<F: Commands, S: Site, T: Terms> Desk<F, S, T> {
             → LeavesOnly S.moment S.images_since site (site_in result)
             (KeepsOpening (Fits T.trust F.gives T.sources) plan options log.name history moment S.tells
             (S.files site)) }
+        ensures ample { KeepsAmple (S.ample site) (S.ample (site_in result)) (S.count (site_in result))
+            result }
     {
         let faults = site.faults();
         let digest = plan_digest(&plan);

@@ -1,7 +1,10 @@
-use Rattle.std.proofs.Common.{◌∙◌, ap}
+use Rattle.std.proofs.Common.{◌∙◌, ap, length, subst, sym}
+use Rattle.std.specs.Vec.{vec_capacity}
+use Rattle.task_core.specs.States.{TableState}
 use Rattle.run_history.specs.declared.answers.Stop.TheVariants as stops
 use Rattle.run_history.specs.Answers.{stop_of}
 use Rattle.desk.specs.Kept.{Fits}
+use Rattle.desk.specs.Room.{HasPlaces}
 use Rattle.desk.specs.State.{DeskState}
 use Rattle.desk.specs.Woven.{moves_of}
 use Rattle.desk.proofs.Stopping.{stopped_desk, stopped_view}
@@ -24,6 +27,8 @@ invariant_of-self g c = (
       } in d)
       c.self.inside.log c.self.inside.table c.halt.new.self (stop_of c.self.inside.table.plan c.self.inside.table.options (moves_of c.self.inside.base c.self.inside.steps.items c.self.inside.records.items) c.self.inside.table.stop stops.Halt) (c.halt.ensures.stop (moves_of c.self.inside.base c.self.inside.steps.items c.self.inside.records.items)) c.self.invariant.1,
   c.halt.ensures.stands (moves_of c.self.inside.base c.self.inside.steps.items c.self.inside.records.items) c.self.invariant.2,
+  subst (λ (v : TableState). HasPlaces v.plan v.options (moves_of c.self.inside.base c.self.inside.steps.items c.self.inside.records.items) (length c.self.inside.steps.items) (vec_capacity c.self.inside.records) (vec_capacity c.self.inside.steps) c.self.inside.log)
+      (sym (c.halt.ensures.stop (moves_of c.self.inside.base c.self.inside.steps.items c.self.inside.records.items))) c.self.invariant.3,
 )
 
 pub returns : goal.returns

@@ -20,6 +20,7 @@ invariant_of-self g c = (
       (subst (λ (v : DeskState g.row.S.Denot). IsFine v.trouble) c.self.view_is (subst IsFine (sym c.in-Fine.is) tt))
       c.read_logged.ensures.any_moment c.read_logged.ensures.within c.read_logged.ensures.cause.later (fine_counts c.self.inside.faults (g.S.Site.count c.read_logged.new.site) c.self.inside.trouble (subst IsFine (sym c.in-Fine.is) tt)),
   c.self.invariant.2,
+  c.self.invariant.3,
 )
 
 pub invariant_of-self-in-Ok-Err : goal.invariant_of-self-in-Ok-Err
@@ -29,6 +30,7 @@ invariant_of-self-in-Ok-Err g c = (
       (subst (λ (v : DeskState g.row.S.Denot). IsFine v.trouble) c.self.view_is (subst IsFine (sym c.in-Fine.is) tt))
       c.read_logged.ensures.any_moment c.read_logged.ensures.within c.read_logged.ensures.cause.later (fine_counts c.self.inside.faults (g.S.Site.count c.read_logged.new.site) c.self.inside.trouble (subst IsFine (sym c.in-Fine.is) tt)),
   c.self.invariant.2,
+  c.self.invariant.3,
 )
 
 pub invariant_of-self-in-Err-Failed : goal.invariant_of-self-in-Err-Failed
@@ -43,6 +45,7 @@ invariant_of-self-in-Err-Failed g c = (
         omega (arith, is),
       )),
   c.self.invariant.2,
+  c.self.invariant.3,
 )
 
 pub invariant_of-self-in-Err-Memory : goal.invariant_of-self-in-Err-Memory
@@ -52,6 +55,7 @@ invariant_of-self-in-Err-Memory g c = (
       (subst (λ (v : DeskState g.row.S.Denot). IsFine v.trouble) c.self.view_is (subst IsFine (sym c.in-Fine.is) tt))
       c.read_logged.ensures.any_moment c.read_logged.ensures.within c.read_logged.ensures.cause.later tt,
   c.self.invariant.2,
+  c.self.invariant.3,
 )
 
 pub returns-in-Ok-Ok-clause-told : goal.returns-in-Ok-Ok-clause-told

@@ -1,4 +1,5 @@
 use Rattle.std.proofs.Common.{◌≡◌, ◌<◌, ◌≤◌, ◌-◌, ◌∙◌, ◌∷◌, [], get_or, length-append, List, length, sym, ap, subst, refl, arith, Err}
+use Rattle.std.specs.Vec.{vec_capacity}
 use Rattle.flow_types.specs.declared.records.Record.{Record}
 use Rattle.desk.specs.declared.answers.Trouble.TheVariants as trouble
 use Rattle.desk.specs.Kept.{Fits}
@@ -12,6 +13,7 @@ use Rattle.desk.specs.Follows.{Follows}
 use Rattle.desk.specs.Woven.{moves_of}
 use Rattle.task_core.specs.Stands.{Stands}
 use Rattle.desk.proofs.Fields.{recording_in, recorded_in, troubled_in, takes_in, gate_in, view_logged}
+use Rattle.desk.proofs.Rooming.{closing_fits, places_kept, places_recorded}
 use Rattle.desk.proofs.desk.Desk.record.Goals as goal
 
 pub log_entry-requires-clause-takes : goal.log_entry-requires-clause-takes
@@ -46,6 +48,9 @@ invariant_of-self g c =
       grown.0,
       still_desk (Fits g.T.Terms.trust g.F.Commands.gives g.T.Terms.sources) g.S.Site.tells g.T.Terms.kept g.S.Site.may_leave g.S.Site.moment g.S.Site.images_since g.S.Site.count g.T.Terms.born _ c.log_entry.new.log c.follow.new.table went.1 grown.1,
       went.0,
+      places_recorded c.self.inside.table c.follow.new.table base c.self.inside.steps.items c.log_entry.new.steps.items c.self.inside.records.items c.log_entry.new.records.items c.args.entry c.places_behind-more.result
+          (vec_capacity c.self.inside.records) (vec_capacity c.log_entry.new.records) (vec_capacity c.self.inside.steps) (vec_capacity c.log_entry.new.steps) c.self.inside.log c.log_entry.new.log
+          is.2 follows c.requires.goes_on went.1 le is.0 c.in-Ok.ensures.ok is.3 (λ other. c.places_behind-more.ensures.other other _ is.2) c.in-Ok.ensures.places c.log_entry.ensures.wide,
     )
 
 pub invariant_of-self-in-Err-Failed : goal.invariant_of-self-in-Err-Failed
@@ -62,6 +67,9 @@ invariant_of-self-in-Err-Failed g c =
       stays.0,
       stays.1,
       subst (Stands c.self.inside.table) (ap (λ (l : List Step). moves_of c.self.inside.base l c.self.inside.records.items) (sym c.in-Err-Failed.ensures.err.1) ∙ ap (moves_of c.self.inside.base c.log_entry.new.steps.items) (sym c.in-Err-Failed.ensures.err.0)) c.self.invariant.2,
+      places_kept c.self.inside.table.plan c.self.inside.table.options c.self.inside.base c.self.inside.steps.items c.log_entry.new.steps.items c.self.inside.records.items c.log_entry.new.records.items
+          (vec_capacity c.self.inside.records) (vec_capacity c.log_entry.new.records) (vec_capacity c.self.inside.steps) (vec_capacity c.log_entry.new.steps) c.self.inside.log c.log_entry.new.log
+          c.in-Err-Failed.ensures.err c.self.invariant.3 c.log_entry.ensures.wide,
     )
 
 pub invariant_of-self-in-Err-Memory : goal.invariant_of-self-in-Err-Memory
@@ -73,6 +81,9 @@ invariant_of-self-in-Err-Memory g c =
       stays.0,
       stays.1,
       subst (Stands c.self.inside.table) (ap (λ (l : List Step). moves_of c.self.inside.base l c.self.inside.records.items) (sym c.in-Err-Memory.ensures.err.1) ∙ ap (moves_of c.self.inside.base c.log_entry.new.steps.items) (sym c.in-Err-Memory.ensures.err.0)) c.self.invariant.2,
+      places_kept c.self.inside.table.plan c.self.inside.table.options c.self.inside.base c.self.inside.steps.items c.log_entry.new.steps.items c.self.inside.records.items c.log_entry.new.records.items
+          (vec_capacity c.self.inside.records) (vec_capacity c.log_entry.new.records) (vec_capacity c.self.inside.steps) (vec_capacity c.log_entry.new.steps) c.self.inside.log c.log_entry.new.log
+          c.in-Err-Memory.ensures.err c.self.invariant.3 c.log_entry.ensures.wide,
     )
 
 pub returns-in-Ok-clause-reply : goal.returns-in-Ok-clause-reply
@@ -103,3 +114,12 @@ pub returns-in-Err-Memory-clause-any_moment : goal.returns-in-Err-Memory-clause-
 returns-in-Err-Memory-clause-any_moment g c told kept =
     recording_in (Fits g.T.Terms.trust g.F.Commands.gives g.T.Terms.sources) g.S.Site.tells g.T.Terms.kept g.S.Site.may_leave g.S.Site.moment g.S.Site.images_since g.S.Site.count g.T.Terms.born _ c.args.self.now c.self.inside.log c.args.entry c.log_entry.new.site c.self.inside.steps.items c.self.inside.records.items c.self.view_is refl (c.self.invariant.0, c.self.invariant.1)
     (record { fine = c.requires.fine; allowed = c.requires.allowed; goes_on = c.requires.goes_on; places = c.requires.places; files = λ t. c.requires.files t.0 t.1 }) c.log_entry.ensures.any_moment (told, kept)
+
+pub returns-in-Err-Memory-clause-never : goal.returns-in-Err-Memory-clause-never
+returns-in-Err-Memory-clause-never g c ample closes short wants =
+    let is = c.self.invariant in
+    let follows = subst (λ (v : DeskState g.row.S.Denot). Follows v.plan v.options v.stop v.moves c.args.entry) (sym c.self.view_is) c.requires.follows in
+    let fits = closing_fits c.self.inside.table c.self.inside.base c.self.inside.steps.items c.self.inside.records.items c.args.entry c.places_behind-more.result
+    (vec_capacity c.self.inside.records) (vec_capacity c.self.inside.steps) c.self.inside.log is.2 follows is.0 is.3 closes (c.places_behind-more.ensures.closing closes) in
+    let spells = is.3.spells in
+    c.in-Err-Memory.ensures.never (subst (λ (v : DeskState g.row.S.Denot). g.S.Site.ample v.site) (sym c.self.view_is) ample) (omega (arith, spells, short)) fits.0 fits.1 (ap Err c.in-Err-Memory.field-0-is)
