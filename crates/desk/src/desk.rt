@@ -1,5 +1,5 @@
 //! The desk.
-ghost use Rattle.std.specs.Prelude.{◌≡◌, ◌≢◌, ◌≤◌, ◌<◌, ◌++◌, ◌∷◌, [], ℕ, List, length, Option, Some, OnOk, OnErr, IfOk, IsErrOf, Ok, true, false, slice_get, map, None};
+ghost use Rattle.std.specs.Prelude.{◌≡◌, ◌≢◌, ◌≤◌, ◌<◌, ◌++◌, ◌∷◌, [], ℕ, List, length, Option, Some, OnOk, IfOk, IsErrOf, Ok, true, false, slice_get, map, None};
 ghost use Rattle.std.specs.Vec.{vec_capacity};
 ghost use Rattle.flow_types.specs.declared.plan.Rule.{Rule};
 ghost use Rattle.flow_types.specs.declared.records.Record.TheVariants as entries;

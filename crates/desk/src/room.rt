@@ -4,7 +4,7 @@ ghost use Rattle.std.specs.Vec.{vec_capacity};
 ghost use Rattle.flow_types.specs.Plans.{makes};
 ghost use Rattle.run_history.specs.declared.moves.Move.{Move};
 ghost use Rattle.task_core.specs.Stands.{Stands};
-ghost use Rattle.desk.specs.Room.{closes, longest_closing, open_ends};
+ghost use Rattle.desk.specs.Room.{closes, open_ends};
 
 use crate::contents::rule_of;
 use flow_types::{Content, Memory, Plan, Record, RuleNo};
