@@ -21,3 +21,5 @@ pub mod Rooming
 pub mod Spelled
 pub mod Taking
 pub mod Handing
+pub mod Linked
+pub mod LinkRoom

@@ -234,6 +234,7 @@ pub record IsOpening (P : Plan) (H : List Record) (x : Record) : Type 0 where
   pub few : ListsFew x
   pub allowed : is_allowed P (plan_digest P) H x ≡ true
   pub goes_on : is_cleaned x ≡ false
+  pub opens : is_opening x ≡ true
   pub places : has_room P (H ++ (x ∷ [])) ≡ true
 
 opens_by : (P : Plan) (O : Options) (H : List Record) (first : Bool) (moment : ℕ) (tells : Type 0) (files : Files) (rows : List Content) → IsValid P → O.limit ≡ None → length H + 2 ≤ most_records → is_empty (part H) ≡ first
@@ -242,12 +243,14 @@ opens_by P O H true moment tells files rows valid free few first are = record {
   few = let many = (are refl).many in let le = few_sources P valid in omega (arith, many, le);
   allowed = opened_allowed P O H moment rows tells files first (are refl) few;
   goes_on = refl;
+  opens = refl;
   places = opening_places P H (opening P O (record { first = true; number = next_run H; moment = moment }) rows) refl refl few;
 }
 opens_by P O H false moment tells files rows valid free few later are = record {
   few = omega arith;
   allowed = resumed_allowed P O H moment rows free later few;
   goes_on = refl;
+  opens = refl;
   places = opening_places P H (opening P O (record { first = false; number = next_run H; moment = moment }) rows) refl refl few;
 }
 

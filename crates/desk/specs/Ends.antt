@@ -1,8 +1,12 @@
 -- What the end of a run answers.
-use Rattle.std.specs.Prelude.{◌≡◌, ◌<◌, ◌⊎◌, ℕ, [], ◌∷◌, ◌++◌, Option, Some, None, Result, Ok, Err}
+use Rattle.std.specs.Prelude.{◌≡◌, ◌<◌, ◌⊎◌, ℕ, List, [], ◌∷◌, ◌++◌, Option, Some, None, Result, Ok, Err}
+use Rattle.flow_types.specs.declared.plan.Plan.{Plan}
 use Rattle.flow_types.specs.declared.records.EndKind.{EndKind}
 use Rattle.flow_types.specs.declared.records.Record.TheVariants as records
+use Rattle.run_history.specs.declared.options.Options.{Options}
+use Rattle.run_history.specs.declared.moves.Move.{Move}
 use Rattle.run_history.specs.declared.moves.Move.TheVariants as moves
+use Rattle.run_history.specs.declared.answers.Stop.{Stop}
 use Rattle.run_history.specs.declared.answers.Check.{Check}
 use Rattle.run_history.specs.Answers.{end_of, logged_end}
 use Rattle.run_history.specs.Links.{records_of}
@@ -12,6 +16,10 @@ use Rattle.desk.specs.declared.answers.EndRefused.{EndRefused}
 use Rattle.desk.specs.declared.answers.EndRefused.TheVariants as refused
 use Rattle.desk.specs.Kept.{Test, Keeps}
 use Rattle.desk.specs.State.{DeskState, IsFine}
+
+-- An end answers this, and logs nothing more.
+abbrev pub Answers : Plan → Options → List Move → Option Stop → Check → Type 0
+Answers P O M stop answer = (answer ≡ end_of P O M stop) × (logged_end P O M stop ≡ None)
 
 -- The end of this kind is the last move, or nothing changed.
 abbrev pub EndsBy : {S : Type 0} → Option EndKind → DeskState S → ℕ → DeskState S → Type 0

@@ -9,3 +9,5 @@ pub mod Openings
 pub mod Follows
 pub mod Ends
 pub mod Room
+pub mod Links
+pub mod Tasks

@@ -1,5 +1,5 @@
 //! The desk.
-ghost use Rattle.std.specs.Prelude.{◌≡◌, ◌≢◌, ◌≤◌, ◌<◌, ◌++◌, ◌∷◌, [], ℕ, List, length, Option, Some, OnOk, IfOk, IsErrOf, Ok, true, false, slice_get, map, None};
+ghost use Rattle.std.specs.Prelude.{◌≡◌, ◌≢◌, ◌≤◌, ◌<◌, ◌++◌, ◌∷◌, [], ℕ, List, length, Option, Some, OnOk, IfOk, IfSome, IsErrOf, Ok, true, false, slice_get, map, None, is_some, not};
 ghost use Rattle.std.specs.Vec.{vec_capacity};
 ghost use Rattle.flow_types.specs.declared.plan.Rule.{Rule};
 ghost use Rattle.flow_types.specs.declared.records.Record.TheVariants as entries;
@@ -8,11 +8,10 @@ ghost use Rattle.flow_types.specs.Serial.{job_of, serial};
 ghost use Rattle.run_history.specs.declared.moves.Move.TheVariants as moves;
 ghost use Rattle.run_history.specs.History.{is_cleaned, next_attempt, part};
 ghost use Rattle.run_history.specs.Legal.{is_allowed, is_failure_at, runs};
-ghost use Rattle.run_history.specs.declared.answers.Stop.TheVariants as stops;
 ghost use Rattle.run_history.specs.Answers.{claim_of, end_of, has_ended, logged_end, stop_of};
 ghost use Rattle.run_history.specs.States.{file_state};
 ghost use Rattle.run_history.specs.Laws.{IsPresent, started_as};
-ghost use Rattle.run_history.specs.Links.{is_live, records_of};
+ghost use Rattle.run_history.specs.Links.{is_live, records_of, running_on};
 ghost use Rattle.run_history.specs.Storage.{has_failed, is_present, running_rules};
 ghost use Rattle.rule_graph.specs.Spelling.{plan_digest};
 ghost use Rattle.log_records.specs.Spelling.{ListsFew, spelling};
@@ -24,13 +23,15 @@ ghost use Rattle.desk.specs.Begins.{Begins, site_in};
 ghost use Rattle.task_core.specs.Stands.{Stands};
 ghost use Rattle.task_core.specs.Surveys.{claimed};
 ghost use Rattle.desk.specs.Claims.{Claims, KeepsClaim, Starts, Works};
-ghost use Rattle.desk.specs.Ends.{Ends, KeepsEnd};
+ghost use Rattle.desk.specs.Ends.{Answers, Ends, KeepsEnd};
 ghost use Rattle.desk.specs.Follows.{Follows, IsShaped};
 ghost use Rattle.desk.specs.Inputs.{IsWhole, Looks, Tells, content_in};
+ghost use Rattle.desk.specs.Links.{Changes, Joins, Leaves};
 ghost use Rattle.desk.specs.Kept.{Fits, IsLegal, Keeps, WasKept, FilesHold, KeepsEither, logged};
 ghost use Rattle.desk.specs.Room.{HasRows, KeepsAmple, closes, longest_closing};
 ghost use Rattle.desk.specs.declared.answers.CloseRefused.TheVariants as refused;
 ghost use Rattle.desk.specs.declared.answers.Trouble.TheVariants as trouble;
+ghost use Rattle.desk.specs.Tasks.{task_of};
 ghost use Rattle.desk.specs.State.{AreNamed, AreOutputs, CanLose, CanWrite, Checks, Closes, IsCut, IsDue, IsFine, Records, Takes, Writes, closed, has_room, is_final};
 
 use crate::attempt::Attempt;
@@ -39,18 +40,19 @@ use crate::entry::log_entry;
 use crate::follow::follow;
 use crate::inputs::{content_in, read_logged};
 use crate::kinds::kind_of;
-use crate::room::{LONGEST_CLOSING, open_ends, places_behind, room_for};
+use crate::room::{LONGEST_CLOSING, open_ends, places_behind, room_for, room_for_step};
 use crate::standing::runs_with;
-use crate::step::Step;
+use crate::step::{Step, add_step};
+use crate::tasks::task_with;
 use crate::{
     Claim, ClaimRefused, CloseRefused, EndRefused, InputRefused, StartFault, StartRefused, Terms,
     Trouble,
 };
 use flow_types::{
-    AttemptNo, Bytes, Content, Failure, FileNo, LinkNo, Memory, Record, Rows, RuleNo,
+    Amounts, AttemptNo, Bytes, Content, Failure, FileNo, LinkNo, Memory, Record, Rows, RuleNo, Task,
 };
 use outside::{Commands, Fault, Site};
-use run_history::{Check, Next, Nothing};
+use run_history::{Check, JoinRefused, Next, Nothing, Stop};
 use std::alloc::Global;
 use std::marker::{Model, PhantomData};
 use task_core::Table;
@@ -85,6 +87,7 @@ impl<F: Commands, S: Site, T: Terms> Model for Desk<F, S, T> {
     ghost use Rattle.desk.specs.Kept.{Fits};
     ghost use Rattle.desk.specs.Woven.{moves_of, AreWoven};
     ghost use Rattle.task_core.specs.Stands.{Stands};
+    ghost use Rattle.task_core.specs.States.{HasAnswer};
 
     ghost Value = { DeskState S };
 
@@ -115,7 +118,8 @@ impl<F: Commands, S: Site, T: Terms> Model for Desk<F, S, T> {
         })
         × Stands d.table (moves_of d.base d.steps.items d.records.items)
         × HasPlaces d.table.plan d.table.options (moves_of d.base d.steps.items d.records.items) (length d.steps.items)
-        (vec_capacity d.records) (vec_capacity d.steps) d.log };
+        (vec_capacity d.records) (vec_capacity d.steps) d.log
+        × HasAnswer d.table };
 }
 
 impl<F: Commands, S: Site, T: Terms> Desk<F, S, T> {
@@ -139,6 +143,7 @@ impl<F: Commands, S: Site, T: Terms> Desk<F, S, T> {
         requires valid { IsValid table.plan }
         requires stands { Stands table (map moves.Logged history ++ moves.Logged entry ∷ []) }
         requires no_stop { table.stop ≡ None }
+        requires runs { table.ended ≡ false }
         requires apart { (f : ℕ) → file_name table.plan f ≢ log.name }
         requires legal { IsLegal table.plan history }
         requires allowed { is_allowed table.plan (plan_digest table.plan) history entry ≡ true }
@@ -214,6 +219,7 @@ impl<F: Commands, S: Site, T: Terms> Desk<F, S, T> {
         requires valid { IsValid table.plan }
         requires stands { Stands table (map moves.Logged history ++ moves.Logged entry ∷ []) }
         requires no_stop { table.stop ≡ None }
+        requires runs { table.ended ≡ false }
         requires apart { (f : ℕ) → file_name table.plan f ≢ log.name }
         requires legal { IsLegal table.plan history }
         requires allowed { is_allowed table.plan (plan_digest table.plan) history entry ≡ true }
@@ -704,10 +710,47 @@ impl<F: Commands, S: Site, T: Terms> Desk<F, S, T> {
         self.table.check()
     }
 
-    /// How the run ends, or why it goes on. Complete, CommandFailed, InputsTooLarge, NoRoom and Waited are logged as its
-    /// end. Condition: this run has not ended.
-    pub fn end(&mut self, moment: u64) -> Result<Check, EndRefused>
+    /// What the end of this run answered, where it has ended.
+    fn answered(&self) -> Option<Check>
+        ensures ended { IfSome result (λ answer.
+            Answers self.now.plan self.now.options self.now.moves self.now.stop answer) }
+        ensures goes_on { result ≡ None → has_ended (records_of self.now.moves) ≡ false }
+        ensures still { S.tells → T.kept → IsFine self.now.trouble
+            → LeavesOnly S.moment S.images_since self.now.site self.now.site
+            (Keeps (Fits T.trust F.gives T.sources) self.now.plan self.now.log
+            (records_of self.now.moves)) }
+    {
+        self.table.ended_with()
+    }
+
+    /// The first end of this run.
+    fn end_now(&mut self, moment: u64) -> Result<Check, EndRefused>
+        requires fine { IsFine self.old.trouble }
         requires goes_on { has_ended (records_of self.old.moves) ≡ false }
+        ensures reply { Ends self.old moment result self.new }
+        ensures any_moment { S.tells → T.kept
+            → LeavesOnly S.moment S.images_since self.old.site self.new.site
+            (KeepsEnd (Fits T.trust F.gives T.sources) self.old moment) }
+        ensures ample { KeepsAmple (S.ample self.old.site) (S.ample self.new.site)
+            (S.count self.new.site) result }
+    {
+        let answer = self.ending();
+        match kind_of(answer) {
+            Some(kind) => match self.record(Record::Ended { moment, kind }) {
+                Ok(()) => Ok(answer),
+                Err(CloseRefused::Stale { .. }) => unreachable!(),
+                Err(CloseRefused::Broken { before, after }) => {
+                    Err(EndRefused::Broken { before, after })
+                }
+                Err(CloseRefused::Memory) => Err(EndRefused::Memory),
+            },
+            None => Ok(answer),
+        }
+    }
+
+    /// How the run ends, or why it goes on. Complete, CommandFailed, InputsTooLarge, NoRoom and Waited are logged as its
+    /// end. Once this run has ended it answers the same again, whatever stop was asked for since, and logs nothing more.
+    pub fn end(&mut self, moment: u64) -> Result<Check, EndRefused>
         ensures reply { Ends self.old moment result self.new }
         ensures any_moment { S.tells → T.kept → IsFine self.old.trouble
             → LeavesOnly S.moment S.images_since self.old.site self.new.site
@@ -722,18 +765,22 @@ impl<F: Commands, S: Site, T: Terms> Desk<F, S, T> {
             }
             Err(ClaimRefused::Memory) => return Err(EndRefused::Memory),
         }
-        let answer = self.ending();
-        match kind_of(answer) {
-            Some(kind) => match self.record(Record::Ended { moment, kind }) {
-                Ok(()) => Ok(answer),
-                Err(CloseRefused::Stale { .. }) => unreachable!(),
-                Err(CloseRefused::Broken { before, after }) => {
-                    Err(EndRefused::Broken { before, after })
-                }
-                Err(CloseRefused::Memory) => Err(EndRefused::Memory),
-            },
-            None => Ok(answer),
+        match self.answered() {
+            Some(answer) => Ok(answer),
+            None => self.end_now(moment),
         }
+    }
+
+    /// What an attempt is to do, as it is handed out: its number, the number of this run's opening, and what its rule says,
+    /// with the bound of each output in bytes. Condition: the attempt's rule is in the plan.
+    pub fn task(&self, alloc: Global, attempt: &Attempt) -> Result<Task, Memory>
+        requires { attempt.now.rule.0 < length self.now.plan.rules }
+        ensures { IfOk result (λ task. task_of self.now.plan (records_of self.now.moves) attempt.now ≡ Some task) }
+    {
+        let run = self.table.runs_so_far().saturating_sub(1);
+        let plan = self.table.plan();
+        let rule = &plan.rules.as_slice()[attempt.rule.0 as usize];
+        task_with(alloc, plan, rule, attempt.number, run)
     }
 
     /// What was logged of a file that is present.
@@ -777,14 +824,110 @@ impl<F: Commands, S: Site, T: Terms> Desk<F, S, T> {
         }
     }
 
-    /// A stop at once stands from now on, unless a stop stood before. It takes no memory.
-    pub fn halt(&mut self)
-        ensures { self.new ≡ record self.old {
-          stop = stop_of self.old.plan self.old.options self.old.moves
-              self.old.stop stops.Halt;
+    /// Asks for a stop, and answers whether one stands now. The first stop stays. Where none stands Halt is set always, and
+    /// Waited where waiting is in vain: no attempt runs and some ready rule fits the storage, but no live link takes such
+    /// a rule. It takes no memory.
+    pub fn stop(&mut self, why: Stop) -> bool
+        ensures answer { result ≡ is_some self.new.stop }
+        ensures stop { self.new ≡ record self.old {
+          stop = stop_of self.old.plan self.old.options self.old.moves self.old.stop why;
         } }
     {
-        self.table.halt();
+        self.table.stop(why)
+    }
+
+    /// A link joins with these amounts, the largest of one of its places, and a cache of so many bytes. Its number is the
+    /// next, from 1 upward. TooManyLinks comes where 32 links live beside the local place, else TooManyJoins where 1,000,000
+    /// joins and changes were made; after a refusal nothing has changed. A desk that doesn't work answers too. No site is
+    /// touched.
+    pub fn join(
+        &mut self,
+        total: Amounts,
+        largest: Amounts,
+        cache: u64,
+    ) -> Result<LinkNo, JoinRefused>
+        ensures { Joins self.old total largest cache result self.new }
+    {
+        if room_for_step(&mut self.steps, &self.table).is_err() {
+            return Err(JoinRefused::Memory);
+        }
+        match self.table.join(total, largest, cache) {
+            Ok(link) => {
+                let step = Step::Joined {
+                    link,
+                    total,
+                    largest,
+                    cache,
+                };
+                add_step(&mut self.steps, step);
+                Ok(link)
+            }
+            Err(why) => Err(why),
+        }
+    }
+
+    /// A link states other amounts and another cache, in bytes. TooManyJoins comes where 1,000,000 joins and changes were
+    /// made; after a refusal nothing has changed. A desk that doesn't work answers too. No site is touched. Condition: the
+    /// link lives.
+    pub fn totals(
+        &mut self,
+        link: LinkNo,
+        total: Amounts,
+        largest: Amounts,
+        cache: u64,
+    ) -> Result<(), JoinRefused>
+        requires { is_live self.old.options self.old.moves link.0 ≡ true }
+        ensures { Changes self.old link total largest cache result self.new }
+    {
+        if room_for_step(&mut self.steps, &self.table).is_err() {
+            return Err(JoinRefused::Memory);
+        }
+        match self.table.totals(link, total, largest, cache) {
+            Ok(()) => {
+                let step = Step::Changed {
+                    link,
+                    total,
+                    largest,
+                    cache,
+                };
+                add_step(&mut self.steps, step);
+                Ok(())
+            }
+            Err(why) => Err(why),
+        }
+    }
+
+    /// A link lives no more. It takes no memory. A desk that doesn't work takes it in too. No site is touched. Conditions: it
+    /// isn't the local place, it lives, and no attempt runs there.
+    pub fn leave(&mut self, link: LinkNo)
+        requires apart { 0 < link.0 }
+        requires lives { is_live self.old.options self.old.moves link.0 ≡ true }
+        requires idle { is_empty (running_on self.old.plan (records_of self.old.moves) link.0) ≡ true }
+        ensures { Leaves self.old link self.new }
+    {
+        self.table.leave(link);
+        add_step(&mut self.steps, Step::Left { link });
+    }
+
+    /// Whether a link lives; the local place, link 0, always does.
+    pub fn lives(&self, link: LinkNo) -> bool
+        ensures { result ≡ is_live self.now.options self.now.moves link.0 }
+    {
+        self.table.lives(link)
+    }
+
+    /// Whether an attempt runs on the link. It looks at each rule.
+    pub fn busy(&self, link: LinkNo) -> bool
+        ensures { result ≡ not (is_empty (running_on self.now.plan (records_of self.now.moves) link.0)) }
+    {
+        self.table.busy(link)
+    }
+
+    /// Whether no attempt runs. It looks at each rule.
+    pub fn is_idle(&self) -> bool
+        ensures { result ≡ is_empty (running_rules self.now.plan (records_of self.now.moves)) }
+    {
+        self.table.is_idle()
     }
 
     /// The site and the records. Each attempt that was made is closed, or the desk doesn't work any more.

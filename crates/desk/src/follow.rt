@@ -1,6 +1,7 @@
 //! The table follows the records.
 ghost use Rattle.std.specs.Prelude.{List};
 ghost use Rattle.run_history.specs.declared.moves.Move.{Move};
+ghost use Rattle.task_core.specs.States.{HasAnswer};
 ghost use Rattle.task_core.specs.Stands.{IsStill, Stands, logged};
 ghost use Rattle.desk.specs.Follows.{Follows, FollowsEnd, IsShaped};
 
@@ -9,7 +10,8 @@ use task_core::Table;
 
 /// The table takes in the end of its run, as it answers it.
 fn follow_end(table: &mut Table)
-    ensures { (moves : List Move) → Stands table.old moves → FollowsEnd table.old moves table.new }
+    ensures stands { (moves : List Move) → Stands table.old moves → FollowsEnd table.old moves table.new }
+    ensures answered { HasAnswer table.old → HasAnswer table.new }
 {
     if table.is_begun() && !table.has_ended() {
         let _ = table.end();
@@ -23,6 +25,7 @@ pub(crate) fn follow(table: &mut Table, entry: &Record)
     ensures stands { (moves : List Move) → Stands table.old moves
         → Follows table.old.plan table.old.options table.old.stop moves entry.now
         → Stands table.new (logged moves entry.now) × IsStill table.old table.new }
+    ensures answered { HasAnswer table.old → HasAnswer table.new }
 {
     match entry {
         Record::Started { link, .. } => {

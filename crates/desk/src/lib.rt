@@ -17,6 +17,7 @@ mod standing;
 mod start;
 mod starts;
 mod step;
+mod tasks;
 mod terms;
 
 pub use answers::{

@@ -1,5 +1,5 @@
 //! The room that closing and leaving need.
-ghost use Rattle.std.specs.Prelude.{◌≡◌, ◌≤◌, ◌<◌, List, length, IfOk, true, false};
+ghost use Rattle.std.specs.Prelude.{◌≡◌, ◌≤◌, ◌<◌, ◌+◌, List, length, IfOk, OnOk, true, false};
 ghost use Rattle.std.specs.Vec.{vec_capacity};
 ghost use Rattle.flow_types.specs.Plans.{makes};
 ghost use Rattle.run_history.specs.declared.moves.Move.{Move};
@@ -7,6 +7,7 @@ ghost use Rattle.task_core.specs.Stands.{Stands};
 ghost use Rattle.desk.specs.Room.{closes, open_ends};
 
 use crate::contents::rule_of;
+use crate::step::Step;
 use flow_types::{Content, Memory, Plan, Record, RuleNo};
 use std::alloc::Global;
 use task_core::Table;
@@ -30,6 +31,19 @@ pub(crate) fn open_ends(table: &Table) -> usize
     ensures few { result ≤ 9223372041149743103 }
 {
     table.running() as usize + table.link_count()
+}
+
+/// Room for one step more, and behind it for each that what stands open may take.
+pub(crate) fn room_for_step(steps: &mut Vec<Step>, table: &Table) -> Result<(), Memory>
+    ensures items { steps.new.items ≡ steps.old.items }
+    ensures room { OnOk result ((moves : List Move) → Stands table.now moves
+        → length steps.old.items + 1 + open_ends table.now.plan table.now.options moves ≤ vec_capacity steps.new) }
+    ensures wide { vec_capacity steps.old ≤ vec_capacity steps.new }
+{
+    match steps.reserve(1 + open_ends(table)) {
+        Ok(()) => Ok(()),
+        Err(_) => Err(Memory),
+    }
 }
 
 /// How many places a record needs behind it. One that closes an attempt has its place, and all behind it have theirs.

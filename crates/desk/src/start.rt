@@ -1,5 +1,5 @@
 //! How a run begins.
-ghost use Rattle.std.specs.Prelude.{◌≡◌, ◌≢◌, ◌≤◌, ◌<◌, ◌^◌, ◌++◌, ◌∷◌, [], ℕ, length, map, option_map, None, OnOk, IfOk, true};
+ghost use Rattle.std.specs.Prelude.{◌≡◌, ◌≢◌, ◌≤◌, ◌<◌, ◌^◌, ◌++◌, ◌∷◌, [], ℕ, length, map, option_map, None, OnOk, IfOk, true, false};
 ghost use Rattle.std.specs.Option.{option_and_then};
 ghost use Rattle.flow_types.specs.Plans.{IsValid, is_empty, is_source};
 ghost use Rattle.run_history.specs.declared.options.Mode.TheVariants.{Never};
@@ -126,7 +126,8 @@ fn prepare<S: Site>(
     ensures reply { Prepares table.old.plan table.old.options history.now moment (S.count site.old) S.tells
         (S.files site.old) result }
     ensures run { IfOk result (λ entry. IsSameRun table.old table.new
-        × Stands table.new (map moves.Logged history.now ++ moves.Logged entry ∷ [])) }
+        × Stands table.new (map moves.Logged history.now ++ moves.Logged entry ∷ [])
+        × (table.new.ended ≡ false)) }
     ensures durable { OnOk result (S.tells → is_empty (part history.now) ≡ true
         → AreDurable table.old.plan (S.files site.old) (length table.old.plan.files) (S.may_leave site.new)) }
     ensures within { S.tells → Within (S.may_leave site.old) (S.may_leave site.new) }

@@ -47,7 +47,7 @@ pub record IsOpening (x : Record) (retries : ℕ) (limit : Option ℕ) : Type 0 
   pub makes_none : (r : ℕ) → outs_in r x ≡ None
   pub drops_none : (f : ℕ) → drops f x ≡ false
 
-since-opened : (H : List Record) (x : Record) → is_cleaned x ≡ false → is_opening x ≡ true → since_opening (H ++ (x ∷ [])) ≡ []
+pub since-opened : (H : List Record) (x : Record) → is_cleaned x ≡ false → is_opening x ≡ true → since_opening (H ++ (x ∷ [])) ≡ []
 since-opened H x stays opens = since-push H x stays ∙ ap (λ b. cond b [] (since_opening H ++ (x ∷ []))) opens
 
 waiting_at : (rows : List RuleRow) (r : ℕ) → slice_index_or (map waiting_row rows) r blank_row ≡ waiting_row (slice_index_or rows r blank_row)

@@ -1,5 +1,5 @@
 -- A table as contracts see it, and what it knows.
-use Rattle.std.specs.Prelude.{◌≡◌, ◌≤◌, ℕ, ◌+◌, Bool, true, false, List, ◌∷◌, length, Option, Some, None, ◌==◌, if◌then◌else◌, find, map, nat_le, slice_index_or}
+use Rattle.std.specs.Prelude.{◌≡◌, ◌≤◌, ℕ, ◌+◌, Bool, true, false, List, ◌∷◌, length, Option, Some, None, ◌==◌, if◌then◌else◌, find, is_some, map, nat_le, slice_index_or}
 use Rattle.std.specs.Option.{option_map_or}
 use Rattle.flow_types.specs.declared.plan.Plan.{Plan}
 use Rattle.flow_types.specs.Plans.{IsValid, most_bytes}
@@ -65,6 +65,10 @@ is_entry k entry = entry.link.0 == k
 -- what link k states, where it lives
 abbrev pub link_at : TableState → ℕ → Option LinkRow
 link_at t k = if k == 0 then Some (local_row t.options) else option_map_or (λ entry. Some (entry_row entry)) (find (is_entry k) t.links) None
+
+-- Where the run has ended, what its end answered is kept.
+abbrev pub HasAnswer : TableState → Type 0
+HasAnswer t = t.ended ≡ true → is_some t.answer ≡ true
 
 -- What a table knows.
 abbrev pub known_in : TableState → Known

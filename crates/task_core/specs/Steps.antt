@@ -20,7 +20,7 @@ use Rattle.task_core.specs.declared.step.Reply.TheVariants as replies
 use Rattle.task_core.specs.declared.table.Started.{Started}
 use Rattle.task_core.specs.Ends.{Ends}
 use Rattle.task_core.specs.Links.{Changes, Joins, Leaves}
-use Rattle.task_core.specs.States.{TableState, link_at}
+use Rattle.task_core.specs.States.{HasAnswer, TableState, link_at}
 use Rattle.task_core.specs.Stands.{Claims, Closes, Stands, is_final}
 
 -- the reply to a join
@@ -50,7 +50,7 @@ failed rule (Err state) = replies.Stale rule state
 
 -- The run is opened; where it has ended, the answer of its end is kept.
 abbrev pub MayEnd : TableState → Type 0
-MayEnd t = (t.begun ≡ true) × (t.ended ≡ true → is_some t.answer ≡ true)
+MayEnd t = (t.begun ≡ true) × HasAnswer t
 
 -- The event may come: rules are those of the plan, contents and failures have the shape of their rule, and links live.
 abbrev pub MayStep : TableState → Event → Type 0

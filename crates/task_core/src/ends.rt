@@ -1,14 +1,13 @@
-//! What an end of a run answers, and stops at once.
-ghost use Rattle.std.specs.Prelude.{◌≡◌, ◌<◌, List, IfSome, Option, find, is_some, length, true, false, unwrap_or};
+//! What an end of a run answers.
+ghost use Rattle.std.specs.Prelude.{◌≡◌, ◌<◌, List, IfSome, None, Option, find, is_some, length, true, false, unwrap_or};
 ghost use Rattle.std.specs.Option.{option_and_then, option_map_or};
 ghost use Rattle.run_history.specs.declared.answers.Check.TheVariants as check;
-ghost use Rattle.run_history.specs.declared.answers.Stop.TheVariants as stops;
 ghost use Rattle.run_history.specs.declared.moves.Move.{Move};
 ghost use Rattle.run_history.specs.declared.options.Mode.TheVariants.{Never};
-ghost use Rattle.run_history.specs.Answers.{end_of, idles_in, is_collected_state, is_halt, kind_of, stop_of};
+ghost use Rattle.run_history.specs.Answers.{end_of, idles_in, is_collected_state, is_halt, kind_of};
 ghost use Rattle.task_core.specs.Known.{collected_in, is_lost_rule, known_failure, number_in, rules_of};
 ghost use Rattle.task_core.specs.Ends.{EndedWith, Ends, checked_in, late_in, least_ready, least_roomy, roomless_by, waited_by};
-ghost use Rattle.task_core.specs.States.{file_at, known_in};
+ghost use Rattle.task_core.specs.States.{HasAnswer, file_at, known_in};
 ghost use Rattle.task_core.specs.Stands.{IsStill, Stands};
 ghost use Rattle.task_core.specs.Surveys.{IsOverview, IsStorage};
 
@@ -52,6 +51,7 @@ impl Table {
         requires goes_on { self.old.ended ≡ false }
         ensures ends { (moves : List Move) → Stands self.old moves → Ends self.old moves result self.new }
         ensures still { IsStill self.old self.new }
+        ensures answered { HasAnswer self.new }
     {
         let answer = self.found();
         if !is_logged(answer) {
@@ -73,19 +73,10 @@ impl Table {
     /// What `end` answered when it ended this run, and answers from then on; a later stop changes that no more, and nothing
     /// more is logged. None where it has not ended the run.
     pub fn ended_with(&self) -> Option<Check>
-        ensures { (moves : List Move) → Stands self.now moves → IfSome result (λ answer. EndedWith self.now moves answer) }
+        ensures answer { (moves : List Move) → Stands self.now moves → IfSome result (λ answer. EndedWith self.now moves answer) }
+        ensures none { HasAnswer self.now → result ≡ None → self.now.ended ≡ false }
     {
         self.answer()
-    }
-
-    /// A stop at once stands from now on, unless a stop stood before.
-    pub fn halt(&mut self)
-        ensures stop { (moves : List Move) → self.new ≡ record self.old { stop = stop_of self.old.plan self.old.options moves self.old.stop stops.Halt } }
-        ensures stands { (moves : List Move) → Stands self.old moves → Stands self.new moves }
-    {
-        if !self.is_stopped() {
-            self.set_stop(Stop::Halt);
-        }
     }
 
     fn idles(&self) -> Option<u64>

@@ -1,9 +1,13 @@
 //! What a table finds among all of its ready rules.
-ghost use Rattle.std.specs.Prelude.{◌≡◌, ◌<◌, ◌+◌, ◌&&◌, length, find, true, false, not};
+ghost use Rattle.std.specs.Prelude.{◌≡◌, ◌<◌, ◌+◌, ◌&&◌, List, length, find, true, false, not};
 ghost use Rattle.std.specs.List.{list_all};
 ghost use Rattle.flow_types.specs.Plans.{is_empty};
 ghost use Rattle.task_core.specs.Known.{can_start, has_storage, is_done, passes_most, ready, rules_of, running};
+ghost use Rattle.run_history.specs.declared.moves.Move.{Move};
+ghost use Rattle.run_history.specs.Links.{records_of};
+ghost use Rattle.run_history.specs.Storage.{running_rules};
 ghost use Rattle.task_core.specs.States.{known_in};
+ghost use Rattle.task_core.specs.Stands.{Stands};
 ghost use Rattle.task_core.specs.Surveys.{IsOverview, IsStorage};
 
 use crate::claims::first;
@@ -72,9 +76,10 @@ impl Table {
         true
     }
 
-    // No attempt runs.
-    pub(crate) fn is_idle(&self) -> bool
-        ensures { result ≡ is_empty (running (known_in self.now)) }
+    /// Whether no attempt runs.
+    pub fn is_idle(&self) -> bool
+        ensures known { result ≡ is_empty (running (known_in self.now)) }
+        ensures idle { (moves : List Move) → Stands self.now moves → result ≡ is_empty (running_rules self.now.plan (records_of moves)) }
     {
         self.running_count() == 0
     }

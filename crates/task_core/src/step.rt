@@ -4,6 +4,7 @@ ghost use Rattle.run_history.specs.declared.moves.Move.{Move};
 ghost use Rattle.run_history.specs.declared.options.Mode.TheVariants.{Never};
 ghost use Rattle.task_core.specs.declared.step.Reply.TheVariants as replies;
 ghost use Rattle.task_core.specs.Ends.{Ends};
+ghost use Rattle.task_core.specs.States.{HasAnswer};
 ghost use Rattle.task_core.specs.Stands.{Stands};
 ghost use Rattle.task_core.specs.Steps.{MayEnd, MayStep, Steps, changed, claimed, closed, failed, joined};
 
@@ -119,11 +120,12 @@ fn failed(rule: RuleNo, failure: Result<Next, RuleState>) -> Reply
 
 impl Table {
     /// What happens to the table, and its reply. The conditions are those of the calls of these names; where the run has
-    /// ended, End asks that it ended by such a step or by `end`. As nothing is collected, Collect is answered by Idle. Only
-    /// Join takes memory.
+    /// ended, End asks that its answer is kept, as it is where it ended by such a step or by `end`. As nothing is collected,
+    /// Collect is answered by Idle. Only Join takes memory.
     pub fn step(&mut self, event: Event<'_>) -> Reply
         requires { MayStep self.old event }
-        ensures { (moves : List Move) → Stands self.old moves → Steps self.old moves event.entry result self.new }
+        ensures steps { (moves : List Move) → Stands self.old moves → Steps self.old moves event.entry result self.new }
+        ensures answered { HasAnswer self.old → HasAnswer self.new }
     {
         match event {
             Event::Join {
@@ -169,7 +171,8 @@ impl Table {
     // The answer of the end of this run, which ends where it hasn't.
     fn end_once(&mut self) -> Check
         requires { MayEnd self.old }
-        ensures { (moves : List Move) → Stands self.old moves → Ends self.old moves result self.new }
+        ensures ends { (moves : List Move) → Stands self.old moves → Ends self.old moves result self.new }
+        ensures answered { HasAnswer self.new }
     {
         match self.answer() {
             Some(answer) => answer,

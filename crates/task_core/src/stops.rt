@@ -5,7 +5,7 @@ ghost use Rattle.run_history.specs.declared.moves.Move.{Move};
 ghost use Rattle.run_history.specs.Answers.{stop_of};
 ghost use Rattle.task_core.specs.Known.{is_taken_by_one, rules_of, vain_with};
 ghost use Rattle.task_core.specs.Ends.{is_taken_now, sets_stop, takes_rule};
-ghost use Rattle.task_core.specs.States.{known_in};
+ghost use Rattle.task_core.specs.States.{HasAnswer, known_in};
 ghost use Rattle.task_core.specs.Stands.{Stands};
 ghost use Rattle.task_core.specs.Surveys.{IsStorage};
 
@@ -23,6 +23,7 @@ impl Table {
         ensures stop { (moves : List Move) → Stands self.old moves
             → self.new ≡ record self.old { stop = stop_of self.old.plan self.old.options moves self.old.stop why } }
         ensures stands { (moves : List Move) → Stands self.old moves → Stands self.new moves }
+        ensures answered { HasAnswer self.old → HasAnswer self.new }
     {
         if self.is_stopped() {
             return true;

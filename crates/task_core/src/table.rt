@@ -287,8 +287,8 @@ impl Table {
         self.begun
     }
 
-    // How many runs were opened.
-    pub(crate) fn runs_so_far(&self) -> u64
+    /// How many runs were opened, in all of the log.
+    pub fn runs_so_far(&self) -> u64
         ensures { result ≡ self.now.runs }
     {
         self.runs

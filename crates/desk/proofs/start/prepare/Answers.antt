@@ -7,6 +7,7 @@ use Rattle.run_history.specs.Legal.{is_allowed}
 use Rattle.task_core.specs.States.{file_at}
 use Rattle.task_core.specs.Stands.{Notes}
 use Rattle.desk.proofs.Beginning.{opens_entry, prepares_entry, prepares_why}
+use Rattle.desk.proofs.Ending.{opened_goes_on}
 use Rattle.desk.proofs.Starting.{early_room, opens_well}
 use Rattle.desk.proofs.Woven.{all_records}
 use Rattle.desk.proofs.start.prepare.Goals as goal
@@ -41,4 +42,9 @@ pub returns-in-Ok-true-clause-run : goal.returns-in-Ok-true-clause-run
 returns-in-Ok-true-clause-run g c =
     let t = c.args.table.now in let H = c.args.history.now in
     let notes = subst (λ (r : Result Bool Memory). Notes t c.args.digest.0 (map moves.Logged H) c.in-Ok-Ok.entry r c.note.new.self) (c.in-Ok-true.is ∙ ap Ok c.in-Ok-true.field-0-test)
-    (c.note.ensures (map moves.Logged H) c.requires.stands) in (notes.1, notes.2)
+    (c.note.ensures (map moves.Logged H) c.requires.stands) in
+    let opens = opens_entry t.plan t.options H c.args.moment (g.S.Site.count c.args.site.now) g.S.Site.tells (g.S.Site.files c.args.site.now) (file_at t)
+    (λ f. c.requires.stands.files f ∙ ap (λ (G : List Record). file_state t.plan G f) (all_records H)) c.run_over-run.result c.run_over-run.ensures
+    c.in-Ok-Ok.field-0 c.in-Ok-Ok.entry c.in-Ok-Ok.field-0-is c.in-Ok-Ok.ensures.opens in
+    let well = opens_well t.plan t.options H c.args.moment g.S.Site.tells (g.S.Site.files c.args.site.now) c.in-Ok-Ok.entry c.requires.valid c.requires.limit (early_room t.plan H c.requires.early) opens in
+    (notes.1, notes.2, opened_goes_on c.note.new.self (map moves.Logged H) c.in-Ok-Ok.entry well.goes_on well.opens notes.2)

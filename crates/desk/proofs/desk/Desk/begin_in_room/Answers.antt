@@ -1,4 +1,4 @@
-use Rattle.std.proofs.Common.{◌≡◌, ◌∙◌, ◌++◌, ◌∷◌, [], List, length, map, ap, sym, subst, refl, arith}
+use Rattle.std.proofs.Common.{◌≡◌, ◌∙◌, ◌++◌, ◌∷◌, [], List, length, map, ap, sym, subst, refl, arith, true≢false}
 use Rattle.std.specs.Vec.{vec_capacity}
 use Rattle.flow_types.specs.declared.records.Record.{Record}
 use Rattle.outside.specs.Disk.{LeavesOnly}
@@ -45,6 +45,7 @@ invariant_of-result g c =
           ∙ ap (λ (l : List Move). l ++ (moves.Logged c.args.entry ∷ [])) (moves_none c.len-base.result H base_is ∙ ap (map moves.Logged) c.into_vec-records.ensures)) c.new-steps.ensures.items c.in-Ok.ensures.ok.1 (c.open_ends-more.ensures.ends _ c.requires.stands)
           (let room = c.in-Ok.ensures.places.0 in let same = ap (λ (l : List Record). length l) c.into_vec-records.ensures in omega (arith, room, same))
           (let room = c.in-Ok.ensures.places.1 in let none = ap (λ (l : List Step). length l) c.new-steps.ensures.items in omega (arith, room, none)) c.requires.room c.log_entry.ensures.wide.2,
+      λ over. absurd (true≢false (sym over ∙ c.requires.runs)),
     )
 
 pub returns-in-Ok-clause-any_moment : goal.returns-in-Ok-clause-any_moment

@@ -21,6 +21,7 @@ invariant_of-self g c = (
       c.read_logged.ensures.any_moment c.read_logged.ensures.within c.read_logged.ensures.cause.later (fine_counts c.self.inside.faults (g.S.Site.count c.read_logged.new.site) c.self.inside.trouble (subst IsFine (sym c.in-Fine.is) tt)),
   c.self.invariant.2,
   c.self.invariant.3,
+  c.self.invariant.4,
 )
 
 pub invariant_of-self-in-Ok-Err : goal.invariant_of-self-in-Ok-Err
@@ -31,6 +32,7 @@ invariant_of-self-in-Ok-Err g c = (
       c.read_logged.ensures.any_moment c.read_logged.ensures.within c.read_logged.ensures.cause.later (fine_counts c.self.inside.faults (g.S.Site.count c.read_logged.new.site) c.self.inside.trouble (subst IsFine (sym c.in-Fine.is) tt)),
   c.self.invariant.2,
   c.self.invariant.3,
+  c.self.invariant.4,
 )
 
 pub invariant_of-self-in-Err-Failed : goal.invariant_of-self-in-Err-Failed
@@ -46,6 +48,7 @@ invariant_of-self-in-Err-Failed g c = (
       )),
   c.self.invariant.2,
   c.self.invariant.3,
+  c.self.invariant.4,
 )
 
 pub invariant_of-self-in-Err-Memory : goal.invariant_of-self-in-Err-Memory
@@ -56,6 +59,7 @@ invariant_of-self-in-Err-Memory g c = (
       c.read_logged.ensures.any_moment c.read_logged.ensures.within c.read_logged.ensures.cause.later tt,
   c.self.invariant.2,
   c.self.invariant.3,
+  c.self.invariant.4,
 )
 
 pub returns-in-Ok-Ok-clause-told : goal.returns-in-Ok-Ok-clause-told

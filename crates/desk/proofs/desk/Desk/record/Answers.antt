@@ -51,6 +51,7 @@ invariant_of-self g c =
       places_recorded c.self.inside.table c.follow.new.table base c.self.inside.steps.items c.log_entry.new.steps.items c.self.inside.records.items c.log_entry.new.records.items c.args.entry c.places_behind-more.result
           (vec_capacity c.self.inside.records) (vec_capacity c.log_entry.new.records) (vec_capacity c.self.inside.steps) (vec_capacity c.log_entry.new.steps) c.self.inside.log c.log_entry.new.log
           is.2 follows c.requires.goes_on went.1 le is.0 c.in-Ok.ensures.ok is.3 (λ other. c.places_behind-more.ensures.other other _ is.2) c.in-Ok.ensures.places c.log_entry.ensures.wide,
+      c.follow.ensures.answered c.self.invariant.4,
     )
 
 pub invariant_of-self-in-Err-Failed : goal.invariant_of-self-in-Err-Failed
@@ -70,6 +71,7 @@ invariant_of-self-in-Err-Failed g c =
       places_kept c.self.inside.table.plan c.self.inside.table.options c.self.inside.base c.self.inside.steps.items c.log_entry.new.steps.items c.self.inside.records.items c.log_entry.new.records.items
           (vec_capacity c.self.inside.records) (vec_capacity c.log_entry.new.records) (vec_capacity c.self.inside.steps) (vec_capacity c.log_entry.new.steps) c.self.inside.log c.log_entry.new.log
           c.in-Err-Failed.ensures.err c.self.invariant.3 c.log_entry.ensures.wide,
+      c.self.invariant.4,
     )
 
 pub invariant_of-self-in-Err-Memory : goal.invariant_of-self-in-Err-Memory
@@ -84,6 +86,7 @@ invariant_of-self-in-Err-Memory g c =
       places_kept c.self.inside.table.plan c.self.inside.table.options c.self.inside.base c.self.inside.steps.items c.log_entry.new.steps.items c.self.inside.records.items c.log_entry.new.records.items
           (vec_capacity c.self.inside.records) (vec_capacity c.log_entry.new.records) (vec_capacity c.self.inside.steps) (vec_capacity c.log_entry.new.steps) c.self.inside.log c.log_entry.new.log
           c.in-Err-Memory.ensures.err c.self.invariant.3 c.log_entry.ensures.wide,
+      c.self.invariant.4,
     )
 
 pub returns-in-Ok-clause-reply : goal.returns-in-Ok-clause-reply

@@ -17,6 +17,7 @@ invariant_of-self g c = (
       (λ t name file left. left) (omega arith) tt,
   c.self.invariant.2,
   c.self.invariant.3,
+  c.self.invariant.4,
 )
 
 pub returns-clause-any_moment : goal.returns-clause-any_moment

@@ -18,6 +18,7 @@ invariant_of-self g c = (
       (fine_counts c.self.inside.faults (g.S.Site.count c.store_outputs.new.site) c.self.inside.trouble (subst (λ (v : DeskState g.row.S.Denot). IsFine v.trouble) (sym c.self.view_is) c.requires.fine)),
   c.self.invariant.2,
   c.self.invariant.3,
+  c.self.invariant.4,
 )
 
 pub invariant_of-self-in-Err-Failed : goal.invariant_of-self-in-Err-Failed
@@ -32,6 +33,7 @@ invariant_of-self-in-Err-Failed g c = (
       )),
   c.self.invariant.2,
   c.self.invariant.3,
+  c.self.invariant.4,
 )
 
 pub invariant_of-self-in-Err-Memory : goal.invariant_of-self-in-Err-Memory
@@ -41,6 +43,7 @@ invariant_of-self-in-Err-Memory g c = (
       (subst (λ (P : Plan). g.S.Site.tells → LeavesOnly g.S.Site.moment g.S.Site.images_since c.self.inside.site c.store_outputs.new.site (IsBeside P (makes P c.args.rule.0) (g.S.Site.may_leave c.self.inside.site))) c.plan.ensures.plan c.store_outputs.ensures.any_moment) (subst (λ (P : Plan). g.S.Site.tells → StayBeside P (makes P c.args.rule.0) (g.S.Site.may_leave c.self.inside.site) (g.S.Site.may_leave c.store_outputs.new.site)) c.plan.ensures.plan c.store_outputs.ensures.crash) c.store_outputs.ensures.cause.later tt,
   c.self.invariant.2,
   c.self.invariant.3,
+  c.self.invariant.4,
 )
 
 pub returns-in-Ok-clause-any_moment : goal.returns-in-Ok-clause-any_moment

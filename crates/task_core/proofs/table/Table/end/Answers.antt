@@ -1,5 +1,5 @@
-use Rattle.std.proofs.Common.{◌∙◌, ap, sym}
-use Rattle.task_core.specs.States.{TableState}
+use Rattle.std.proofs.Common.{◌∙◌, ap, refl, subst, sym, true≢false}
+use Rattle.task_core.specs.States.{HasAnswer, TableState}
 use Rattle.task_core.proofs.Answering.{ends-logged, ends-quietly}
 use Rattle.task_core.proofs.table.Table.end.Goals as goal
 
@@ -15,3 +15,9 @@ returns-clause-ends c moves stands =
 pub returns-clause-still : goal.returns-clause-still
 returns-clause-still c =
     (ap (λ (t : TableState). t.plan) c.note_end.ensures, ap (λ (t : TableState). t.options) c.note_end.ensures, ap (λ (t : TableState). t.stop) c.note_end.ensures)
+
+pub returns-then-not-is_logged-clause-answered : goal.returns-then-not-is_logged-clause-answered
+returns-then-not-is_logged-clause-answered c over = absurd (true≢false (sym over ∙ c.requires.goes_on))
+
+pub returns-clause-answered : goal.returns-clause-answered
+returns-clause-answered c = subst HasAnswer (sym c.note_end.ensures) (λ over. refl)

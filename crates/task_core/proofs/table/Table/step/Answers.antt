@@ -46,47 +46,47 @@ leave-requires c = subst (MayStep c.args.self.now) c.in-Leave.is c.requires
 pub end_once-requires : goal.end_once-requires
 end_once-requires c = subst (MayStep c.args.self.now) c.in-End.is c.requires
 
-pub returns-in-Join : goal.returns-in-Join
-returns-in-Join c before stands =
-    subst (λ (e : Event). Steps c.args.self.now before e c.joined.result c.join.new.self) (sym c.in-Join.is) (c.join.result, c.joined.ensures, c.join.ensures before stands)
+pub returns-in-Join-clause-steps : goal.returns-in-Join-clause-steps
+returns-in-Join-clause-steps c before stands =
+    subst (λ (e : Event). Steps c.args.self.now before e c.joined.result c.join.new.self) (sym c.in-Join.is) (c.join.result, c.joined.ensures, c.join.ensures.joins before stands)
 
-pub returns-in-Totals : goal.returns-in-Totals
-returns-in-Totals c before stands =
-    subst (λ (e : Event). Steps c.args.self.now before e c.changed.result c.totals.new.self) (sym c.in-Totals.is) (c.totals.result, c.changed.ensures, c.totals.ensures before stands)
+pub returns-in-Totals-clause-steps : goal.returns-in-Totals-clause-steps
+returns-in-Totals-clause-steps c before stands =
+    subst (λ (e : Event). Steps c.args.self.now before e c.changed.result c.totals.new.self) (sym c.in-Totals.is) (c.totals.result, c.changed.ensures, c.totals.ensures.changes before stands)
 
-pub returns-in-Claim : goal.returns-in-Claim
-returns-in-Claim c before stands =
+pub returns-in-Claim-clause-steps : goal.returns-in-Claim-clause-steps
+returns-in-Claim-clause-steps c before stands =
     subst (λ (e : Event). Steps c.args.self.now before e c.claimed.result c.claim.new.self) (sym c.in-Claim.is)
-    (c.claim.result, c.claimed.ensures, c.claim.ensures before stands (subst (MayStep c.args.self.now) c.in-Claim.is c.requires))
+    (c.claim.result, c.claimed.ensures, c.claim.ensures.claims before stands (subst (MayStep c.args.self.now) c.in-Claim.is c.requires))
 
-pub returns-in-Finish : goal.returns-in-Finish
-returns-in-Finish c before stands =
-    subst (λ (e : Event). Steps c.args.self.now before e c.closed.result c.finish.new.self) (sym c.in-Finish.is) (c.finish.result, c.closed.ensures, c.finish.ensures before stands)
+pub returns-in-Finish-clause-steps : goal.returns-in-Finish-clause-steps
+returns-in-Finish-clause-steps c before stands =
+    subst (λ (e : Event). Steps c.args.self.now before e c.closed.result c.finish.new.self) (sym c.in-Finish.is) (c.finish.result, c.closed.ensures, c.finish.ensures.closed before stands)
 
-pub returns-in-Fail : goal.returns-in-Fail
-returns-in-Fail c before stands =
+pub returns-in-Fail-clause-steps : goal.returns-in-Fail-clause-steps
+returns-in-Fail-clause-steps c before stands =
     subst (λ (e : Event). Steps c.args.self.now before e c.failed.result c.fail.new.self) (sym c.in-Fail.is)
     (c.fail.result, c.failed.ensures, (c.fail.ensures.closed before stands, tells_next c.in-Fail.rule c.fail.result c.fail.new.self c.fail.ensures.next))
 
-pub returns-in-Lose : goal.returns-in-Lose
-returns-in-Lose c before stands =
-    subst (λ (e : Event). Steps c.args.self.now before e c.closed-in-Lose.result c.lose.new.self) (sym c.in-Lose.is) (c.lose.result, c.closed-in-Lose.ensures, c.lose.ensures before stands)
+pub returns-in-Lose-clause-steps : goal.returns-in-Lose-clause-steps
+returns-in-Lose-clause-steps c before stands =
+    subst (λ (e : Event). Steps c.args.self.now before e c.closed-in-Lose.result c.lose.new.self) (sym c.in-Lose.is) (c.lose.result, c.closed-in-Lose.ensures, c.lose.ensures.closed before stands)
 
-pub returns-in-Leave : goal.returns-in-Leave
-returns-in-Leave c before stands =
-    subst (λ (e : Event). Steps c.args.self.now before e replies.Idle c.leave.new.self) (sym c.in-Leave.is) (refl, c.leave.ensures before stands)
+pub returns-in-Leave-clause-steps : goal.returns-in-Leave-clause-steps
+returns-in-Leave-clause-steps c before stands =
+    subst (λ (e : Event). Steps c.args.self.now before e replies.Idle c.leave.new.self) (sym c.in-Leave.is) (refl, c.leave.ensures.leaves before stands)
 
-pub returns-in-Collect : goal.returns-in-Collect
-returns-in-Collect c before stands =
+pub returns-in-Collect-clause-steps : goal.returns-in-Collect-clause-steps
+returns-in-Collect-clause-steps c before stands =
     let t : TableState = c.args.self.now in
     subst (λ (e : Event). Steps t before e c.collect.result t) (sym c.in-Collect.is)
     (c.collect.ensures.reply, ap (λ (m : Mode). wanted t.plan m (records_of before)) c.collect.ensures.mode, refl)
 
-pub returns-in-End : goal.returns-in-End
-returns-in-End c before stands =
-    subst (λ (e : Event). Steps c.args.self.now before e (replies.Ended c.end_once.result) c.end_once.new.self) (sym c.in-End.is) (c.end_once.result, refl, c.end_once.ensures before stands)
+pub returns-in-End-clause-steps : goal.returns-in-End-clause-steps
+returns-in-End-clause-steps c before stands =
+    subst (λ (e : Event). Steps c.args.self.now before e (replies.Ended c.end_once.result) c.end_once.new.self) (sym c.in-End.is) (c.end_once.result, refl, c.end_once.ensures.ends before stands)
 
-pub returns-in-Stop : goal.returns-in-Stop
-returns-in-Stop c before stands =
+pub returns-in-Stop-clause-steps : goal.returns-in-Stop-clause-steps
+returns-in-Stop-clause-steps c before stands =
     subst (λ (e : Event). Steps c.args.self.now before e (replies.Stopped c.stop.result) c.stop.new.self) (sym c.in-Stop.is)
     (ap replies.Stopped c.stop.ensures.answer, c.stop.ensures.stop before stands, c.stop.ensures.stands before stands)

@@ -1,6 +1,6 @@
 use Rattle.std.proofs.Common.{◌∙◌, Option, ap, sym, subst}
 use Rattle.run_history.specs.declared.answers.Stop.{Stop}
-use Rattle.task_core.specs.States.{TableState}
+use Rattle.task_core.specs.States.{HasAnswer, TableState}
 use Rattle.task_core.specs.Stands.{Stands}
 use Rattle.task_core.proofs.Waiting.{stop-set, stop-stays, stopped-stands}
 use Rattle.task_core.proofs.table.Table.stop.Goals as goal
@@ -26,3 +26,6 @@ returns-clause-stop c before stands =
 pub returns-clause-stands : goal.returns-clause-stands
 returns-clause-stands c before stands =
     subst (λ (v : TableState). Stands v before) (sym c.set_stop.ensures) (stopped-stands c.args.self.now before c.args.why (sym c.is_stopped.ensures.stop ∙ c.if-is_stopped.false) stands)
+
+pub returns-clause-answered : goal.returns-clause-answered
+returns-clause-answered c has = subst HasAnswer (sym c.set_stop.ensures) has

@@ -11,11 +11,11 @@ returns-then-is_none c =
     let K : Known = known_in c.args.self.now in
     let none : is_some (find (λ r. can_start K r && has_storage K r) (rules_of K)) ≡ false =
     ap is_some (sym c.overview.ensures.roomy) ∙ sym (number-some c.overview.result.roomy) ∙ c.is_none.ensures ∙ ap not c.if-is_none.true in
-    sym (vain-by K true false _ (sym c.is_idle.ensures ∙ c.if-not-is_idle.false) none refl)
+    sym (vain-by K true false _ (sym c.is_idle.ensures.known ∙ c.if-not-is_idle.false) none refl)
 
 pub returns : goal.returns
 returns c =
     let K : Known = known_in c.args.self.now in
     let some : is_some (find (λ r. can_start K r && has_storage K r) (rules_of K)) ≡ true =
     ap is_some (sym c.overview.ensures.roomy) ∙ sym (number-some c.overview.result.roomy) ∙ c.is_none.ensures ∙ ap not c.if-is_none.false in
-    sym (vain-by K true true c.has_taken.result (sym c.is_idle.ensures ∙ c.if-not-is_idle.false) some (sym c.has_taken.ensures))
+    sym (vain-by K true true c.has_taken.result (sym c.is_idle.ensures.known ∙ c.if-not-is_idle.false) some (sym c.has_taken.ensures))

@@ -1,14 +1,13 @@
 use Rattle.std.proofs.Common.{◌∙◌, ap, length, subst, sym}
 use Rattle.std.specs.Vec.{vec_capacity}
 use Rattle.task_core.specs.States.{TableState}
-use Rattle.run_history.specs.declared.answers.Stop.TheVariants as stops
 use Rattle.run_history.specs.Answers.{stop_of}
 use Rattle.desk.specs.Kept.{Fits}
 use Rattle.desk.specs.Room.{HasPlaces}
 use Rattle.desk.specs.State.{DeskState}
 use Rattle.desk.specs.Woven.{moves_of}
 use Rattle.desk.proofs.Stopping.{stopped_desk, stopped_view}
-use Rattle.desk.proofs.desk.Desk.halt.Goals as goal
+use Rattle.desk.proofs.desk.Desk.stop.Goals as goal
 
 pub invariant_of-self : goal.invariant_of-self
 invariant_of-self g c = (
@@ -25,14 +24,15 @@ invariant_of-self g c = (
         trouble = c.self.inside.trouble;
         site = c.self.inside.site;
       } in d)
-      c.self.inside.log c.self.inside.table c.halt.new.self (stop_of c.self.inside.table.plan c.self.inside.table.options (moves_of c.self.inside.base c.self.inside.steps.items c.self.inside.records.items) c.self.inside.table.stop stops.Halt) (c.halt.ensures.stop (moves_of c.self.inside.base c.self.inside.steps.items c.self.inside.records.items)) c.self.invariant.1,
-  c.halt.ensures.stands (moves_of c.self.inside.base c.self.inside.steps.items c.self.inside.records.items) c.self.invariant.2,
+      c.self.inside.log c.self.inside.table c.stop.new.self (stop_of c.self.inside.table.plan c.self.inside.table.options (moves_of c.self.inside.base c.self.inside.steps.items c.self.inside.records.items) c.self.inside.table.stop c.args.why) (c.stop.ensures.stop (moves_of c.self.inside.base c.self.inside.steps.items c.self.inside.records.items) c.self.invariant.2) c.self.invariant.1,
+  c.stop.ensures.stands (moves_of c.self.inside.base c.self.inside.steps.items c.self.inside.records.items) c.self.invariant.2,
   subst (λ (v : TableState). HasPlaces v.plan v.options (moves_of c.self.inside.base c.self.inside.steps.items c.self.inside.records.items) (length c.self.inside.steps.items) (vec_capacity c.self.inside.records) (vec_capacity c.self.inside.steps) c.self.inside.log)
-      (sym (c.halt.ensures.stop (moves_of c.self.inside.base c.self.inside.steps.items c.self.inside.records.items))) c.self.invariant.3,
+      (sym (c.stop.ensures.stop (moves_of c.self.inside.base c.self.inside.steps.items c.self.inside.records.items) c.self.invariant.2)) c.self.invariant.3,
+  c.stop.ensures.answered c.self.invariant.4,
 )
 
-pub returns : goal.returns
-returns g c =
+pub returns-clause-stop : goal.returns-clause-stop
+returns-clause-stop g c =
     stopped_view (let d : DeskState g.row.S.Denot = record {
       plan = c.self.inside.table.plan;
       options = c.self.inside.table.options;
@@ -44,5 +44,5 @@ returns g c =
       trouble = c.self.inside.trouble;
       site = c.self.inside.site;
     } in d)
-    c.self.inside.table c.halt.new.self (stop_of c.self.inside.table.plan c.self.inside.table.options (moves_of c.self.inside.base c.self.inside.steps.items c.self.inside.records.items) c.self.inside.table.stop stops.Halt) (c.halt.ensures.stop (moves_of c.self.inside.base c.self.inside.steps.items c.self.inside.records.items))
-    ∙ ap (λ (v : DeskState g.row.S.Denot). record v { stop = stop_of v.plan v.options v.moves v.stop stops.Halt }) c.self.view_is
+    c.self.inside.table c.stop.new.self (stop_of c.self.inside.table.plan c.self.inside.table.options (moves_of c.self.inside.base c.self.inside.steps.items c.self.inside.records.items) c.self.inside.table.stop c.args.why) (c.stop.ensures.stop (moves_of c.self.inside.base c.self.inside.steps.items c.self.inside.records.items) c.self.invariant.2)
+    ∙ ap (λ (v : DeskState g.row.S.Denot). record v { stop = stop_of v.plan v.options v.moves v.stop c.args.why }) c.self.view_is

@@ -8,7 +8,7 @@ use Rattle.desk.specs.Kept.{Fits}
 use Rattle.desk.proofs.Ending.{logs_kind, no_cleaning}
 use Rattle.desk.proofs.Presents.{quiet_holds}
 use Rattle.desk.proofs.Running.{ended_places}
-use Rattle.desk.proofs.desk.Desk.end.Goals as goal
+use Rattle.desk.proofs.desk.Desk.end_now.Goals as goal
 
 pub record-requires-clause-allowed : goal.record-requires-clause-allowed
 record-requires-clause-allowed g c κs within =
@@ -23,4 +23,4 @@ record-requires-clause-places g c κs within =
 pub record-requires-clause-files : goal.record-requires-clause-files
 record-requires-clause-files g c κs within told kept =
     quiet_holds (Fits g.T.Terms.trust g.F.Commands.gives g.T.Terms.sources) c.args.self.now.plan (records_of c.args.self.now.moves) (entries.Ended c.args.moment c.in-Some.kind) (g.S.Site.may_leave c.args.self.now.site)
-    (no_cleaning c.ending-answer.result c.in-Some.kind (sym c.kind_of.ensures ∙ c.in-Some.is)) refl (λ r. refl) (c.ending-answer.ensures.files told kept c.in-Ok.ensures)
+    (no_cleaning c.ending-answer.result c.in-Some.kind (sym c.kind_of.ensures ∙ c.in-Some.is)) refl (λ r. refl) (c.ending-answer.ensures.files told kept c.requires.fine)
