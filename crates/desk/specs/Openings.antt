@@ -17,7 +17,7 @@ use Rattle.run_history.specs.declared.states.Found.{Found}
 use Rattle.run_history.specs.declared.states.Found.TheVariants as found
 use Rattle.run_history.specs.History.{part}
 use Rattle.run_history.specs.Legal.{first_illegal}
-use Rattle.run_history.specs.Answers.{file_no, first_of, where_so}
+use Rattle.run_history.specs.Answers.{file_no, first_of, or_else, where_so}
 use Rattle.rule_graph.specs.Spelling.{plan_digest}
 use Rattle.outside.specs.Disk.{Outcomes}
 use Rattle.outside.specs.Files.{Files, content}
@@ -27,7 +27,7 @@ use Rattle.desk.specs.declared.answers.StartFault.TheVariants as faults
 use Rattle.desk.specs.declared.openings.Run.{Run}
 use Rattle.desk.specs.Kept.{logged}
 
--- what is wrong with what stands under the name of a source, before a first run
+-- what is wrong with what stands under the name of a source, whatever was logged of it
 abbrev pub source_fault : ℕ → Option (List ℕ) → Option StartFault
 source_fault f None = Some (faults.SourceMissing (file_no f))
 source_fault f (Some bytes) = if nat_lt most_bytes (length bytes) then Some (faults.SourceTooLarge (file_no f) (length bytes)) else None
@@ -44,9 +44,13 @@ content_found content (Some bytes) =
     if length bytes == content.size then (if bytes_eq (sha256 bytes) content.digest.0 then None else Some (found.Whole (logged bytes)))
     else Some (found.Size (length bytes))
 
--- what is wrong with a source that was logged
+-- in place of a source that was logged stands another content
 abbrev pub changed_fault : ℕ → Content → Option (List ℕ) → Option StartFault
 changed_fault f content there = option_map (faults.SourceChanged (file_no f) content) (content_found content there)
+
+-- what is wrong with a source that was logged: as with each source, or else that its content changed
+abbrev pub logged_fault : ℕ → Content → Option (List ℕ) → Option StartFault
+logged_fault f content there = or_else (source_fault f there) (changed_fault f content there)
 
 -- what is wrong with a made file that was logged; its size alone is looked at
 abbrev pub damaged_fault : ℕ → Content → Option (List ℕ) → Option StartFault
@@ -54,12 +58,12 @@ damaged_fault f content there = option_map (faults.FileDamaged (file_no f) conte
 
 -- what is wrong with a file that is in this state, by whether it is a source
 abbrev pub state_fault : Bool → ℕ → FileState → Option (List ℕ) → Option StartFault
-state_fault true f (file.Present content) there = changed_fault f content there
+state_fault true f (file.Present content) there = logged_fault f content there
 state_fault false f (file.Present content) there = damaged_fault f content there
 state_fault source f file.Absent there = None
 state_fault source f file.Collected there = None
 
--- What is wrong with file f as a run begins: before a first run each source has to be there, and later each file that is present.
+-- What is wrong with file f as a run begins: each source has to be there and small enough, and before a later run each file that is present has to be what was logged.
 abbrev pub file_fault : Plan → Bool → (ℕ → FileState) → Files → ℕ → Option StartFault
 file_fault P true states files f = if is_source P f then source_fault f (files (file_name P f)) else None
 file_fault P false states files f = state_fault (is_source P f) f (states f) (files (file_name P f))

@@ -68,11 +68,11 @@ pub enum StartFault {
     LogFull {
         records: u32,
     },
-    /// There is no such source, before a first run.
+    /// There is no such source, whichever run is to begin.
     SourceMissing {
         file: FileNo,
     },
-    /// The source has more than 67,108,864 bytes, before a first run.
+    /// The source has more than 67,108,864 bytes, whichever run is to begin.
     SourceTooLarge {
         file: FileNo,
         size: u64,
