@@ -89,23 +89,23 @@ module _ {S : Type 0} (trust : Type 0) (gives : Function) (sources : Contents) (
       (λ image left. ⊎_elim (λ (k : Keeps (Fits trust gives sources) P log H image). inl k) (λ (k : Keeps (Fits trust gives sources) P log (H ++ (x ∷ [])) image). inr (x, looked.opens, k)) left)
 
   -- a site whose files were looked at over a table of the plan
-  pub record Given (old new : S) (t after : TableState) (G : List Record) (x : Record) (first : ℕ) : Type 0 where
+  pub record Given (old new : S) (t after : TableState) (G : List Record) (x : Record) (first now : ℕ) : Type 0 where
     pub plan : t.plan ≡ P
     pub options : t.options ≡ O
     pub same : G ≡ H
-    pub reply : Prepares t.plan t.options G at first tells (files old) (Ok x)
+    pub reply : Prepares t.plan t.options G at first now tells (files old) (Ok x)
     pub run : IsSameRun t after
     pub durable : tells → is_empty (part G) ≡ true → AreDurable t.plan (files old) (length t.plan.files) (may_leave new)
     pub within : tells → Within (may_leave old) (may_leave new)
     pub moments : tells → LeavesOnly moment images_since old new (IsImage (may_leave old))
 
-  pub prepared : (old new : S) (t after : TableState) (G : List Record) (x : Record) (first : ℕ) → Given old new t after G x first → Prepares P O H at first tells (files old) (Ok x)
-  prepared old new t after G x first given =
-      subst (λ (K : List Record). Prepares P O K at first tells (files old) (Ok x)) given.same
-      (subst (λ (Q : Options). Prepares P Q G at first tells (files old) (Ok x)) given.options (subst (λ (Q : Plan). Prepares Q t.options G at first tells (files old) (Ok x)) given.plan given.reply))
+  pub prepared : (old new : S) (t after : TableState) (G : List Record) (x : Record) (first now : ℕ) → Given old new t after G x first now → Prepares P O H at first now tells (files old) (Ok x)
+  prepared old new t after G x first now given =
+      subst (λ (K : List Record). Prepares P O K at first now tells (files old) (Ok x)) given.same
+      (subst (λ (Q : Options). Prepares P Q G at first now tells (files old) (Ok x)) given.options (subst (λ (Q : Plan). Prepares Q t.options G at first now tells (files old) (Ok x)) given.plan given.reply))
 
-  pub looked_by : (old new : S) (t after : TableState) (G : List Record) (x : Record) (first : ℕ) → Given old new t after G x first → Looked (file_state P H) old new x
-  looked_by old new t after G x first given = let reply = prepared old new t after G x first given in record {
+  pub looked_by : (old new : S) (t after : TableState) (G : List Record) (x : Record) (first now : ℕ) → Given old new t after G x first now → Looked (file_state P H) old new x
+  looked_by old new t after G x first now given = let reply = prepared old new t after G x first now given in record {
     opens = reply.0;
     sound = reply.1;
     durable = subst (λ (K : List Record). tells → is_empty (part K) ≡ true → AreDurable P (files old) (length P.files) (may_leave new)) given.same
@@ -115,22 +115,22 @@ module _ {S : Type 0} (trust : Type 0) (gives : Function) (sources : Contents) (
   }
 
   -- the desk may begin with the record
-  pub may_start : (old new : S) (t after : TableState) (G : List Record) (x : Record) (first : ℕ) → Found old → Given old new t after G x first
+  pub may_start : (old new : S) (t after : TableState) (G : List Record) (x : Record) (first now : ℕ) → Found old → Given old new t after G x first now
       → MayBegin (Fits trust gives sources) tells keeps may_leave moment images_since born after.plan log H x new
-  may_start old new t after G x first found given =
+  may_start old new t after G x first now found given =
       subst (λ (Q : Plan). MayBegin (Fits trust gives sources) tells keeps may_leave moment images_since born Q log H x new) (sym (given.run.0 ∙ given.plan))
-      (may_begin (file_state P H) old new x found (looked_by old new t after G x first given))
+      (may_begin (file_state P H) old new x found (looked_by old new t after G x first now given))
 
-  pub few_listed : (old new : S) (t after : TableState) (G : List Record) (x : Record) (first : ℕ) → Found old → Given old new t after G x first → ListsFew x
-  few_listed old new t after G x first found given =
-      (opens_well P O H at tells (files old) x found.valid found.free (early_room P H found.early) (prepared old new t after G x first given).0).few
+  pub few_listed : (old new : S) (t after : TableState) (G : List Record) (x : Record) (first now : ℕ) → Found old → Given old new t after G x first now → ListsFew x
+  few_listed old new t after G x first now found given =
+      (opens_well P O H at tells (files old) x found.valid found.free (early_room P H found.early) (prepared old new t after G x first now given).0).few
 
   -- what a crash may leave until it has begun
-  pub starting_moments : (old new last : S) (t after : TableState) (G : List Record) (x : Record) (first : ℕ) → Found old → Given old new t after G x first → tells → keeps
+  pub starting_moments : (old new last : S) (t after : TableState) (G : List Record) (x : Record) (first now : ℕ) → Found old → Given old new t after G x first now → tells → keeps
       → LeavesOnly moment images_since new last (KeepsEither (Fits trust gives sources) after.plan log H x)
       → LeavesOnly moment images_since old last (KeepsOpening (Fits trust gives sources) P O log H at tells (files old))
-  starting_moments old new last t after G x first found given told kept run =
-      opening_moments (file_state P H) old new last x found (looked_by old new t after G x first given) told kept
+  starting_moments old new last t after G x first now found given told kept run =
+      opening_moments (file_state P H) old new last x found (looked_by old new t after G x first now given) told kept
       (subst (λ (Q : Plan). LeavesOnly moment images_since new last (KeepsEither (Fits trust gives sources) Q log H x)) (given.run.0 ∙ given.plan) run)
 
 -- while nothing is done
@@ -142,9 +142,9 @@ still_moments fits tells files may_leave moment images_since P O log H at old on
 
 -- ---- what the looks at the files come to
 
-module _ (P : Plan) (O : Options) (H : List Record) (at first : ℕ) (tells : Type 0) (files : Files) where
+module _ (P : Plan) (O : Options) (H : List Record) (at first now : ℕ) (tells : Type 0) (files : Files) where
   -- a fault of a file
-  by_kind : (why : StartFault) → IsFileFault why → (tells → FindsFiles P H files (let found : Result (Unit {0}) StartFault = Err why in found)) → Prepares P O H at first tells files (Err why)
+  by_kind : (why : StartFault) → IsFileFault why → (tells → FindsFiles P H files (let found : Result (Unit {0}) StartFault = Err why in found)) → Prepares P O H at first now tells files (Err why)
   by_kind (faults.OtherFlow one other) kind looks = absurd kind
   by_kind (faults.NotLegal n) kind looks = absurd kind
   by_kind (faults.LogFull n) kind looks = absurd kind
@@ -157,7 +157,7 @@ module _ (P : Plan) (O : Options) (H : List Record) (at first : ℕ) (tells : Ty
 
   module _ (states : ℕ → FileState) (same : (f : ℕ) → states f ≡ file_state P H f) (run : Run) (over : run ≡ run_over H at) where
     pub prepares_why : (found : Result Record StartFault) (why : StartFault) → found ≡ Err why → IfErr found IsFileFault → (tells → LooksOver P run.first states files found)
-        → Prepares P O H at first tells files (Err why)
+        → Prepares P O H at first now tells files (Err why)
     prepares_why found why is kind looks =
         by_kind why (subst (λ (r : Result Record StartFault). IfErr r IsFileFault) is kind)
         (λ told. looks_same P (is_empty (part H)) states (file_state P H) files why same
@@ -168,7 +168,7 @@ module _ (P : Plan) (O : Options) (H : List Record) (at first : ℕ) (tells : Ty
         subst (λ (r : Run). Opens P O r tells files x) over (subst (λ (r : Result Record StartFault). IfOk r (Opens P O run tells files)) is opens)
 
     pub prepares_entry : (found : Result Record StartFault) (x : Record) → found ≡ Ok x → IfOk found (Opens P O run tells files) → (tells → LooksOver P run.first states files found)
-        → Prepares P O H at first tells files (Ok x)
+        → Prepares P O H at first now tells files (Ok x)
     prepares_entry found x is opens looks = (
       opens_entry found x is opens,
       λ told. sound_same P (is_empty (part H)) states (file_state P H) files (length P.files) same
@@ -176,32 +176,32 @@ module _ (P : Plan) (O : Options) (H : List Record) (at first : ℕ) (tells : Ty
     )
 
 -- a refusal behind the early ones
-pub late_refusal : {S : Type 0} (P : Plan) (O : Options) (H : List Record) (at first : ℕ) (tells : Type 0) (files : Files) (old new : S) (why : StartFault) → early_fault P H ≡ None
-    → Prepares P O H at first tells files (Err why) → IsRefusal P H first tells files old new why
-late_refusal P O H at first tells files old new (faults.OtherFlow one other) early is = absurd is.0
-late_refusal P O H at first tells files old new (faults.NotLegal n) early is = absurd is.0
-late_refusal P O H at first tells files old new (faults.LogFull n) early is = absurd is.0
-late_refusal P O H at first tells files old new (faults.SourceMissing f) early is = (early, is.1)
-late_refusal P O H at first tells files old new (faults.SourceTooLarge f n) early is = (early, is.1)
-late_refusal P O H at first tells files old new (faults.SourceChanged f c n) early is = (early, is.1)
-late_refusal P O H at first tells files old new (faults.FileDamaged f c n) early is = (early, is.1)
-late_refusal P O H at first tells files old new (faults.Site one other) early is = (early, is.0, is.1)
-late_refusal P O H at first tells files old new faults.Memory early is = is
+pub late_refusal : {S : Type 0} (count : S → ℕ) (P : Plan) (O : Options) (H : List Record) (at : ℕ) (tells : Type 0) (files : Files) (old new : S) (why : StartFault) → early_fault P H ≡ None
+    → Prepares P O H at (count old) (count new) tells files (Err why) → IsRefusal count P H tells files old new why
+late_refusal count P O H at tells files old new (faults.OtherFlow one other) early is = absurd is.0
+late_refusal count P O H at tells files old new (faults.NotLegal n) early is = absurd is.0
+late_refusal count P O H at tells files old new (faults.LogFull n) early is = absurd is.0
+late_refusal count P O H at tells files old new (faults.SourceMissing f) early is = (early, is.1)
+late_refusal count P O H at tells files old new (faults.SourceTooLarge f n) early is = (early, is.1)
+late_refusal count P O H at tells files old new (faults.SourceChanged f c n) early is = (early, is.1)
+late_refusal count P O H at tells files old new (faults.FileDamaged f c n) early is = (early, is.1)
+late_refusal count P O H at tells files old new (faults.Site one other) early is = (early, is)
+late_refusal count P O H at tells files old new faults.Memory early is = is
 
 -- why a desk doesn't begin once its files are fine
-by_fault : {S : Type 0} (P : Plan) (H : List Record) (first : ℕ) (tells : Type 0) (files : Files) (old new : S) (why : StartFault) → early_fault P H ≡ None → IsFault first why → IsRefusal P H first tells files old new why
-by_fault P H first tells files old new (faults.OtherFlow one other) early is = absurd is
-by_fault P H first tells files old new (faults.NotLegal n) early is = absurd is
-by_fault P H first tells files old new (faults.LogFull n) early is = absurd is
-by_fault P H first tells files old new (faults.SourceMissing f) early is = absurd is
-by_fault P H first tells files old new (faults.SourceTooLarge f n) early is = absurd is
-by_fault P H first tells files old new (faults.SourceChanged f c n) early is = absurd is
-by_fault P H first tells files old new (faults.FileDamaged f c n) early is = absurd is
-by_fault P H first tells files old new (faults.Site one other) early is = (early, is.0, is.1)
-by_fault P H first tells files old new faults.Memory early is = is
+by_fault : {S : Type 0} (count : S → ℕ) (P : Plan) (H : List Record) (tells : Type 0) (files : Files) (old new : S) (why : StartFault) → early_fault P H ≡ None → IsFault (count old) (count new) why → IsRefusal count P H tells files old new why
+by_fault count P H tells files old new (faults.OtherFlow one other) early is = absurd is
+by_fault count P H tells files old new (faults.NotLegal n) early is = absurd is
+by_fault count P H tells files old new (faults.LogFull n) early is = absurd is
+by_fault count P H tells files old new (faults.SourceMissing f) early is = absurd is
+by_fault count P H tells files old new (faults.SourceTooLarge f n) early is = absurd is
+by_fault count P H tells files old new (faults.SourceChanged f c n) early is = absurd is
+by_fault count P H tells files old new (faults.FileDamaged f c n) early is = absurd is
+by_fault count P H tells files old new (faults.Site one other) early is = (early, is)
+by_fault count P H tells files old new faults.Memory early is = is
 
 -- a start whose files are fine answers what the beginning of its desk does
-pub begins_run : {S : Type 0} (P : Plan) (O : Options) (log : List ℕ) (first : ℕ) (H : List Record) (at : ℕ) (tells : Type 0) (files : Files) (old : S) (x : Record) (reply : Result (DeskState S) (StartRefused S)) → early_fault P H ≡ None
-    → Prepares P O H at first tells files (Ok x) → Begins P O log first H x reply → BeginsRun P O log first H at tells files old reply
-begins_run P O log first H at tells files old x (Ok d) early prepares begins = (early, prepares.1, (x, prepares.0, begins))
-begins_run P O log first H at tells files old x (Err refused) early prepares begins = (begins.0, by_fault P H first tells files old refused.site refused.why early begins.1)
+pub begins_run : {S : Type 0} (count : S → ℕ) (P : Plan) (O : Options) (log : List ℕ) (first now : ℕ) (H : List Record) (at : ℕ) (tells : Type 0) (files : Files) (old : S) (x : Record) (reply : Result (DeskState S) (StartRefused S)) → early_fault P H ≡ None
+    → Prepares P O H at first now tells files (Ok x) → Begins count P O log (count old) H x reply → BeginsRun count P O log H at tells files old reply
+begins_run count P O log first now H at tells files old x (Ok d) early prepares begins = (early, prepares.1, (x, prepares.0, begins))
+begins_run count P O log first now H at tells files old x (Err refused) early prepares begins = (begins.0, by_fault count P H tells files old refused.site refused.why early begins.1)

@@ -19,15 +19,15 @@ use Rattle.desk.specs.Kept.{Test, Keeps}
 use Rattle.desk.specs.Openings.{IsFileFault, LooksOver, Opens, early_fault}
 use Rattle.desk.specs.State.{DeskState}
 
--- why it is refused: the site's count rose, or memory was wanting
-abbrev pub IsFault : ℕ → StartFault → Type 0
-IsFault first (faults.Site before after) = (before ≡ first) × (before < after)
-IsFault first faults.Memory = Unit {0}
-IsFault first why = ⊥
+-- why it is refused: the site's count rose from the first of these to the second, or memory was wanting
+abbrev pub IsFault : ℕ → ℕ → StartFault → Type 0
+IsFault first now (faults.Site before after) = (before ≡ first) × (after ≡ now) × (before < after)
+IsFault first now faults.Memory = Unit {0}
+IsFault first now why = ⊥
 
 -- The desk has the records of the history and one more, or the history is handed back.
-abbrev pub Begins : {S : Type 0} → Plan → Options → List ℕ → ℕ → List Record → Record → Result (DeskState S) (StartRefused S) → Type 0
-Begins plan options log first H x (Ok d) = d ≡ record {
+abbrev pub Begins : {S : Type 0} → (S → ℕ) → Plan → Options → List ℕ → ℕ → List Record → Record → Result (DeskState S) (StartRefused S) → Type 0
+Begins count plan options log first H x (Ok d) = d ≡ record {
   plan = plan;
   options = options;
   log = log;
@@ -38,7 +38,7 @@ Begins plan options log first H x (Ok d) = d ≡ record {
   trouble = trouble.Fine;
   site = d.site;
 }
-Begins plan options log first H x (Err refused) = (refused.history ≡ H) × IsFault first refused.why
+Begins count plan options log first H x (Err refused) = (refused.history ≡ H) × IsFault first (count refused.site) refused.why
 
 -- the site that is left
 abbrev pub site_in : {S : Type 0} → Result (DeskState S) (StartRefused S) → S
@@ -54,27 +54,27 @@ abbrev pub FindsFiles : {A : Type 0} → Plan → List Record → Files → Resu
 FindsFiles P H files found = LooksOver P (is_empty (part H)) (file_state P H) files found
 
 -- Why a run doesn't begin, over a site that stays as it is where no file is looked at.
-abbrev pub IsRefusal : {S : Type 0} → Plan → List Record → ℕ → Type 0 → Files → S → S → StartFault → Type 0
-IsRefusal P H first tells files old new (faults.OtherFlow logged found) = (early_fault P H ≡ Some (faults.OtherFlow logged found)) × (new ≡ old)
-IsRefusal P H first tells files old new (faults.NotLegal at) = (early_fault P H ≡ Some (faults.NotLegal at)) × (new ≡ old)
-IsRefusal P H first tells files old new (faults.LogFull records) = (early_fault P H ≡ Some (faults.LogFull records)) × (new ≡ old)
-IsRefusal P H first tells files old new (faults.Site before after) = (early_fault P H ≡ None) × (before ≡ first) × (before < after)
-IsRefusal P H first tells files old new faults.Memory = Unit {0}
-IsRefusal P H first tells files old new why = (early_fault P H ≡ None) × (tells → FindsFiles P H files (let found : Result (Unit {0}) StartFault = Err why in found))
+abbrev pub IsRefusal : {S : Type 0} → (S → ℕ) → Plan → List Record → Type 0 → Files → S → S → StartFault → Type 0
+IsRefusal count P H tells files old new (faults.OtherFlow logged found) = (early_fault P H ≡ Some (faults.OtherFlow logged found)) × (new ≡ old)
+IsRefusal count P H tells files old new (faults.NotLegal at) = (early_fault P H ≡ Some (faults.NotLegal at)) × (new ≡ old)
+IsRefusal count P H tells files old new (faults.LogFull records) = (early_fault P H ≡ Some (faults.LogFull records)) × (new ≡ old)
+IsRefusal count P H tells files old new (faults.Site before after) = (early_fault P H ≡ None) × IsFault (count old) (count new) (faults.Site before after)
+IsRefusal count P H tells files old new faults.Memory = Unit {0}
+IsRefusal count P H tells files old new why = (early_fault P H ≡ None) × (tells → FindsFiles P H files (let found : Result (Unit {0}) StartFault = Err why in found))
 
 -- What a start answers: a desk that has the records of the history and that with which the run begins, or the history is handed back.
-abbrev pub BeginsRun : {S : Type 0} → Plan → Options → List ℕ → ℕ → List Record → ℕ → Type 0 → Files → S → Result (DeskState S) (StartRefused S) → Type 0
-BeginsRun {S} P O log first H moment tells files old (Ok d) =
+abbrev pub BeginsRun : {S : Type 0} → (S → ℕ) → Plan → Options → List ℕ → List Record → ℕ → Type 0 → Files → S → Result (DeskState S) (StartRefused S) → Type 0
+BeginsRun {S} count P O log H moment tells files old (Ok d) =
     (early_fault P H ≡ None) × (tells → FindsFiles P H files (let found : Result (Unit {0}) StartFault = Ok tt in found))
-    × ((x : Record) × Opens P O (run_over H moment) tells files x × Begins P O log first H x (let begun : Result (DeskState S) (StartRefused S) = Ok d in begun))
-BeginsRun {S} P O log first H moment tells files old (Err refused) = (refused.history ≡ H) × IsRefusal P H first tells files old refused.site refused.why
+    × ((x : Record) × Opens P O (run_over H moment) tells files x × Begins count P O log (count old) H x (let begun : Result (DeskState S) (StartRefused S) = Ok d in begun))
+BeginsRun {S} count P O log H moment tells files old (Err refused) = (refused.history ≡ H) × IsRefusal count P H tells files old refused.site refused.why
 
 -- What the looks at the files before a run answer: the record with which it begins, or why it doesn't.
-abbrev pub Prepares : Plan → Options → List Record → ℕ → ℕ → Type 0 → Files → Result Record StartFault → Type 0
-Prepares P O H moment first tells files (Ok x) = Opens P O (run_over H moment) tells files x × (tells → FindsFiles P H files (let found : Result (Unit {0}) StartFault = Ok tt in found))
-Prepares P O H moment first tells files (Err (faults.Site before after)) = (before ≡ first) × (before < after)
-Prepares P O H moment first tells files (Err faults.Memory) = Unit {0}
-Prepares P O H moment first tells files (Err why) = IsFileFault why × (tells → FindsFiles P H files (let found : Result (Unit {0}) StartFault = Err why in found))
+abbrev pub Prepares : Plan → Options → List Record → ℕ → ℕ → ℕ → Type 0 → Files → Result Record StartFault → Type 0
+Prepares P O H moment first now tells files (Ok x) = Opens P O (run_over H moment) tells files x × (tells → FindsFiles P H files (let found : Result (Unit {0}) StartFault = Ok tt in found))
+Prepares P O H moment first now tells files (Err (faults.Site before after)) = IsFault first now (faults.Site before after)
+Prepares P O H moment first now tells files (Err faults.Memory) = Unit {0}
+Prepares P O H moment first now tells files (Err why) = IsFileFault why × (tells → FindsFiles P H files (let found : Result (Unit {0}) StartFault = Err why in found))
 
 -- The table of a run over this history, which has to be legal and of the same plan, with room in the log.
 abbrev pub Admits : Plan → Options → List Record → Result TableState StartFault → Type 0

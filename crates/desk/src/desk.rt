@@ -156,7 +156,7 @@ impl<F: Commands, S: Site, T: Terms> Desk<F, S, T> {
         requires later { S.tells → T.kept → T.born ≤ S.moment site }
         requires since { S.tells → T.kept → (image : Files) → S.images_since site T.born image
             → Keeps (Fits T.trust F.gives T.sources) table.plan log.name history image }
-        ensures reply { Begins table.plan table.options log.name faults history entry result }
+        ensures reply { Begins S.count table.plan table.options log.name faults history entry result }
         ensures any_moment { S.tells → T.kept
             → LeavesOnly S.moment S.images_since site (site_in result)
             (KeepsEither (Fits T.trust F.gives T.sources) table.plan log.name history entry) }
@@ -232,7 +232,7 @@ impl<F: Commands, S: Site, T: Terms> Desk<F, S, T> {
         requires later { S.tells → T.kept → T.born ≤ S.moment site }
         requires since { S.tells → T.kept → (image : Files) → S.images_since site T.born image
             → Keeps (Fits T.trust F.gives T.sources) table.plan log.name history image }
-        ensures reply { Begins table.plan table.options log.name faults history entry result }
+        ensures reply { Begins S.count table.plan table.options log.name faults history entry result }
         ensures any_moment { S.tells → T.kept
             → LeavesOnly S.moment S.images_since site (site_in result)
             (KeepsEither (Fits T.trust F.gives T.sources) table.plan log.name history entry) }

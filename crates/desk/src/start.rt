@@ -123,7 +123,7 @@ fn prepare<S: Site>(
     requires limit { table.old.options.limit ≡ None }
     requires early { early_fault table.old.plan history.now ≡ None }
     requires stands { Stands table.old (map moves.Logged history.now) }
-    ensures reply { Prepares table.old.plan table.old.options history.now moment (S.count site.old) S.tells
+    ensures reply { Prepares table.old.plan table.old.options history.now moment (S.count site.old) (S.count site.new) S.tells
         (S.files site.old) result }
     ensures run { IfOk result (λ entry. IsSameRun table.old table.new
         × Stands table.new (map moves.Logged history.now ++ moves.Logged entry ∷ [])
@@ -182,8 +182,8 @@ impl<F: Commands, S: Site, T: Terms> Desk<F, S, T> {
             → Keeps (Fits T.trust F.gives T.sources) plan log.name history image }
         requires sources { S.tells → T.kept → T.trust → is_empty (part history) ≡ true
             → (f : ℕ) → is_source plan f ≡ true → S.files site (file_name plan f) ≡ T.sources f }
-        ensures reply { BeginsRun plan options log.name (S.count site) history moment S.tells
-            (S.files site) site result }
+        ensures reply { BeginsRun S.count plan options log.name history moment S.tells (S.files site)
+            site result }
         ensures any_moment { S.tells → T.kept
             → LeavesOnly S.moment S.images_since site (site_in result)
             (KeepsOpening (Fits T.trust F.gives T.sources) plan options log.name history moment S.tells

@@ -12,7 +12,7 @@ use Rattle.desk.proofs.desk.Desk.start.Goals as goal
 pub begin-requires-clause-few : goal.begin-requires-clause-few
 begin-requires-clause-few g c κs within =
     few_listed g.T.Terms.trust g.F.Commands.gives g.T.Terms.sources g.S.Site.tells g.T.Terms.kept g.S.Site.files g.S.Site.may_leave g.S.Site.moment g.S.Site.images_since g.T.Terms.born c.args.plan c.args.options c.args.log.name c.args.history c.args.moment
-    c.args.site c.prepare.new.site c.in-Ok.table c.prepare.new.table c.as_slice-2.result.now c.in-Ok-prepare.entry (g.S.Site.count c.args.site)
+    c.args.site c.prepare.new.site c.in-Ok.table c.prepare.new.table c.as_slice-2.result.now c.in-Ok-prepare.entry (g.S.Site.count c.args.site) (g.S.Site.count c.prepare.new.site)
     (record {
       valid = c.requires.valid;
       apart = c.requires.apart;
@@ -45,7 +45,7 @@ begin-requires-clause-legal g c κs within =
 pub begin-requires-clause-allowed : goal.begin-requires-clause-allowed
 begin-requires-clause-allowed g c κs within =
     (may_start g.T.Terms.trust g.F.Commands.gives g.T.Terms.sources g.S.Site.tells g.T.Terms.kept g.S.Site.files g.S.Site.may_leave g.S.Site.moment g.S.Site.images_since g.T.Terms.born c.args.plan c.args.options c.args.log.name c.args.history c.args.moment
-    c.args.site c.prepare.new.site c.in-Ok.table c.prepare.new.table c.as_slice-2.result.now c.in-Ok-prepare.entry (g.S.Site.count c.args.site)
+    c.args.site c.prepare.new.site c.in-Ok.table c.prepare.new.table c.as_slice-2.result.now c.in-Ok-prepare.entry (g.S.Site.count c.args.site) (g.S.Site.count c.prepare.new.site)
     (record {
       valid = c.requires.valid;
       apart = c.requires.apart;
@@ -71,7 +71,7 @@ begin-requires-clause-allowed g c κs within =
 pub begin-requires-clause-places : goal.begin-requires-clause-places
 begin-requires-clause-places g c κs within =
     (may_start g.T.Terms.trust g.F.Commands.gives g.T.Terms.sources g.S.Site.tells g.T.Terms.kept g.S.Site.files g.S.Site.may_leave g.S.Site.moment g.S.Site.images_since g.T.Terms.born c.args.plan c.args.options c.args.log.name c.args.history c.args.moment
-    c.args.site c.prepare.new.site c.in-Ok.table c.prepare.new.table c.as_slice-2.result.now c.in-Ok-prepare.entry (g.S.Site.count c.args.site)
+    c.args.site c.prepare.new.site c.in-Ok.table c.prepare.new.table c.as_slice-2.result.now c.in-Ok-prepare.entry (g.S.Site.count c.args.site) (g.S.Site.count c.prepare.new.site)
     (record {
       valid = c.requires.valid;
       apart = c.requires.apart;
@@ -97,7 +97,7 @@ begin-requires-clause-places g c κs within =
 pub begin-requires-clause-files : goal.begin-requires-clause-files
 begin-requires-clause-files g c κs within told kept =
     (may_start g.T.Terms.trust g.F.Commands.gives g.T.Terms.sources g.S.Site.tells g.T.Terms.kept g.S.Site.files g.S.Site.may_leave g.S.Site.moment g.S.Site.images_since g.T.Terms.born c.args.plan c.args.options c.args.log.name c.args.history c.args.moment
-    c.args.site c.prepare.new.site c.in-Ok.table c.prepare.new.table c.as_slice-2.result.now c.in-Ok-prepare.entry (g.S.Site.count c.args.site)
+    c.args.site c.prepare.new.site c.in-Ok.table c.prepare.new.table c.as_slice-2.result.now c.in-Ok-prepare.entry (g.S.Site.count c.args.site) (g.S.Site.count c.prepare.new.site)
     (record {
       valid = c.requires.valid;
       apart = c.requires.apart;
@@ -123,7 +123,7 @@ begin-requires-clause-files g c κs within told kept =
 pub begin-requires-clause-next_files : goal.begin-requires-clause-next_files
 begin-requires-clause-next_files g c κs within told kept =
     (may_start g.T.Terms.trust g.F.Commands.gives g.T.Terms.sources g.S.Site.tells g.T.Terms.kept g.S.Site.files g.S.Site.may_leave g.S.Site.moment g.S.Site.images_since g.T.Terms.born c.args.plan c.args.options c.args.log.name c.args.history c.args.moment
-    c.args.site c.prepare.new.site c.in-Ok.table c.prepare.new.table c.as_slice-2.result.now c.in-Ok-prepare.entry (g.S.Site.count c.args.site)
+    c.args.site c.prepare.new.site c.in-Ok.table c.prepare.new.table c.as_slice-2.result.now c.in-Ok-prepare.entry (g.S.Site.count c.args.site) (g.S.Site.count c.prepare.new.site)
     (record {
       valid = c.requires.valid;
       apart = c.requires.apart;
@@ -149,7 +149,7 @@ begin-requires-clause-next_files g c κs within told kept =
 pub begin-requires-clause-since : goal.begin-requires-clause-since
 begin-requires-clause-since g c κs within told kept =
     (may_start g.T.Terms.trust g.F.Commands.gives g.T.Terms.sources g.S.Site.tells g.T.Terms.kept g.S.Site.files g.S.Site.may_leave g.S.Site.moment g.S.Site.images_since g.T.Terms.born c.args.plan c.args.options c.args.log.name c.args.history c.args.moment
-    c.args.site c.prepare.new.site c.in-Ok.table c.prepare.new.table c.as_slice-2.result.now c.in-Ok-prepare.entry (g.S.Site.count c.args.site)
+    c.args.site c.prepare.new.site c.in-Ok.table c.prepare.new.table c.as_slice-2.result.now c.in-Ok-prepare.entry (g.S.Site.count c.args.site) (g.S.Site.count c.prepare.new.site)
     (record {
       valid = c.requires.valid;
       apart = c.requires.apart;
@@ -174,9 +174,9 @@ begin-requires-clause-since g c κs within told kept =
 
 pub returns-in-Ok-prepare-clause-reply : goal.returns-in-Ok-prepare-clause-reply
 returns-in-Ok-prepare-clause-reply g c =
-    begins_run c.args.plan c.args.options c.args.log.name (g.S.Site.count c.args.site) c.args.history c.args.moment g.S.Site.tells (g.S.Site.files c.args.site) c.args.site c.in-Ok-prepare.entry c.begin.result (subst (λ (l : List Record). early_fault c.args.plan l ≡ None) c.as_slice.ensures c.in-Ok.ensures.0)
+    begins_run g.S.Site.count c.args.plan c.args.options c.args.log.name (g.S.Site.count c.args.site) (g.S.Site.count c.prepare.new.site) c.args.history c.args.moment g.S.Site.tells (g.S.Site.files c.args.site) c.args.site c.in-Ok-prepare.entry c.begin.result (subst (λ (l : List Record). early_fault c.args.plan l ≡ None) c.as_slice.ensures c.in-Ok.ensures.0)
     (prepared g.T.Terms.trust g.F.Commands.gives g.T.Terms.sources g.S.Site.tells g.T.Terms.kept g.S.Site.files g.S.Site.may_leave g.S.Site.moment g.S.Site.images_since g.T.Terms.born c.args.plan c.args.options c.args.log.name c.args.history c.args.moment
-    c.args.site c.prepare.new.site c.in-Ok.table c.prepare.new.table c.as_slice-2.result.now c.in-Ok-prepare.entry (g.S.Site.count c.args.site)
+    c.args.site c.prepare.new.site c.in-Ok.table c.prepare.new.table c.as_slice-2.result.now c.in-Ok-prepare.entry (g.S.Site.count c.args.site) (g.S.Site.count c.prepare.new.site)
     (record {
       plan = c.in-Ok.ensures.1;
       options = c.in-Ok.ensures.2;
@@ -187,15 +187,15 @@ returns-in-Ok-prepare-clause-reply g c =
       within = c.prepare.ensures.within;
       moments = c.prepare.ensures.any_moment;
     }))
-    (subst (λ (n : ℕ). Begins c.args.plan c.args.options c.args.log.name n c.args.history c.in-Ok-prepare.entry c.begin.result) c.faults-faults.ensures
-    (subst (λ (Q : Options). Begins c.args.plan Q c.args.log.name c.faults-faults.result c.args.history c.in-Ok-prepare.entry c.begin.result) (c.in-Ok-prepare.ensures.run.0.1 ∙ c.in-Ok.ensures.2)
-    (subst (λ (Q : Plan). Begins Q c.prepare.new.table.options c.args.log.name c.faults-faults.result c.args.history c.in-Ok-prepare.entry c.begin.result) (c.in-Ok-prepare.ensures.run.0.0 ∙ c.in-Ok.ensures.1)
+    (subst (λ (n : ℕ). Begins g.S.Site.count c.args.plan c.args.options c.args.log.name n c.args.history c.in-Ok-prepare.entry c.begin.result) c.faults-faults.ensures
+    (subst (λ (Q : Options). Begins g.S.Site.count c.args.plan Q c.args.log.name c.faults-faults.result c.args.history c.in-Ok-prepare.entry c.begin.result) (c.in-Ok-prepare.ensures.run.0.1 ∙ c.in-Ok.ensures.2)
+    (subst (λ (Q : Plan). Begins g.S.Site.count Q c.prepare.new.table.options c.args.log.name c.faults-faults.result c.args.history c.in-Ok-prepare.entry c.begin.result) (c.in-Ok-prepare.ensures.run.0.0 ∙ c.in-Ok.ensures.1)
     c.begin.ensures.reply)))
 
 pub returns-in-Ok-prepare-clause-any_moment : goal.returns-in-Ok-prepare-clause-any_moment
 returns-in-Ok-prepare-clause-any_moment g c told kept =
     starting_moments g.T.Terms.trust g.F.Commands.gives g.T.Terms.sources g.S.Site.tells g.T.Terms.kept g.S.Site.files g.S.Site.may_leave g.S.Site.moment g.S.Site.images_since g.T.Terms.born c.args.plan c.args.options c.args.log.name c.args.history c.args.moment
-    c.args.site c.prepare.new.site _ c.in-Ok.table c.prepare.new.table c.as_slice-2.result.now c.in-Ok-prepare.entry (g.S.Site.count c.args.site)
+    c.args.site c.prepare.new.site _ c.in-Ok.table c.prepare.new.table c.as_slice-2.result.now c.in-Ok-prepare.entry (g.S.Site.count c.args.site) (g.S.Site.count c.prepare.new.site)
     (record {
       valid = c.requires.valid;
       apart = c.requires.apart;
