@@ -70,6 +70,17 @@ HasCounts first now trouble.Wants = Unit {0}
 abbrev pub AreNamed : Plan → Type 0
 AreNamed P = (f g : ℕ) → f < length P.files → file_name P g ≡ file_name P f → g ≡ f
 
+-- The desk was broken already, by these counts, and nothing changed; or it worked, and its site failed in this call: its count rose to the second of them.
+abbrev pub Breaks : {S : Type 0} → (S → ℕ) → DeskState S → ℕ → ℕ → DeskState S → Type 0
+Breaks count d before now after =
+    ((d.trouble ≡ trouble.Broken before now) × (after ≡ d))
+    ⊎ (IsFine d.trouble × (before ≡ d.faults) × (before < now) × (count d.site < now) × (now ≡ count after.site)
+    × (after ≡ record d { trouble = trouble.Broken before now; site = after.site }))
+
+-- Memory was wanting already, and nothing changed; or the desk worked, and memory is wanting now.
+abbrev pub Lacks : {S : Type 0} → DeskState S → DeskState S → Type 0
+Lacks d after = ((d.trouble ≡ trouble.Wants) × (after ≡ d)) ⊎ (IsFine d.trouble × (after ≡ record d { trouble = trouble.Wants; site = after.site }))
+
 -- The log takes records: it has these, and no fault.
 pub record Takes (log : LogState) (H : List Record) : Type 0 where
   pub fine : log.trouble ≡ None
@@ -105,12 +116,11 @@ pub record IsDesk {S : Type 0} (fits : Plan → ℕ → Content → Option (List
       → WasKept fits d.plan d.log d.base (records_of d.moves) (IsCut d.trouble) image
 
 -- What the adding of a record answers, and what the desk is then.
-abbrev pub Records : {S : Type 0} → DeskState S → Record → Result Unit CloseRefused → DeskState S → Type 0
-Records d entry (Ok done) after = after ≡ record d { moves = d.moves ++ (moves.Logged entry ∷ []); site = after.site }
-Records d entry (Err (refused.Stale named state)) after = ⊥
-Records d entry (Err (refused.Broken before now)) after =
-    (after ≡ record d { trouble = trouble.Broken before now; site = after.site }) × (before ≡ d.faults) × (before < now)
-Records d entry (Err refused.Memory) after = after ≡ record d { trouble = trouble.Wants; site = after.site }
+abbrev pub Records : {S : Type 0} → (S → ℕ) → DeskState S → Record → Result Unit CloseRefused → DeskState S → Type 0
+Records count d entry (Ok done) after = after ≡ record d { moves = d.moves ++ (moves.Logged entry ∷ []); site = after.site }
+Records count d entry (Err (refused.Stale named state)) after = ⊥
+Records count d entry (Err (refused.Broken before now)) after = Breaks count d before now after
+Records count d entry (Err refused.Memory) after = Lacks d after
 
 -- the place is that of this attempt on this link
 abbrev pub is_place : ℕ → ℕ → Place → Bool
@@ -130,12 +140,11 @@ Checks d rule number link (Err (refused.Broken before now)) = (d.trouble ≡ tro
 Checks d rule number link (Err refused.Memory) = d.trouble ≡ trouble.Wants
 
 -- What the writing of files answers, and what the desk is then.
-abbrev pub Writes : {S A : Type 0} → DeskState S → Result A CloseRefused → DeskState S → Type 0
-Writes d (Ok rows) after = after ≡ record d { site = after.site }
-Writes d (Err (refused.Stale named state)) after = ⊥
-Writes d (Err (refused.Broken before now)) after =
-    (after ≡ record d { trouble = trouble.Broken before now; site = after.site }) × (before ≡ d.faults) × (before < now)
-Writes d (Err refused.Memory) after = after ≡ record d { trouble = trouble.Wants; site = after.site }
+abbrev pub Writes : {S A : Type 0} → (S → ℕ) → DeskState S → Result A CloseRefused → DeskState S → Type 0
+Writes count d (Ok rows) after = after ≡ record d { site = after.site }
+Writes count d (Err (refused.Stale named state)) after = ⊥
+Writes count d (Err (refused.Broken before now)) after = Breaks count d before now after
+Writes count d (Err refused.Memory) after = Lacks d after
 
 -- An attempt on this link may be lost where attempts there are kept as long as may be: a stop is set, the desk works no more, or it is not the local place and all joins and changes were made.
 abbrev pub CanLose : {S : Type 0} → DeskState S → ℕ → Type 0
@@ -156,16 +165,15 @@ abbrev pub IsDue : Plan → Function → Contents → ℕ → List (List ℕ) �
 IsDue P gives sources r outs = (rule : Rule) → slice_get P.rules r ≡ Some rule → outs ≡ given_by gives (job_of P rule (serial P gives sources))
 
 -- What a call that closes an attempt answers, and what the desk is then.
-abbrev pub Closes : {S : Type 0} → DeskState S → RuleNo → AttemptNo → LinkNo → Record → Result Unit CloseRefused → DeskState S → Type 0
-Closes d rule number link entry (Ok done) after =
+abbrev pub Closes : {S : Type 0} → (S → ℕ) → DeskState S → RuleNo → AttemptNo → LinkNo → Record → Result Unit CloseRefused → DeskState S → Type 0
+Closes count d rule number link entry (Ok done) after =
     IsFine d.trouble × (runs_with (records_of d.moves) rule.0 number.0 link.0 ≡ true)
     × (after ≡ record d { moves = d.moves ++ (moves.Logged entry ∷ []); site = after.site })
-Closes d rule number link entry (Err (refused.Stale named state)) after =
+Closes count d rule number link entry (Err (refused.Stale named state)) after =
     IsFine d.trouble × (runs_with (records_of d.moves) rule.0 number.0 link.0 ≡ false)
     × (named ≡ rule) × (state ≡ rule_state (records_of d.moves) rule.0) × (after ≡ d)
-Closes d rule number link entry (Err (refused.Broken before now)) after =
-    (after ≡ record d { trouble = trouble.Broken before now; site = after.site }) × (before ≡ d.faults) × (before < now)
-Closes d rule number link entry (Err refused.Memory) after = after ≡ record d { trouble = trouble.Wants; site = after.site }
+Closes count d rule number link entry (Err (refused.Broken before now)) after = Breaks count d before now after
+Closes count d rule number link entry (Err refused.Memory) after = Lacks d after
 
 -- what a failure answers beside whether it was logged
 abbrev pub closed : Result Next CloseRefused → Result Unit CloseRefused

@@ -32,7 +32,7 @@ ghost use Rattle.desk.specs.Room.{HasRows, KeepsAmple, closes, longest_closing};
 ghost use Rattle.desk.specs.declared.answers.CloseRefused.TheVariants as refused;
 ghost use Rattle.desk.specs.declared.answers.Trouble.TheVariants as trouble;
 ghost use Rattle.desk.specs.Tasks.{task_of};
-ghost use Rattle.desk.specs.State.{AreNamed, AreOutputs, CanLose, CanWrite, Checks, Closes, IsCut, IsDue, IsFine, Records, Takes, Writes, closed, has_room, is_final};
+ghost use Rattle.desk.specs.State.{AreNamed, AreOutputs, CanLose, CanWrite, Checks, Closes, HasCounts, IsCut, IsDue, IsFine, Records, Takes, Writes, closed, has_room, is_final};
 
 use crate::attempt::Attempt;
 use crate::contents::store_outputs;
@@ -256,6 +256,7 @@ impl<F: Commands, S: Site, T: Terms> Desk<F, S, T> {
     pub fn works(&self) -> bool
         ensures fine { result ≡ true → IsFine self.now.trouble }
         ensures broken { IsFine self.now.trouble → result ≡ true }
+        ensures counts { HasCounts self.now.faults (S.count self.now.site) self.now.trouble }
         ensures kept { S.tells → T.kept → (image : Files) → S.images_since self.now.site T.born image
             → WasKept (Fits T.trust F.gives T.sources) self.now.plan self.now.log self.now.base
             (records_of self.now.moves) (IsCut self.now.trouble) image }
@@ -311,7 +312,7 @@ impl<F: Commands, S: Site, T: Terms> Desk<F, S, T> {
             ≡ true }
         requires files { S.tells → T.kept → FilesHold (Fits T.trust F.gives T.sources) self.old.plan
             (records_of self.old.moves ++ entry ∷ []) (S.may_leave self.old.site) }
-        ensures reply { Records self.old entry result self.new }
+        ensures reply { Records S.count self.old entry result self.new }
         ensures any_moment { S.tells → T.kept
             → LeavesOnly S.moment S.images_since self.old.site self.new.site
             (KeepsEither (Fits T.trust F.gives T.sources) self.old.plan self.old.log
@@ -360,12 +361,13 @@ impl<F: Commands, S: Site, T: Terms> Desk<F, S, T> {
         requires can { CanWrite self.old (makes self.old.plan rule.0) }
         requires differ { DifferByName self.old.plan (makes self.old.plan rule.0) }
         requires count { length outs.now ≡ length (makes self.old.plan rule.0) }
-        ensures reply { Writes self.old result self.new }
+        ensures reply { Writes S.count self.old result self.new }
         ensures rows { IfOk result (λ rows. rows ≡ map logged outs.now) }
         ensures written { OnOk result (S.tells → Last self.old.plan (makes self.old.plan rule.0)
             outs.now (length outs.now) (S.may_leave self.new.site)) }
         ensures crash { S.tells → StayBeside self.old.plan (makes self.old.plan rule.0)
             (S.may_leave self.old.site) (S.may_leave self.new.site) }
+        ensures later { S.count self.old.site ≤ S.count self.new.site }
         ensures any_moment { S.tells → T.kept
             → LeavesOnly S.moment S.images_since self.old.site self.new.site
             (Keeps (Fits T.trust F.gives T.sources) self.old.plan self.old.log
@@ -407,7 +409,7 @@ impl<F: Commands, S: Site, T: Terms> Desk<F, S, T> {
         requires outputs { AreOutputs self.old.plan attempt.rule.0 outs.now }
         requires honest { T.trust
             → IsDue self.old.plan F.gives T.sources attempt.rule.0 outs.now }
-        ensures reply { Closes self.old attempt.rule attempt.number attempt.link
+        ensures reply { Closes S.count self.old attempt.rule attempt.number attempt.link
             (entries.Done moment attempt.rule attempt.number (map logged outs.now)) result self.new }
         ensures any_moment { S.tells → T.kept → IsFine self.old.trouble
             → LeavesOnly S.moment S.images_since self.old.site self.new.site
@@ -459,7 +461,7 @@ impl<F: Commands, S: Site, T: Terms> Desk<F, S, T> {
         requires honest { T.trust
             → (row : Rule) → slice_get self.old.plan.rules attempt.rule.0 ≡ Some row
             → F.may_fail (job_of self.old.plan row (serial self.old.plan F.gives T.sources)) why }
-        ensures reply { Closes self.old attempt.rule attempt.number attempt.link
+        ensures reply { Closes S.count self.old attempt.rule attempt.number attempt.link
             (entries.Failed moment attempt.rule attempt.number why) (closed result) self.new }
         ensures next { IfOk result (λ next. is_final next
             ≡ has_failed (records_of self.new.moves) attempt.rule.0) }
@@ -492,7 +494,7 @@ impl<F: Commands, S: Site, T: Terms> Desk<F, S, T> {
     pub fn lose(&mut self, attempt: Attempt, moment: u64) -> Result<(), CloseRefused>
         requires rule { attempt.rule.0 < length self.old.plan.rules }
         requires keen { T.keen attempt.link.0 → CanLose self.old attempt.link.0 }
-        ensures reply { Closes self.old attempt.rule attempt.number attempt.link
+        ensures reply { Closes S.count self.old attempt.rule attempt.number attempt.link
             (entries.Lost moment attempt.rule attempt.number) result self.new }
         ensures any_moment { S.tells → T.kept → IsFine self.old.trouble
             → LeavesOnly S.moment S.images_since self.old.site self.new.site
@@ -559,7 +561,7 @@ impl<F: Commands, S: Site, T: Terms> Desk<F, S, T> {
         requires lives { is_live self.old.options self.old.moves link.0 ≡ true }
         requires chosen { claim_of self.old.plan self.old.options self.old.moves self.old.stop link.0
             ≡ Ok rule.0 }
-        ensures reply { Starts self.old rule link moment result self.new }
+        ensures reply { Starts S.count self.old rule link moment result self.new }
         ensures any_moment { S.tells → T.kept
             → LeavesOnly S.moment S.images_since self.old.site self.new.site
             (KeepsEither (Fits T.trust F.gives T.sources) self.old.plan self.old.log
@@ -618,7 +620,7 @@ impl<F: Commands, S: Site, T: Terms> Desk<F, S, T> {
     /// Starts the least rule that may run on the link and fits, or answers why there is none. Condition: the link lives.
     pub fn claim(&mut self, link: LinkNo, moment: u64) -> Result<Claim, ClaimRefused>
         requires lives { is_live self.old.options self.old.moves link.0 ≡ true }
-        ensures reply { Claims self.old link moment result self.new }
+        ensures reply { Claims S.count self.old link moment result self.new }
         ensures any_moment { S.tells → T.kept → IsFine self.old.trouble
             → LeavesOnly S.moment S.images_since self.old.site self.new.site
             (KeepsClaim (Fits T.trust F.gives T.sources) self.old link moment) }
@@ -647,7 +649,7 @@ impl<F: Commands, S: Site, T: Terms> Desk<F, S, T> {
     ) -> Result<Bytes, InputRefused>
         requires inside { file.0 < length self.old.plan.files }
         requires present { IsPresent self.old.plan (records_of self.old.moves) file.0 logged }
-        ensures reply { Looks self.old file logged result self.new }
+        ensures reply { Looks S.count self.old file logged result self.new }
         ensures told { S.tells → IsFine self.old.trouble
             → Tells logged (S.files self.old.site (file_name self.old.plan file.0)) result }
         ensures whole { S.tells → T.kept → IsWhole result }
@@ -727,7 +729,7 @@ impl<F: Commands, S: Site, T: Terms> Desk<F, S, T> {
     fn end_now(&mut self, moment: u64) -> Result<Check, EndRefused>
         requires fine { IsFine self.old.trouble }
         requires goes_on { has_ended (records_of self.old.moves) ≡ false }
-        ensures reply { Ends self.old moment result self.new }
+        ensures reply { Ends S.count self.old moment result self.new }
         ensures any_moment { S.tells → T.kept
             → LeavesOnly S.moment S.images_since self.old.site self.new.site
             (KeepsEnd (Fits T.trust F.gives T.sources) self.old moment) }
@@ -751,7 +753,7 @@ impl<F: Commands, S: Site, T: Terms> Desk<F, S, T> {
     /// How the run ends, or why it goes on. Complete, CommandFailed, InputsTooLarge, NoRoom and Waited are logged as its
     /// end. Once this run has ended it answers the same again, whatever stop was asked for since, and logs nothing more.
     pub fn end(&mut self, moment: u64) -> Result<Check, EndRefused>
-        ensures reply { Ends self.old moment result self.new }
+        ensures reply { Ends S.count self.old moment result self.new }
         ensures any_moment { S.tells → T.kept → IsFine self.old.trouble
             → LeavesOnly S.moment S.images_since self.old.site self.new.site
             (KeepsEnd (Fits T.trust F.gives T.sources) self.old moment) }
@@ -804,7 +806,7 @@ impl<F: Commands, S: Site, T: Terms> Desk<F, S, T> {
     pub fn read_input(&mut self, alloc: Global, file: FileNo) -> Result<Bytes, InputRefused>
         requires present { is_present self.old.plan (records_of self.old.moves) file.0 ≡ true }
         ensures reply { (logged : Content) → IsPresent self.old.plan (records_of self.old.moves) file.0 logged
-            → Looks self.old file logged result self.new }
+            → Looks S.count self.old file logged result self.new }
         ensures told { (logged : Content) → IsPresent self.old.plan (records_of self.old.moves) file.0 logged
             → S.tells → IsFine self.old.trouble
             → Tells logged (S.files self.old.site (file_name self.old.plan file.0)) result }
