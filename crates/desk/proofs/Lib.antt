@@ -23,3 +23,4 @@ pub mod Taking
 pub mod Handing
 pub mod Linked
 pub mod LinkRoom
+pub mod Others

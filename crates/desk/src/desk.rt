@@ -18,7 +18,7 @@ ghost use Rattle.log_records.specs.Spelling.{ListsFew, spelling};
 ghost use Rattle.outside.specs.Disk.{LeavesOnly, IsImage};
 ghost use Rattle.outside.specs.Files.{Files};
 ghost use Rattle.txn_log.specs.Logs.{HasRoom, IsAt, most_records};
-ghost use Rattle.file_store.specs.Outputs.{file_name, Last, StayBeside, DifferByName};
+ghost use Rattle.file_store.specs.Outputs.{file_name, IsOther, Last, StayBeside, DifferByName};
 ghost use Rattle.desk.specs.Begins.{Begins, site_in};
 ghost use Rattle.task_core.specs.Stands.{Stands};
 ghost use Rattle.task_core.specs.Surveys.{claimed};
@@ -27,7 +27,7 @@ ghost use Rattle.desk.specs.Ends.{Answers, Ends, KeepsEnd};
 ghost use Rattle.desk.specs.Follows.{Follows, IsShaped};
 ghost use Rattle.desk.specs.Inputs.{IsWhole, Looks, Tells, content_in};
 ghost use Rattle.desk.specs.Links.{Changes, Joins, Leaves};
-ghost use Rattle.desk.specs.Kept.{Fits, IsLegal, Keeps, WasKept, FilesHold, KeepsEither, logged};
+ghost use Rattle.desk.specs.Kept.{Fits, IsElse, IsLegal, Keeps, StaysBeside, WasKept, FilesHold, KeepsEither, logged};
 ghost use Rattle.desk.specs.Room.{HasRows, KeepsAmple, closes, longest_closing};
 ghost use Rattle.desk.specs.declared.answers.CloseRefused.TheVariants as refused;
 ghost use Rattle.desk.specs.declared.answers.Trouble.TheVariants as trouble;
@@ -160,6 +160,8 @@ impl<F: Commands, S: Site, T: Terms> Desk<F, S, T> {
         ensures any_moment { S.tells → T.kept
             → LeavesOnly S.moment S.images_since site (site_in result)
             (KeepsEither (Fits T.trust F.gives T.sources) table.plan log.name history entry) }
+        ensures others { S.tells → StaysBeside S.may_leave S.moment S.images_since
+            (λ m. m ≢ log.name) site (site_in result) }
         ensures ample { KeepsAmple (S.ample site) (S.ample (site_in result)) (S.count (site_in result))
             result }
     {
@@ -236,6 +238,8 @@ impl<F: Commands, S: Site, T: Terms> Desk<F, S, T> {
         ensures any_moment { S.tells → T.kept
             → LeavesOnly S.moment S.images_since site (site_in result)
             (KeepsEither (Fits T.trust F.gives T.sources) table.plan log.name history entry) }
+        ensures others { S.tells → StaysBeside S.may_leave S.moment S.images_since
+            (λ m. m ≢ log.name) site (site_in result) }
         ensures ample { KeepsAmple (S.ample site) (S.ample (site_in result)) (S.count (site_in result))
             result }
     {
@@ -317,6 +321,8 @@ impl<F: Commands, S: Site, T: Terms> Desk<F, S, T> {
             → LeavesOnly S.moment S.images_since self.old.site self.new.site
             (KeepsEither (Fits T.trust F.gives T.sources) self.old.plan self.old.log
             (records_of self.old.moves) entry) }
+        ensures others { S.tells → StaysBeside S.may_leave S.moment S.images_since
+            (λ m. m ≢ self.old.log) self.old.site self.new.site }
         ensures never { S.ample self.old.site → closes entry ≡ true
             → length (spelling entry) ≤ longest_closing → IsErrOf result refused.Memory → ⊥ }
         ensures ample { KeepsAmple (S.ample self.old.site) (S.ample self.new.site)
@@ -372,6 +378,8 @@ impl<F: Commands, S: Site, T: Terms> Desk<F, S, T> {
             → LeavesOnly S.moment S.images_since self.old.site self.new.site
             (Keeps (Fits T.trust F.gives T.sources) self.old.plan self.old.log
             (records_of self.old.moves)) }
+        ensures others { S.tells → StaysBeside S.may_leave S.moment S.images_since
+            (IsOther self.old.plan (makes self.old.plan rule.0)) self.old.site self.new.site }
         ensures never { S.ample self.old.site → length outs.now ≤ vec_capacity rows
             → IsErrOf result refused.Memory → ⊥ }
         ensures ample { KeepsAmple (S.ample self.old.site) (S.ample self.new.site)
@@ -416,6 +424,9 @@ impl<F: Commands, S: Site, T: Terms> Desk<F, S, T> {
             (KeepsEither (Fits T.trust F.gives T.sources) self.old.plan self.old.log
             (records_of self.old.moves)
             (entries.Done moment attempt.rule attempt.number (map logged outs.now))) }
+        ensures others { S.tells → StaysBeside S.may_leave S.moment S.images_since
+            (IsElse self.old.plan self.old.log (makes self.old.plan attempt.rule.0)) self.old.site
+            self.new.site }
         ensures never { S.ample self.old.site → IsFine self.old.trouble
             → HasRows self.old.plan attempt → IsErrOf result refused.Memory → ⊥ }
         ensures ample { KeepsAmple (S.ample self.old.site) (S.ample self.new.site)
@@ -469,6 +480,8 @@ impl<F: Commands, S: Site, T: Terms> Desk<F, S, T> {
             → LeavesOnly S.moment S.images_since self.old.site self.new.site
             (KeepsEither (Fits T.trust F.gives T.sources) self.old.plan self.old.log
             (records_of self.old.moves) (entries.Failed moment attempt.rule attempt.number why)) }
+        ensures others { S.tells → StaysBeside S.may_leave S.moment S.images_since
+            (λ m. m ≢ self.old.log) self.old.site self.new.site }
         ensures never { S.ample self.old.site → IsFine self.old.trouble
             → IsErrOf result refused.Memory → ⊥ }
         ensures ample { KeepsAmple (S.ample self.old.site) (S.ample self.new.site)
@@ -500,6 +513,8 @@ impl<F: Commands, S: Site, T: Terms> Desk<F, S, T> {
             → LeavesOnly S.moment S.images_since self.old.site self.new.site
             (KeepsEither (Fits T.trust F.gives T.sources) self.old.plan self.old.log
             (records_of self.old.moves) (entries.Lost moment attempt.rule attempt.number)) }
+        ensures others { S.tells → StaysBeside S.may_leave S.moment S.images_since
+            (λ m. m ≢ self.old.log) self.old.site self.new.site }
         ensures never { S.ample self.old.site → IsFine self.old.trouble
             → IsErrOf result refused.Memory → ⊥ }
         ensures ample { KeepsAmple (S.ample self.old.site) (S.ample self.new.site)
@@ -566,6 +581,8 @@ impl<F: Commands, S: Site, T: Terms> Desk<F, S, T> {
             → LeavesOnly S.moment S.images_since self.old.site self.new.site
             (KeepsEither (Fits T.trust F.gives T.sources) self.old.plan self.old.log
             (records_of self.old.moves) (started_as self.old.moves rule moment link)) }
+        ensures others { S.tells → StaysBeside S.may_leave S.moment S.images_since
+            (λ m. m ≢ self.old.log) self.old.site self.new.site }
         ensures ample { KeepsAmple (S.ample self.old.site) (S.ample self.new.site)
             (S.count self.new.site) result }
     {
@@ -624,6 +641,8 @@ impl<F: Commands, S: Site, T: Terms> Desk<F, S, T> {
         ensures any_moment { S.tells → T.kept → IsFine self.old.trouble
             → LeavesOnly S.moment S.images_since self.old.site self.new.site
             (KeepsClaim (Fits T.trust F.gives T.sources) self.old link moment) }
+        ensures others { S.tells → StaysBeside S.may_leave S.moment S.images_since
+            (λ m. m ≢ self.old.log) self.old.site self.new.site }
         ensures ample { KeepsAmple (S.ample self.old.site) (S.ample self.new.site)
             (S.count self.new.site) result }
     {
@@ -659,6 +678,8 @@ impl<F: Commands, S: Site, T: Terms> Desk<F, S, T> {
             → LeavesOnly S.moment S.images_since self.old.site self.new.site
             (Keeps (Fits T.trust F.gives T.sources) self.old.plan self.old.log
             (records_of self.old.moves)) }
+        ensures others { S.tells → StaysBeside S.may_leave S.moment S.images_since
+            (λ _. Unit {0}) self.old.site self.new.site }
         ensures ample { KeepsAmple (S.ample self.old.site) (S.ample self.new.site)
             (S.count self.new.site) result }
     {
@@ -733,6 +754,8 @@ impl<F: Commands, S: Site, T: Terms> Desk<F, S, T> {
         ensures any_moment { S.tells → T.kept
             → LeavesOnly S.moment S.images_since self.old.site self.new.site
             (KeepsEnd (Fits T.trust F.gives T.sources) self.old moment) }
+        ensures others { S.tells → StaysBeside S.may_leave S.moment S.images_since
+            (λ m. m ≢ self.old.log) self.old.site self.new.site }
         ensures ample { KeepsAmple (S.ample self.old.site) (S.ample self.new.site)
             (S.count self.new.site) result }
     {
@@ -757,6 +780,8 @@ impl<F: Commands, S: Site, T: Terms> Desk<F, S, T> {
         ensures any_moment { S.tells → T.kept → IsFine self.old.trouble
             → LeavesOnly S.moment S.images_since self.old.site self.new.site
             (KeepsEnd (Fits T.trust F.gives T.sources) self.old moment) }
+        ensures others { S.tells → StaysBeside S.may_leave S.moment S.images_since
+            (λ m. m ≢ self.old.log) self.old.site self.new.site }
         ensures ample { KeepsAmple (S.ample self.old.site) (S.ample self.new.site)
             (S.count self.new.site) result }
     {
@@ -817,6 +842,8 @@ impl<F: Commands, S: Site, T: Terms> Desk<F, S, T> {
             → LeavesOnly S.moment S.images_since self.old.site self.new.site
             (Keeps (Fits T.trust F.gives T.sources) self.old.plan self.old.log
             (records_of self.old.moves)) }
+        ensures others { S.tells → StaysBeside S.may_leave S.moment S.images_since
+            (λ _. Unit {0}) self.old.site self.new.site }
         ensures ample { KeepsAmple (S.ample self.old.site) (S.ample self.new.site)
             (S.count self.new.site) result }
     {

@@ -14,7 +14,7 @@ ghost use Rattle.desk.specs.declared.answers.StartFault.TheVariants.{OtherFlow};
 ghost use Rattle.task_core.specs.Stands.{IsSameRun, Stands};
 ghost use Rattle.desk.specs.Openings.{AreDurable, early_fault, first_record, opened_plan, other_flow, plan_in};
 ghost use Rattle.desk.specs.Begins.{Admits, BeginsRun, KeepsOpening, Prepares, run_over, site_in};
-ghost use Rattle.desk.specs.Kept.{Fits, Keeps};
+ghost use Rattle.desk.specs.Kept.{Fits, Keeps, StaysBeside};
 ghost use Rattle.desk.specs.Room.{KeepsAmple};
 ghost use Rattle.desk.specs.State.{Takes};
 
@@ -188,6 +188,8 @@ impl<F: Commands, S: Site, T: Terms> Desk<F, S, T> {
             → LeavesOnly S.moment S.images_since site (site_in result)
             (KeepsOpening (Fits T.trust F.gives T.sources) plan options log.name history moment S.tells
             (S.files site)) }
+        ensures others { S.tells → StaysBeside S.may_leave S.moment S.images_since
+            (λ m. m ≢ log.name) site (site_in result) }
         ensures ample { KeepsAmple (S.ample site) (S.ample (site_in result)) (S.count (site_in result))
             result }
     {

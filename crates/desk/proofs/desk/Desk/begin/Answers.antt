@@ -1,7 +1,8 @@
-use Rattle.std.proofs.Common.{inl}
+use Rattle.std.proofs.Common.{◌≢◌, inl, subst}
 use Rattle.outside.proofs.Moments.{started}
-use Rattle.txn_log.specs.Logs.{IsAppended}
-use Rattle.desk.specs.Kept.{Fits}
+use Rattle.txn_log.specs.Logs.{IsAppended, LogState}
+use Rattle.desk.specs.Begins.{site_in}
+use Rattle.desk.specs.Kept.{Fits, StaysBeside}
 use Rattle.desk.proofs.Keeping.{beginning}
 use Rattle.desk.proofs.desk.Desk.begin.Goals as goal
 
@@ -27,3 +28,7 @@ returns-in-Err-clause-any_moment g c told kept =
       others = λ m other. now m;
     }))
     (told, kept)
+
+pub returns-in-Ok-clause-others : goal.returns-in-Ok-clause-others
+returns-in-Ok-clause-others g c told =
+    subst (λ (log : LogState). StaysBeside g.S.Site.may_leave g.S.Site.moment g.S.Site.images_since (λ m. m ≢ log.name) c.args.site (site_in c.begin_in_room.result)) c.reserve.ensures.same (c.begin_in_room.ensures.others told)

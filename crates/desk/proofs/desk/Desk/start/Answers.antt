@@ -1,12 +1,13 @@
-use Rattle.std.proofs.Common.{◌≡◌, ◌∙◌, ℕ, List, None, sym, subst, arith}
+use Rattle.std.proofs.Common.{◌≡◌, ◌≢◌, ◌∙◌, ℕ, List, None, sym, subst, arith}
 use Rattle.flow_types.specs.declared.records.Record.{Record}
 use Rattle.desk.specs.Openings.{early_fault}
 use Rattle.flow_types.specs.declared.plan.Plan.{Plan}
 use Rattle.run_history.specs.declared.options.Options.{Options}
-use Rattle.desk.specs.Begins.{Begins}
+use Rattle.desk.specs.Begins.{Begins, site_in}
 use Rattle.desk.specs.Kept.{IsLegal}
 use Rattle.desk.proofs.Beginning.{begins_run, few_listed, looking_moments, may_start, prepared, starting_moments}
 use Rattle.desk.proofs.Starting.{early_legal, early_room}
+use Rattle.desk.proofs.Others.{by_within, then_stays}
 use Rattle.desk.proofs.desk.Desk.start.Goals as goal
 
 pub begin-requires-clause-few : goal.begin-requires-clause-few
@@ -234,3 +235,8 @@ returns-in-Err-prepare-clause-any_moment g c told kept =
       honest = c.requires.sources;
     })
     c.prepare.ensures.any_moment told kept
+
+pub returns-in-Ok-prepare-clause-others : goal.returns-in-Ok-prepare-clause-others
+returns-in-Ok-prepare-clause-others g c told =
+    then_stays g.S.Site.may_leave g.S.Site.moment g.S.Site.images_since (λ m. m ≢ c.args.log.name) c.args.site c.prepare.new.site (site_in c.begin.result)
+    (by_within g.S.Site.may_leave g.S.Site.moment g.S.Site.images_since (λ m. m ≢ c.args.log.name) c.args.site c.prepare.new.site (c.prepare.ensures.within told) (c.prepare.ensures.any_moment told)) (c.begin.ensures.others told)
