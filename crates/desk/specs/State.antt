@@ -188,5 +188,5 @@ is_final next.Again = false
 -- what every call of a desk keeps
 abbrev pub Grows : {S : Type 0} → DeskState S → DeskState S → Type 0
 Grows before after =
-    IsPrefix before.moves after.moves × ((x : Stop) → before.stop ≡ Some x → after.stop ≡ Some x)
+    IsPrefix before.moves after.moves × ((x : Stop) → before.stop ≡ Some x → after.stop ≡ Some x) × (IsCut before.trouble → after.trouble ≡ before.trouble)
     × (after.plan ≡ before.plan) × (after.options ≡ before.options) × (after.log ≡ before.log) × (after.base ≡ before.base) × (after.faults ≡ before.faults)
