@@ -1,4 +1,4 @@
-use Rattle.std.proofs.Common.{◌∙◌, ◌∷◌, ◌++◌, [], List, Result, Ok, refl, ap, subst, sym, true, length}
+use Rattle.std.proofs.Common.{◌∙◌, ◌∷◌, ◌++◌, [], List, Result, Ok, refl, ap, subst, sym, length}
 use Rattle.flow_types.specs.declared.numbers.LinkNo.{LinkNo}
 use Rattle.std.specs.Vec.{vec_capacity}
 use Rattle.run_history.specs.declared.moves.Move.{Move}
