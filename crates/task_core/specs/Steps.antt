@@ -21,7 +21,7 @@ use Rattle.task_core.specs.declared.table.Started.{Started}
 use Rattle.task_core.specs.Ends.{Ends}
 use Rattle.task_core.specs.Links.{Changes, Joins, Leaves}
 use Rattle.task_core.specs.States.{HasAnswer, TableState, link_at}
-use Rattle.task_core.specs.Stands.{Claims, Closes, Stands, is_final}
+use Rattle.task_core.specs.Stands.{Claims, Closes, IsStill, Stands, is_final}
 
 -- the reply to a join
 abbrev pub joined : Result LinkNo JoinRefused → Reply
@@ -84,6 +84,6 @@ Steps t M (events.Fail rule attempt why) said after =
 Steps t M (events.Lose rule attempt) said after = Replies (closed rule) (λ answer. Closes t M rule attempt (λ moment. records.Lost moment rule attempt) answer after) said
 Steps t M (events.Leave link) said after = (said ≡ replies.Idle) × Leaves t M link after
 Steps t M events.Collect said after = (said ≡ replies.Idle) × (wanted t.plan t.options.mode (records_of M) ≡ None) × (after ≡ t)
-Steps t M events.End said after = Replies replies.Ended (λ answer. Ends t M answer after) said
+Steps t M events.End said after = Replies replies.Ended (λ answer. Ends t M answer after × IsStill t after) said
 Steps t M (events.Stop why) said after =
     (said ≡ replies.Stopped (is_some after.stop)) × (after ≡ record t { stop = stop_of t.plan t.options M t.stop why }) × Stands after M

@@ -5,7 +5,7 @@ ghost use Rattle.run_history.specs.declared.options.Mode.TheVariants.{Never};
 ghost use Rattle.task_core.specs.declared.step.Reply.TheVariants as replies;
 ghost use Rattle.task_core.specs.Ends.{Ends};
 ghost use Rattle.task_core.specs.States.{HasAnswer};
-ghost use Rattle.task_core.specs.Stands.{Stands};
+ghost use Rattle.task_core.specs.Stands.{IsStill, Stands};
 ghost use Rattle.task_core.specs.Steps.{MayEnd, MayStep, Steps, changed, claimed, closed, failed, joined};
 
 use crate::table::{Started, Table};
@@ -172,6 +172,7 @@ impl Table {
     fn end_once(&mut self) -> Check
         requires { MayEnd self.old }
         ensures ends { (moves : List Move) → Stands self.old moves → Ends self.old moves result self.new }
+        ensures still { IsStill self.old self.new }
         ensures answered { HasAnswer self.new }
     {
         match self.answer() {

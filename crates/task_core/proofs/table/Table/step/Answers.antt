@@ -84,7 +84,7 @@ returns-in-Collect-clause-steps c before stands =
 
 pub returns-in-End-clause-steps : goal.returns-in-End-clause-steps
 returns-in-End-clause-steps c before stands =
-    subst (λ (e : Event). Steps c.args.self.now before e (replies.Ended c.end_once.result) c.end_once.new.self) (sym c.in-End.is) (c.end_once.result, refl, c.end_once.ensures.ends before stands)
+    subst (λ (e : Event). Steps c.args.self.now before e (replies.Ended c.end_once.result) c.end_once.new.self) (sym c.in-End.is) (c.end_once.result, refl, (c.end_once.ensures.ends before stands, c.end_once.ensures.still))
 
 pub returns-in-Stop-clause-steps : goal.returns-in-Stop-clause-steps
 returns-in-Stop-clause-steps c before stands =
