@@ -15,6 +15,3 @@ pub use reading::{
 };
 pub use rows::{PassedRow, Row, skip_counted_rows, skip_rows, take_counted_rows, take_rows};
 pub use writing::{PutRow, put_bytes, put_counted, put_rows, put_u8, put_u16, put_u32, put_u64};
-
-#[cfg(test)]
-mod tests;

@@ -7,6 +7,7 @@ mod flow;
 mod job;
 mod laws;
 mod lists;
+mod messages;
 mod name;
 mod numbers;
 mod plan;
@@ -17,13 +18,11 @@ pub use examples::{
     texts_that_give_names, texts_that_give_no_name,
 };
 pub use flow::{Pair, RawFile, RawFlow, RawRule, SizeBound};
-pub use job::{Failure, Given, Job, Outcome, Task, Want};
+pub use job::{Failure, Given, Job, Outcome, Report, Start, Task, Want};
 pub use laws::{names_are_fixed, serial_run_is_fixed};
 pub use lists::{Bytes, Memory, Rows, Text};
+pub use messages::{Key, Message};
 pub use name::{Name, NameFault, form_of};
 pub use numbers::{Amounts, AttemptNo, Content, Digest, FileNo, LinkNo, Needs, RuleNo};
 pub use plan::{FileRow, Plan, Port, Rule};
 pub use records::{EndKind, Record};
-
-#[cfg(test)]
-mod tests;

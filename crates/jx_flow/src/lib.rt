@@ -18,6 +18,3 @@ pub use examples::worked_flows;
 pub use fault::JxFlowFault;
 pub use flow::read_jx;
 pub use laws::flows_fit_their_limits;
-
-#[cfg(test)]
-mod tests;

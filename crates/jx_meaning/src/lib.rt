@@ -15,6 +15,3 @@ pub use fault::EvalFault;
 pub use function::Function;
 pub use laws::{a_fault_is_the_only_one, a_value_excludes_a_fault, a_value_is_the_only_one};
 pub use scope::{Binding, JxScope};
-
-#[cfg(test)]
-mod tests;

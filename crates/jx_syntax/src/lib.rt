@@ -36,6 +36,3 @@ pub use operator::{Operator, Sign};
 pub use parser::parse;
 pub use value::{JxPair, JxValue};
 pub use write::{value_text, write_char};
-
-#[cfg(test)]
-mod tests;

@@ -16,6 +16,3 @@ pub use fault::JxFault;
 pub use pieces::front;
 pub use token::{Kind, Piece, Token};
 pub use tokens::{cut_off, tokens_of};
-
-#[cfg(test)]
-mod tests;

@@ -40,6 +40,3 @@ pub use ranges::range_of;
 pub use size::{Size, size_of};
 pub use slices::sliced;
 pub use templates::template_of;
-
-#[cfg(test)]
-mod tests;

@@ -14,6 +14,3 @@ pub use fault::RecordFault;
 pub use laws::records_are_spelled_once;
 pub use reading::read_record;
 pub use writing::{record_len, write_record, write_record_at};
-
-#[cfg(test)]
-mod tests;

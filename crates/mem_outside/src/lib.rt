@@ -14,6 +14,3 @@ pub use blank::{Blank, BlankRunner};
 pub use mem_sink::MemSink;
 pub use mem_site::MemSite;
 pub use table_runner::TableRunner;
-
-#[cfg(test)]
-mod tests;

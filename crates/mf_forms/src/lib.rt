@@ -18,6 +18,3 @@ pub use heads::{HeadFiles, files_of_head};
 pub use laws::quotes_end_at_the_next_same_mark;
 pub use numbers::{MOST_FILE_BYTES, number_within, size_bound_in};
 pub use quotes::is_open_at_end;
-
-#[cfg(test)]
-mod tests;

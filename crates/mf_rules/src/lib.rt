@@ -17,6 +17,3 @@ pub use examples::worked_flows;
 pub use flow::read_make;
 pub use laws::flows_fit_their_limits;
 pub use names::MAX_COMMAND;
-
-#[cfg(test)]
-mod tests;

@@ -17,6 +17,3 @@ pub use lines::{Line, MAX_TEXT, logical_lines};
 pub use names::{is_variable, name_len};
 pub use output::Expanded;
 pub use scope::Scope;
-
-#[cfg(test)]
-mod tests;

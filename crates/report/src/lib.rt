@@ -11,6 +11,3 @@ pub use cause::{Cause, FlowFault, Kind};
 pub use examples::{
     lines_of_a_run, lines_of_faults, lines_of_jx, lines_of_refusals, lines_of_rules, lines_of_texts,
 };
-
-#[cfg(test)]
-mod tests;

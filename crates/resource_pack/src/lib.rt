@@ -8,6 +8,3 @@ mod pack;
 
 pub use occupied::{Occupied, Stated};
 pub use pack::Pack;
-
-#[cfg(test)]
-mod tests;

@@ -24,6 +24,3 @@ pub use laws::{faultless_plans_are_valid, serial_order_is_an_order, spelling_tel
 pub use limits::fits_limits;
 pub use order::serial_order;
 pub use plan::plan_of;
-
-#[cfg(test)]
-mod tests;
