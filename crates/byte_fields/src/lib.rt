@@ -1,5 +1,5 @@
-//! Fields of the project's formats: numbers with the highest byte first, so many bytes, bytes behind their length, and
-//! rows behind their count.
+//! Fields of the project's formats: numbers with the highest byte first, so many bytes, bytes
+//! behind their length, and rows behind their count.
 #![tactic(auto)]
 
 mod fault;

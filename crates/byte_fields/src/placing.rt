@@ -1,5 +1,5 @@
-//! Writers of fields into bytes that are there. Each writes at a place, keeps what stands before it, and answers the place
-//! behind what it wrote.
+//! Writers of fields into bytes that are there. Each writes at a place, keeps what stands before
+//! it, and answers the place behind what it wrote.
 ghost use Rattle.std.specs.Prelude.{◌≡◌, ◌≤◌, ◌+◌, ◌++◌, length, take};
 ghost use Rattle.byteorder.specs.Endian.{big_bytes};
 

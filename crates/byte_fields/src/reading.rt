@@ -95,7 +95,8 @@ fn begun_number(seen: usize, bytes: &[u8]) -> u32
     BigEndian::read_u32(&number)
 }
 
-/// A number of 4 bytes up to this. A greater one is a fault at the first byte with which it is greater, whatever follows.
+/// A number of 4 bytes up to this. A greater one is a fault at the first byte with which it is
+/// greater, whatever follows.
 pub fn u32_up_to(most: u32, bytes: &[u8]) -> Result<(u32, &[u8]), FieldFault>
     ensures { Gives (λ x. (x.0, x.1.now)) result (up_to_at most bytes.now) }
 {

@@ -1,7 +1,8 @@
 //! Rows of one kind, one after the other.
 ghost use Rattle.std.specs.Prelude.{◌≡◌, List, ℕ, Result, Ok, IfOk};
 ghost use Rattle.byte_fields.specs.declared.fault.FieldFault.{FieldFault};
-ghost use Rattle.byte_fields.specs.Reading.{Gives, GivesInMemory, Reader, skipping, rows_at, counted_rows_at};
+ghost use Rattle.byte_fields.specs.Reading.{Gives, GivesInMemory, Reader};
+ghost use Rattle.byte_fields.specs.Reading.{skipping, rows_at, counted_rows_at};
 
 use crate::fault::{FieldFault, TakeFault};
 use crate::reading::u32_field;

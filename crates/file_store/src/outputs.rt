@@ -10,10 +10,11 @@ use crate::put::put_file;
 use flow_types::{Bytes, Plan, Port};
 use outside::{Fault, Site};
 
-/// Writes one content for each of these ports' files, one file after the other, so that they outlive a crash.
+/// Writes one content for each of these ports' files, one file after the other, so that they
+/// outlive a crash.
 ///
-/// At Ok each crash leaves all of them. At any moment a crash leaves under every other name what it might have left
-/// before.
+/// At Ok each crash leaves all of them. At any moment a crash leaves under every other name what it
+/// might have left before.
 pub fn put_outputs<S: Site>(
     site: &mut S,
     plan: &Plan,
@@ -25,7 +26,8 @@ pub fn put_outputs<S: Site>(
     requires count { length outs.now ≡ length ports.now }
     ensures durable { OnOk result (S.tells
         → Last plan.now (files_of ports.now) outs.now (length ports.now) (S.may_leave site.new)) }
-    ensures crash { S.tells → StayBeside plan.now (files_of ports.now) (S.may_leave site.old) (S.may_leave site.new) }
+    ensures crash { S.tells
+        → StayBeside plan.now (files_of ports.now) (S.may_leave site.old) (S.may_leave site.new) }
     ensures any_moment { S.tells → LeavesOnly S.moment S.images_since site.old site.new
         (IsBeside plan.now (files_of ports.now) (S.may_leave site.old)) }
     ensures cause { HasCause (S.count site.old) (S.count site.new) result }

@@ -7,7 +7,8 @@ ghost use Rattle.file_store.specs.Elsewhere.{IsElsewhere};
 use flow_types::Name;
 use outside::{Fault, Site};
 
-/// Makes these bytes the file's content: it is written over from its beginning, and cut to their length.
+/// Makes these bytes the file's content: it is written over from its beginning, and cut to their
+/// length.
 fn overwrite<S: Site>(site: &mut S, name: &Name, bytes: &[u8]) -> Result<(), Fault>
     ensures written { OnOk result (S.tells → S.files site.new name.now ≡ Some bytes.now) }
     ensures others { S.tells → (m : List ℕ) → m ≢ name.now
@@ -25,8 +26,8 @@ fn overwrite<S: Site>(site: &mut S, name: &Name, bytes: &[u8]) -> Result<(), Fau
 
 /// Makes these bytes the file's content, and makes it outlive a crash. Three calls of the site.
 ///
-/// At Ok each crash leaves these bytes under the name. At any moment a crash leaves under every other name what it might
-/// have left before.
+/// At Ok each crash leaves these bytes under the name. At any moment a crash leaves under every
+/// other name what it might have left before.
 pub fn put_file<S: Site>(site: &mut S, name: &Name, bytes: &[u8]) -> Result<(), Fault>
     ensures written { OnOk result (S.tells → S.files site.new name.now ≡ Some bytes.now) }
     ensures durable { OnOk result (S.tells → (file : Option (List ℕ))

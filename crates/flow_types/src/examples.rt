@@ -45,7 +45,8 @@ pub fn later_rule_runs_first()
     ensures { serial_order two_rules ≡ 1 ∷ 0 ∷ [] }
 {}
 
-/// Where each command writes its inputs one after the other, a source's content comes through both rules.
+/// Where each command writes its inputs one after the other, a source's content comes through both
+/// rules.
 pub fn serial_run_of_two_rules()
     ensures source { serial two_rules joins_inputs sources_of_two_rules 0 ≡ Some (codes "abc") }
     ensures first { serial two_rules joins_inputs sources_of_two_rules 1 ≡ Some (codes "abc") }

@@ -12,16 +12,19 @@ use crate::Fault;
 use flow_types::{Job, Outcome};
 use std::alloc::Global;
 
-/// What commands make of their inputs. It has no calls: each member names a function and a relation.
+/// What commands make of their inputs. It has no calls: each member names a function and a
+/// relation.
 pub trait Commands: Send + Sync + Drop {
-    /// The outputs of a command, by its environment, its inputs and the names of its outputs. Bounds don't enter it.
+    /// The outputs of a command, by its environment, its inputs and the names of its outputs.
+    /// Bounds don't enter it.
     ghost gives: { Function };
 
     /// With which failures a job may end.
     ghost may_fail: { JobValue → FailureValue → Type 0 };
 
     /// One content for each output.
-    ghost one_each: { (command : List ℕ) (env : List Pair) (inputs : List Given) (outputs : List (List ℕ)) → length (gives command env inputs outputs) ≡ length outputs };
+    ghost one_each: { (command : List ℕ) (env : List Pair) (inputs : List Given)
+        (outputs : List (List ℕ)) → length (gives command env inputs outputs) ≡ length outputs };
 }
 
 /// Runs one command at a time over its inputs.
@@ -38,11 +41,12 @@ pub trait Runner<F: Commands>: Send + Drop {
     /// A count that rises by one at each failed command.
     ghost failures: { Self → ℕ };
 
-    /// Runs the job. `NotRun` is never answered. Each content of a success is within its output's bound, and together
-    /// they are at most 67,108,864 bytes.
+    /// Runs the job. `NotRun` is never answered. Each content of a success is within its output's
+    /// bound, and together they are at most 67,108,864 bytes.
     fn run(&mut self, alloc: Global, job: &Job) -> Result<Outcome, Fault>
         ensures shape { IfOk result (IsShaped job.now) }
-        ensures honest { IfOk result (λ outcome. tells self.old job.now → IsHonest (given_by F.gives job.now) (F.may_fail job.now) outcome) }
+        ensures honest { IfOk result (λ outcome. tells self.old job.now
+            → IsHonest (given_by F.gives job.now) (F.may_fail job.now) outcome) }
         ensures still_tells { (other : JobValue) → tells self.old other → tells self.new other }
         ensures succeeds { sure self.old → IfOk result IsSuccess }
         ensures never_fails { sure self.old → IsErrOf result Fault.Failed → ⊥ }

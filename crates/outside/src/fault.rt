@@ -37,7 +37,8 @@ impl From<flow_types::Memory> for Fault {
     }
 }
 
-/// Counts a failure. A count at its last value stays there, and want of memory is answered in its place.
+/// Counts a failure. A count at its last value stays there, and want of memory is answered in its
+/// place.
 pub fn failed(count: &mut u64) -> Fault
     ensures failed { result ≡ Fault.Failed → count.new ≡ count.old + 1 }
     ensures memory { result ≡ Fault.Memory → (count.old ≡ 2 ^ 64 - 1) × (count.new ≡ count.old) }

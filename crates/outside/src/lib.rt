@@ -1,7 +1,8 @@
 //! The outside, as the product sees it: files, commands and a place to print to.
 //!
-//! Each object counts its faults, and answers [`Fault::Failed`] only in a call in which its count rose. What an object
-//! tells of itself stands in ghost members; what it doesn't tell is open for it.
+//! Each object counts its faults, and answers [`Fault::Failed`] only in a call in which its count
+//! rose. What an object tells of itself stands in ghost members; what it doesn't tell is open for
+//! it.
 #![tactic(auto)]
 
 mod commands;

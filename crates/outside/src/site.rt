@@ -1,7 +1,9 @@
 //! A folder of named files: what reads give, and what a crash may leave.
-ghost use Rattle.std.specs.Prelude.{◌≡◌, ◌≤◌, ◌<◌, ◌-◌, ◌^◌, List, ℕ, length, take, Option, Some, None, IfOk, IsSome, option_map};
+ghost use Rattle.std.specs.Prelude.{◌≡◌, ◌≤◌, ◌<◌, ◌-◌, ◌^◌, List, ℕ, length, take};
+ghost use Rattle.std.specs.Prelude.{Option, Some, None, IfOk, IsSome, option_map};
 ghost use Rattle.outside.specs.Causes.{HasCause, IsAmple};
-ghost use Rattle.outside.specs.Disk.{Outcomes, IsImage, IsTorn, IsShortened, IsRemoved, Within, Follows, Settles, Elapses};
+ghost use Rattle.outside.specs.Disk.{Outcomes, IsImage, IsTorn, IsShortened};
+ghost use Rattle.outside.specs.Disk.{IsRemoved, Within, Follows, Settles, Elapses};
 ghost use Rattle.outside.specs.Files.{Files, content, written, Reads, Sets, Keeps};
 
 use crate::Fault;
@@ -9,7 +11,8 @@ use flow_types::Name;
 
 /// Files by name.
 pub trait Site: Send + Drop {
-    /// Whether the site tells what its files hold. Where it doesn't, only the clauses on faults hold.
+    /// Whether the site tells what its files hold. Where it doesn't, only the clauses on faults
+    /// hold.
     ghost tells: { Type 0 };
 
     /// What a read gives under each name.
@@ -32,7 +35,8 @@ pub trait Site: Send + Drop {
 
     /// The length of the file in bytes, None where there is none.
     fn size(&mut self, name: &Name) -> Result<Option<u64>, Fault>
-        ensures size { IfOk result (λ size. tells → size ≡ option_map length (files self.old name.now)) }
+        ensures size { IfOk result
+            (λ size. tells → size ≡ option_map length (files self.old name.now)) }
         ensures files { tells → files self.new ≡ files self.old }
         ensures crash { tells → Within (may_leave self.old) (may_leave self.new) }
         ensures time { tells → Elapses (moment self.old) (moment self.new)
@@ -40,11 +44,12 @@ pub trait Site: Send + Drop {
         ensures cause { HasCause (count self.old) (count self.new) result }
         ensures ample { IsAmple (ample self.old) (ample self.new) (count self.new) result };
 
-    /// Fills from the bytes that begin at `at`, and answers how many it gave: the least of the room and of what follows
-    /// `at`. An absent file has no bytes.
+    /// Fills from the bytes that begin at `at`, and answers how many it gave: the least of the room
+    /// and of what follows `at`. An absent file has no bytes.
     fn read(&mut self, name: &Name, at: u64, into: &mut [u8]) -> Result<usize, Fault>
         ensures bound { IfOk result (λ count. count ≤ length into.new) }
-        ensures bytes { IfOk result (λ count. tells → Reads (content (files self.old name.now)) at into.old into.new count) }
+        ensures bytes { IfOk result (λ count. tells
+            → Reads (content (files self.old name.now)) at into.old into.new count) }
         ensures files { tells → files self.new ≡ files self.old }
         ensures crash { tells → Within (may_leave self.old) (may_leave self.new) }
         ensures time { tells → Elapses (moment self.old) (moment self.new)
@@ -55,8 +60,11 @@ pub trait Site: Send + Drop {
     /// Writes over what is there and past the end, and makes the file where there is none.
     fn write(&mut self, name: &Name, at: u64, bytes: &[u8]) -> Result<(), Fault>
         requires { tells → at ≤ length (content (files self.old name.now)) }
-        ensures files { tells → Sets result name.now (Some (written at bytes.now (content (files self.old name.now)))) (files self.old) (files self.new) }
-        ensures crash { tells → Follows result name.now (IsTorn at (length bytes.now)) (may_leave self.old) (may_leave self.new) }
+        ensures files { tells
+            → Sets result name.now (Some (written at bytes.now (content (files self.old name.now))))
+            (files self.old) (files self.new) }
+        ensures crash { tells → Follows result name.now
+            (IsTorn at (length bytes.now)) (may_leave self.old) (may_leave self.new) }
         ensures time { tells → Elapses (moment self.old) (moment self.new)
             (images_since self.old) (images_since self.new) (may_leave self.new) }
         ensures cause { HasCause (count self.old) (count self.new) result }
@@ -66,8 +74,11 @@ pub trait Site: Send + Drop {
     fn cut(&mut self, name: &Name, len: u64) -> Result<(), Fault>
         requires there { tells → IsSome (files self.old name.now) }
         requires within { tells → len ≤ length (content (files self.old name.now)) }
-        ensures files { tells → Sets result name.now (Some (take len (content (files self.old name.now)))) (files self.old) (files self.new) }
-        ensures crash { tells → Follows result name.now (IsShortened len) (may_leave self.old) (may_leave self.new) }
+        ensures files { tells
+            → Sets result name.now (Some (take len (content (files self.old name.now))))
+            (files self.old) (files self.new) }
+        ensures crash { tells
+            → Follows result name.now (IsShortened len) (may_leave self.old) (may_leave self.new) }
         ensures time { tells → Elapses (moment self.old) (moment self.new)
             (images_since self.old) (images_since self.new) (may_leave self.new) }
         ensures cause { HasCause (count self.old) (count self.new) result }
@@ -76,7 +87,8 @@ pub trait Site: Send + Drop {
     /// Makes what stands under the name outlive a crash. The name may be absent.
     fn sync(&mut self, name: &Name) -> Result<(), Fault>
         ensures files { tells → Keeps result name.now (files self.old) (files self.new) }
-        ensures crash { tells → Settles result name.now (files self.new) (may_leave self.old) (may_leave self.new) }
+        ensures crash { tells
+            → Settles result name.now (files self.new) (may_leave self.old) (may_leave self.new) }
         ensures time { tells → Elapses (moment self.old) (moment self.new)
             (images_since self.old) (images_since self.new) (may_leave self.new) }
         ensures cause { HasCause (count self.old) (count self.new) result }
@@ -85,7 +97,8 @@ pub trait Site: Send + Drop {
     /// Removes the file. The name may be absent.
     fn remove(&mut self, name: &Name) -> Result<(), Fault>
         ensures files { tells → Sets result name.now None (files self.old) (files self.new) }
-        ensures crash { tells → Follows result name.now IsRemoved (may_leave self.old) (may_leave self.new) }
+        ensures crash { tells
+            → Follows result name.now IsRemoved (may_leave self.old) (may_leave self.new) }
         ensures time { tells → Elapses (moment self.old) (moment self.new)
             (images_since self.old) (images_since self.new) (may_leave self.new) }
         ensures cause { HasCause (count self.old) (count self.new) result }
