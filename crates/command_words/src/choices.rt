@@ -3,7 +3,9 @@ ghost use Rattle.std.specs.Prelude.{◌≡◌, ◌≤◌, IfSome, option_map};
 ghost use Rattle.clap.specs.Words.{first_of};
 ghost use Rattle.command_words.specs.Found.{rows_in};
 ghost use Rattle.command_words.specs.Ranges.{IsServiceInRange, AreLimitsInRange, AreAmountsInRange};
-ghost use Rattle.command_words.specs.Choices.{transport_named, mode_named, transport_in, mode_in, service_in, limits_in, local_amounts_in, work_in, language_in};
+ghost use Rattle.command_words.specs.Choices.{transport_named, mode_named, transport_in};
+ghost use Rattle.command_words.specs.Choices.{mode_in, service_in, limits_in};
+ghost use Rattle.command_words.specs.Choices.{local_amounts_in, work_in, language_in};
 
 use crate::options::{Language, Limits, Mode, Service, Transport, Work};
 use crate::values::{flag, number, optional_number, value_of};

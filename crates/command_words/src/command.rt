@@ -2,7 +2,8 @@
 ghost use Rattle.std.specs.Prelude.{◌≡◌, IfOk, codes, Some};
 ghost use Rattle.clap.specs.Words.{app_of, new_app, new_rule, with_rule};
 ghost use Rattle.clap.specs.declared.builder.action.ArgAction.TheVariants.{SetTrue};
-ghost use Rattle.command_words.specs.Command.{long_option, long_flag, place, run_options, amount_options, work_options, command, ◌with◌};
+ghost use Rattle.command_words.specs.Command.{long_option, long_flag, place, run_options};
+ghost use Rattle.command_words.specs.Command.{amount_options, work_options, command, ◌with◌};
 ghost use Rattle.command_words.specs.Peers.{worker_command, foreman_command};
 
 use clap::{Arg, ArgAction, Command};

@@ -1,5 +1,6 @@
 //! Worked command lines, which the definitions decide.
-ghost use Rattle.command_words.specs.Examples.{CommandLines, NoCommandLines, UnbuiltCommandLines, PeerCommandLines};
+ghost use Rattle.command_words.specs.Examples.{CommandLines, NoCommandLines};
+ghost use Rattle.command_words.specs.Examples.{UnbuiltCommandLines, PeerCommandLines};
 
 /// Command lines of `makeflow`, and what they choose.
 pub fn command_lines()

@@ -1,8 +1,9 @@
 //! The command lines of `makeflow`, `work_queue_worker` and `work_queue_foreman`.
 //!
-//! What stands: which words are a command line of each program, and what they choose, as `clap`'s simple command reads
-//! them. No other crate sees `clap`: the crates above see the options and the definition of them (`options_of`,
-//! `worker_options_of`, `foreman_options_of`). There is no help text, so `--help` and `--version` are words outside.
+//! What stands: which words are a command line of each program, and what they choose, as `clap`'s
+//! simple command reads them. No other crate sees `clap`: the crates above see the options and the
+//! definition of them (`options_of`, `worker_options_of`, `foreman_options_of`). There is no help
+//! text, so `--help` and `--version` are words outside.
 #![tactic(auto)]
 
 mod choices;

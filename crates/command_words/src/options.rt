@@ -50,8 +50,8 @@ pub struct Limits {
     pub retries: u32,
     /// The most bytes that made files take, by `--storage-limit`: 0 to 2^60, no limit by default.
     pub storage: Option<u64>,
-    /// How often the wait for workers ends with nothing heard before the run gives up, by `--idle-limit`:
-    /// 1 to 1,000,000,000, which is the default.
+    /// How often the wait for workers ends with nothing heard before the run gives up, by
+    /// `--idle-limit`: 1 to 1,000,000,000, which is the default.
     pub idle: u32,
 }
 
@@ -80,8 +80,8 @@ pub struct Options {
     pub service: Service,
     /// What the run may use up.
     pub limits: Limits,
-    /// What there is on this machine, by `--local-cores`, `--local-memory` and `--local-disk`, each 0 to
-    /// 1,000,000,000: by default 64 cores, 1,000,000 MB and 1,000,000,000 MB.
+    /// What there is on this machine, by `--local-cores`, `--local-memory` and `--local-disk`, each
+    /// 0 to 1,000,000,000: by default 64 cores, 1,000,000 MB and 1,000,000,000 MB.
     pub local: Amounts,
     /// When files are removed, by `-g`.
     pub mode: Mode,
@@ -98,10 +98,11 @@ pub struct Options {
 /// What a command line of `work_queue_worker` chooses.
 #[derive(Drop)]
 pub struct WorkerOptions {
-    /// What the worker has, by `--cores`, `--memory` and `--disk`, each 0 to 1,000,000,000: by default 4 cores,
-    /// 4,096 MB and 16,384 MB.
+    /// What the worker has, by `--cores`, `--memory` and `--disk`, each 0 to 1,000,000,000: by
+    /// default 4 cores, 4,096 MB and 16,384 MB.
     pub total: Amounts,
-    /// The size of its cache in MB of 1,048,576 bytes, by `--cache`: 0 to 1,000,000, 4,096 by default.
+    /// The size of its cache in MB of 1,048,576 bytes, by `--cache`: 0 to 1,000,000, 4,096 by
+    /// default.
     pub cache: u32,
     /// HOST, as it is given: where the master or foreman is.
     pub host: Text,
@@ -114,7 +115,8 @@ pub struct WorkerOptions {
 pub struct ForemanOptions {
     /// The port at which workers are met, by `-p`: from 1, 9123 by default.
     pub listening: u16,
-    /// The size of its cache in MB of 1,048,576 bytes, by `--cache`: 0 to 1,000,000, 4,096 by default.
+    /// The size of its cache in MB of 1,048,576 bytes, by `--cache`: 0 to 1,000,000, 4,096 by
+    /// default.
     pub cache: u32,
     /// HOST, as it is given: where the master is.
     pub host: Text,

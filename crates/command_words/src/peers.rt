@@ -2,7 +2,9 @@
 ghost use Rattle.std.specs.Prelude.{◌≡◌, Some, None, IfOk, IsErrOf, map};
 ghost use Rattle.std.specs.String.{string_bytes};
 ghost use Rattle.command_words.specs.Found.{rows_in};
-ghost use Rattle.command_words.specs.Peers.{port_in, peer_amounts_in, worker_options_in, foreman_options_in, worker_options_of, foreman_options_of};
+ghost use Rattle.command_words.specs.Peers.{port_in, peer_amounts_in};
+ghost use Rattle.command_words.specs.Peers.{worker_options_in, foreman_options_in};
+ghost use Rattle.command_words.specs.Peers.{worker_options_of, foreman_options_of};
 
 use crate::command::{foreman_command_of, worker_command_of};
 use crate::fault::WordsFault;
@@ -99,7 +101,8 @@ fn foreman_options_in(alloc: Global, matches: &ArgMatches<'_>) -> Result<Foreman
     })
 }
 
-/// What the words of a command line of `work_queue_worker` choose. The first word is the program's name.
+/// What the words of a command line of `work_queue_worker` choose. The first word is the program's
+/// name.
 #[tactic(auto, unfolding(crate::specs::Peers::worker_options_of))]
 pub fn read_worker_words(alloc: Global, words: &[String]) -> Result<WorkerOptions, WordsFault>
     ensures ok { IfOk result (λ options.
@@ -112,7 +115,8 @@ pub fn read_worker_words(alloc: Global, words: &[String]) -> Result<WorkerOption
     worker_options_in(alloc, &matches)
 }
 
-/// What the words of a command line of `work_queue_foreman` choose. The first word is the program's name.
+/// What the words of a command line of `work_queue_foreman` choose. The first word is the program's
+/// name.
 #[tactic(auto, unfolding(crate::specs::Peers::foreman_options_of))]
 pub fn read_foreman_words(alloc: Global, words: &[String]) -> Result<ForemanOptions, WordsFault>
     ensures ok { IfOk result (λ options.

@@ -1,7 +1,8 @@
 // Options that aren't built yet.
 ghost use Rattle.std.specs.Prelude.{◌≡◌};
 ghost use Rattle.command_words.specs.Found.{rows_in};
-ghost use Rattle.command_words.specs.Unbuilt.{asks_log, asks_collection, asks_generated, asks_workers, asks_unbuilt};
+ghost use Rattle.command_words.specs.Unbuilt.{asks_log, asks_collection, asks_generated};
+ghost use Rattle.command_words.specs.Unbuilt.{asks_workers, asks_unbuilt};
 
 use crate::values::{flag, has_value, is_given};
 use clap::ArgMatches;

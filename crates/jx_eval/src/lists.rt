@@ -101,7 +101,8 @@ impl<'a> State<'a> {
         value: Seen<'a>,
     ) -> Result<Step<'a>, EvalFault>
         ensures kept { (ts : List Tree) (s : Scope) → Keeps ts s self.new result
-            (listed ts s self.old making.entry (and_then (turn_of ts (bound_on self.old.local.items s)
+            (listed ts s self.old making.entry
+            (and_then (turn_of ts (bound_on self.old.local.items s)
             making.entry.place making.entry.body turn.entry (plain (seen_value value.entry))
             (map plain making.entry.done) self.old.count)
             (λ done n. and_then (turns_of ts (bound_on self.old.local.items s)

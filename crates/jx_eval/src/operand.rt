@@ -114,7 +114,8 @@ impl<'a> Operand<'a> {
     }
     /// The items, where the value is a list. Those of a list of the scope aren't copied.
     pub(crate) fn into_turns(self, alloc: Global) -> Result<Option<Turns<'a>>, Memory>
-        ensures { IfOk result (λ turns. option_map (map plain) turns ≡ items_in (plain self.entry)) }
+        ensures { IfOk result
+            (λ turns. option_map (map plain) turns ≡ items_in (plain self.entry)) }
     {
         match self.held {
             Held::Own(value) => Ok(Turns::own(value)),

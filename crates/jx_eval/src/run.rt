@@ -51,7 +51,8 @@ impl<'a> State<'a> {
 }
 
 /// The value of a node of an expression and the number of nodes begun by then, of which so many
-/// were begun before, or the first fault. A node too many is a fault: no more than 10,000,000 are begun.
+/// were begun before, or the first fault. A node too many is a fault: no more than 10,000,000 are
+/// begun.
 ///
 /// It walks once, by a stack on the heap, so a long or deep expression takes no call depth. A value
 /// of the scope isn't copied to be looked at.

@@ -1,6 +1,7 @@
 //! The state of the evaluator.
 ghost use Rattle.std.specs.Prelude.{◌≡◌, ◌<◌, ◌≤◌, ◌+◌, ◌∷◌, [], List, ℕ, Result, vec_len};
-ghost use Rattle.std.specs.Prelude.{map, reverse, option_map, option_copied, IfOk, IfErr, MatchResult};
+ghost use Rattle.std.specs.Prelude.{map, reverse, option_map, option_copied};
+ghost use Rattle.std.specs.Prelude.{IfOk, IfErr, MatchResult};
 ghost use Rattle.jx_syntax.specs.Tree.{Tree};
 ghost use Rattle.jx_meaning.specs.Answers.{Gives};
 ghost use Rattle.jx_meaning.specs.Numbers.{Answer};

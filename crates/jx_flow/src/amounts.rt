@@ -4,7 +4,8 @@ ghost use Rattle.jx_meaning.specs.Values.{plain};
 ghost use Rattle.jx_values.specs.Kinds.{plain_pair};
 ghost use Rattle.jx_flow.specs.Answers.{Gives};
 ghost use Rattle.jx_flow.specs.Reading.{each};
-ghost use Rattle.jx_flow.specs.Amounts.{amounts_in, resources_of, or_general, over, needs_of, category_of};
+ghost use Rattle.jx_flow.specs.Amounts.{amounts_in, resources_of, or_general};
+ghost use Rattle.jx_flow.specs.Amounts.{over, needs_of, category_of};
 ghost use Rattle.jx_flow.specs.Amounts.{categories_by, listed, general_of, unstated};
 
 use crate::fault::JxFlowFault;

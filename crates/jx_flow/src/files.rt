@@ -4,7 +4,8 @@ ghost use Rattle.jx_meaning.specs.Values.{plain};
 ghost use Rattle.jx_values.specs.Kinds.{plain_pair, entries_in};
 ghost use Rattle.jx_flow.specs.Answers.{Gives};
 ghost use Rattle.jx_flow.specs.Reading.{each};
-ghost use Rattle.jx_flow.specs.Files.{named_file, file_of, bound_by, output_of, outputs_of, inputs_of};
+ghost use Rattle.jx_flow.specs.Files.{named_file, file_of, bound_by};
+ghost use Rattle.jx_flow.specs.Files.{output_of, outputs_of, inputs_of};
 ghost use Rattle.jx_flow.specs.Files.{files_in, bounds_in};
 
 use crate::fault::JxFlowFault;

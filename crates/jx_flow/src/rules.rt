@@ -4,7 +4,8 @@ ghost use Rattle.jx_meaning.specs.Values.{plain};
 ghost use Rattle.jx_values.specs.Kinds.{plain_pair};
 ghost use Rattle.jx_flow.specs.Answers.{Gives};
 ghost use Rattle.jx_flow.specs.Reading.{each_at};
-ghost use Rattle.jx_flow.specs.Rules.{command_of, local_of, action_of, setting_of, made_of, rule_of};
+ghost use Rattle.jx_flow.specs.Rules.{command_of, local_of, action_of};
+ghost use Rattle.jx_flow.specs.Rules.{setting_of, made_of, rule_of};
 
 use crate::amounts::{Category, general_of, resources_of};
 use crate::fault::JxFlowFault;

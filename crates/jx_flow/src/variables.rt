@@ -1,11 +1,14 @@
 //! Environments.
-ghost use Rattle.std.specs.Prelude.{◌≡◌, ◌++◌, ◌+◌, ◌≤◌, map, filter, length, option_map, option_copied, is_some, not, nat_lt, unwrap_or, if◌then◌else◌, IfOk};
+ghost use Rattle.std.specs.Prelude.{◌≡◌, ◌++◌, ◌+◌, ◌≤◌, map, filter, length};
+ghost use Rattle.std.specs.Prelude.{option_map, option_copied, is_some, not};
+ghost use Rattle.std.specs.Prelude.{nat_lt, unwrap_or, if◌then◌else◌, IfOk};
 ghost use Rattle.flow_types.specs.Plans.{env_bytes};
 ghost use Rattle.jx_meaning.specs.Values.{plain};
 ghost use Rattle.jx_values.specs.Kinds.{plain_pair};
 ghost use Rattle.jx_flow.specs.Answers.{Gives};
 ghost use Rattle.jx_flow.specs.Reading.{each};
-ghost use Rattle.jx_flow.specs.Variables.{variable_of, variables_by, value_in, replaced_by, is_new, overlaid};
+ghost use Rattle.jx_flow.specs.Variables.{variable_of, variables_by, value_in};
+ghost use Rattle.jx_flow.specs.Variables.{replaced_by, is_new, overlaid};
 ghost use Rattle.jx_flow.specs.Variables.{fitting, environment_of};
 
 use crate::fault::JxFlowFault;

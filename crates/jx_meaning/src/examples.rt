@@ -114,11 +114,13 @@ pub fn texts_are_filled_in()
         ≡ Err (ArgCount 0) }
     ensures no_number { called (codes "format") (tree.text 7 (codes "%i") ∷ four ∷ [])
         ≡ Err (WrongKind 0) }
-    ensures filled { called (codes "template") (tree.text 9 (codes "{{{a}}}-{b}") ∷ fields_at 24 (fields
-        (codes "a") 1 (codes "b") 2) ∷ []) ≡ Ok (of.text (codes "{1}-2")) }
+    ensures filled { called (codes "template") (tree.text 9 (codes "{{{a}}}-{b}")
+        ∷ fields_at 24 (fields (codes "a") 1 (codes "b") 2) ∷ []) ≡ Ok (of.text (codes "{1}-2")) }
     ensures no_mate { called (codes "template") (tree.text 9 (codes "a}") ∷ []) ≡ Err (BadMark 0) }
-    ensures open_brace { called (codes "template") (tree.text 9 (codes "{a") ∷ []) ≡ Err (BadMark 0) }
-    ensures unnamed { called (codes "template") (tree.text 9 (codes "{a}") ∷ []) ≡ Err (UnknownName 0) }
+    ensures open_brace { called (codes "template") (tree.text 9 (codes "{a") ∷ [])
+        ≡ Err (BadMark 0) }
+    ensures unnamed { called (codes "template") (tree.text 9 (codes "{a}") ∷ [])
+        ≡ Err (UnknownName 0) }
 {}
 
 /// The last node that may be begun, and values that may not be built.

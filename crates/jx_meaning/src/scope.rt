@@ -1,5 +1,6 @@
 //! Names and their values.
-ghost use Rattle.std.specs.Prelude.{◌≡◌, [], ◌∷◌, ◌++◌, List, ℕ, OnOk, OnErr, option_map, option_copied};
+ghost use Rattle.std.specs.Prelude.{◌≡◌, [], ◌∷◌, ◌++◌, List, ℕ, OnOk};
+ghost use Rattle.std.specs.Prelude.{OnErr, option_map, option_copied};
 ghost use Rattle.std.specs.Prelude.{position, ◌<◌, length, IfSome};
 ghost use Rattle.std.specs.Str.{bytes_eq};
 ghost use Rattle.jx_meaning.specs.Values.{plain, or_else};

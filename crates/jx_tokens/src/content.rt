@@ -1,5 +1,6 @@
 //! Texts in quotes.
-ghost use Rattle.std.specs.Prelude.{◌≡◌, ◌≤◌, ◌<◌, ◌+◌, ◌^◌, length, drop, slice_index, string_bytes, false, IfSome, IfOk};
+ghost use Rattle.std.specs.Prelude.{◌≡◌, ◌≤◌, ◌<◌, ◌+◌, ◌^◌, length, drop};
+ghost use Rattle.std.specs.Prelude.{slice_index, string_bytes, false, IfSome, IfOk};
 ghost use Rattle.jx_tokens.specs.Answers.{Gives};
 ghost use Rattle.jx_tokens.specs.Texts as spec;
 ghost use Rattle.jx_tokens.specs.Tokens.{literal, size};

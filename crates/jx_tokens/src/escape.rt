@@ -24,7 +24,8 @@ fn unit_at(bytes: &[u8], at: usize) -> Option<u32>
     requires { at < 100 }
     ensures value { result ≡ spec.unit_at at bytes.now }
     ensures small { IfSome result (λ u. u < 65536) }
-    ensures within { IfSome result (λ u. (at + 4 ≤ length bytes.now) × (slice_index bytes.now (at + 3) < 128)) }
+    ensures within { IfSome result
+        (λ u. (at + 4 ≤ length bytes.now) × (slice_index bytes.now (at + 3) < 128)) }
 {
     let a = digit(byte_at(bytes, at));
     let b = digit(byte_at(bytes, at + 1));
@@ -57,7 +58,8 @@ fn paired(bytes: &[u8], high: u32) -> Option<(char, usize)>
     requires low { 0xd800 ≤ high }
     requires below { high < 0xdc00 }
     ensures value { result ≡ spec.paired bytes.now high (spec.unit_at 7 bytes.now) }
-    ensures within { IfSome result (λ p. (p.1 ≡ 11) × (11 ≤ length bytes.now) × (slice_index bytes.now 10 < 128)) }
+    ensures within { IfSome result
+        (λ p. (p.1 ≡ 11) × (11 ≤ length bytes.now) × (slice_index bytes.now 10 < 128)) }
 {
     let low = unit_at(bytes, 7)?;
     if byte_at(bytes, 5) == b'\\' && byte_at(bytes, 6) == b'u' && 0xdc00 <= low && low < 0xe000 {
@@ -70,7 +72,8 @@ fn paired(bytes: &[u8], high: u32) -> Option<(char, usize)>
 /// The character of the code unit behind `u`.
 fn unicode(bytes: &[u8]) -> Option<(char, usize)>
     ensures value { result ≡ spec.unicode bytes.now (spec.unit_at 1 bytes.now) }
-    ensures within { IfSome result (λ p. (0 < p.1) × (p.1 ≤ length bytes.now) × (slice_index bytes.now (p.1 - 1) < 128)) }
+    ensures within { IfSome result
+        (λ p. (0 < p.1) × (p.1 ≤ length bytes.now) × (slice_index bytes.now (p.1 - 1) < 128)) }
 {
     let unit = unit_at(bytes, 1)?;
     if 0xd800 <= unit && unit < 0xdc00 {
@@ -84,7 +87,8 @@ fn unicode(bytes: &[u8]) -> Option<(char, usize)>
 #[tactic(auto, unfolding(crate::specs::Texts::escape))]
 pub fn escape(bytes: &[u8]) -> Option<(char, usize)>
     ensures value { result ≡ spec.escape bytes.now }
-    ensures within { IfSome result (λ p. (0 < p.1) × (p.1 ≤ length bytes.now) × (slice_index bytes.now (p.1 - 1) < 128)) }
+    ensures within { IfSome result
+        (λ p. (0 < p.1) × (p.1 ≤ length bytes.now) × (slice_index bytes.now (p.1 - 1) < 128)) }
 {
     if byte_at(bytes, 0) == b'u' {
         return unicode(bytes);

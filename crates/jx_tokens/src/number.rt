@@ -1,5 +1,6 @@
 //! Whole numbers.
-ghost use Rattle.std.specs.Prelude.{◌≡◌, ◌≤◌, ◌<◌, ◌-◌, ◌^◌, ◌+◌, length, drop, min, IsTrue, IfOk, slice_index};
+ghost use Rattle.std.specs.Prelude.{◌≡◌, ◌≤◌, ◌<◌, ◌-◌, ◌^◌, ◌+◌, length};
+ghost use Rattle.std.specs.Prelude.{drop, min, IsTrue, IfOk, slice_index};
 ghost use Rattle.std.specs.Char.{is_ascii_digit};
 ghost use Rattle.jx_tokens.specs.Answers.{Gives};
 ghost use Rattle.jx_tokens.specs.Tokens as spec;

@@ -1,5 +1,6 @@
 //! Names and reserved words.
-ghost use Rattle.std.specs.Prelude.{◌≡◌, ◌<◌, ◌≤◌, ◌+◌, length, drop, slice_index, IsTrue, Ok, IfOk};
+ghost use Rattle.std.specs.Prelude.{◌≡◌, ◌<◌, ◌≤◌, ◌+◌, length, drop};
+ghost use Rattle.std.specs.Prelude.{slice_index, IsTrue, Ok, IfOk};
 ghost use Rattle.jx_tokens.specs.Answers.{Gives};
 ghost use Rattle.jx_tokens.specs.Bytes.{begins_name};
 ghost use Rattle.jx_tokens.specs.Tokens as spec;

@@ -21,7 +21,8 @@ fn write_decimal(draft: &mut Draft, place: usize, values: &[&JxValue]) -> Result
     ensures within { IfOk result (λ taken. taken ≤ length values.now) }
     ensures text { (more : List Value → Piece) → Continues (λ taken. finished place draft.new
         (more (drop taken (map (λ v. plain v.now) values.now)))) result
-        (finished place draft.old (marked place (Some decimal) (map (λ v. plain v.now) values.now) more)) }
+        (finished place draft.old
+        (marked place (Some decimal) (map (λ v. plain v.now) values.now) more)) }
 {
     match values.split_first() {
         Some((first, _)) => match number_in(first) {
@@ -41,7 +42,8 @@ fn write_any(draft: &mut Draft, place: usize, values: &[&JxValue]) -> Result<usi
     ensures within { IfOk result (λ taken. taken ≤ length values.now) }
     ensures text { (more : List Value → Piece) → Continues (λ taken. finished place draft.new
         (more (drop taken (map (λ v. plain v.now) values.now)))) result
-        (finished place draft.old (marked place (Some any) (map (λ v. plain v.now) values.now) more)) }
+        (finished place draft.old
+        (marked place (Some any) (map (λ v. plain v.now) values.now) more)) }
 {
     match values.split_first() {
         Some((first, _)) => {

@@ -2,7 +2,8 @@
 ghost use Rattle.std.specs.Prelude.{◌≡◌, map, option_map, option_copied};
 ghost use Rattle.jx_meaning.specs.Values.{plain};
 ghost use Rattle.jx_values.specs.Kinds.{plain_pair};
-ghost use Rattle.jx_values.specs.Kinds.{is_null, truth_in, number_in, text_in, items_in, entries_in};
+ghost use Rattle.jx_values.specs.Kinds.{is_null, truth_in, number_in};
+ghost use Rattle.jx_values.specs.Kinds.{text_in, items_in, entries_in};
 
 use jx_syntax::{JxPair, JxValue};
 

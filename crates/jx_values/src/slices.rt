@@ -110,7 +110,8 @@ fn text_part(alloc: Global, text: &str, from: usize, len: usize) -> Result<Text,
 /// An end of a slice, which is a number.
 #[tactic(auto, using(crate::proofs::Plain::views))]
 fn number_end(place: usize, end: Option<&JxValue>) -> Result<Option<i64>, EvalFault>
-    ensures { Gives (λ n. n) result (number_end place (option_map plain (option_copied end.entry))) }
+    ensures { Gives (λ n. n) result
+        (number_end place (option_map plain (option_copied end.entry))) }
 {
     match end {
         Some(value) => match number_in(value) {

@@ -39,7 +39,8 @@ fn write_named<N: Names>(
     name: &str,
 ) -> Result<(), EvalFault>
     ensures { (more : Piece) → Continues (λ _. finished place draft.new more) result
-        (finished place draft.old (behind (named place (find name.now (N.names names.now))) (λ _. more))) }
+        (finished place draft.old
+        (behind (named place (find name.now (N.names names.now))) (λ _. more))) }
 {
     match names.value(name) {
         Some(value) => {

@@ -3,7 +3,8 @@ ghost use Rattle.std.specs.Prelude.{◌≡◌, IfOk, OnOk, is_some, IfSome, map,
 ghost use Rattle.std.specs.List.{list_all};
 ghost use Rattle.std.specs.Option.{option_map};
 ghost use Rattle.mf_text.specs.Names.{is_variable};
-ghost use Rattle.mf_forms.specs.Forms.{leading_name, behind_sign, as_assignment, as_marking, as_export};
+ghost use Rattle.mf_forms.specs.Forms.{leading_name, behind_sign};
+ghost use Rattle.mf_forms.specs.Forms.{as_assignment, as_marking, as_export};
 
 use crate::blanks::{behind, trimmed, without_front, words};
 use crate::form::Form;

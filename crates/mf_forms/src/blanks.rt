@@ -1,8 +1,10 @@
 //! Blanks, and the words between them. A blank is a space or a tab.
-ghost use Rattle.std.specs.Prelude.{◌≡◌, ◌<◌, IfOk, MatchOption, IfSome, is_some, slice_index, [], ◌∷◌, length, ◌-◌, take, drop};
+ghost use Rattle.std.specs.Prelude.{◌≡◌, ◌<◌, IfOk, MatchOption, IfSome, is_some};
+ghost use Rattle.std.specs.Prelude.{slice_index, [], ◌∷◌, length, ◌-◌, take, drop};
 ghost use Rattle.std.specs.List.{prefix_len, suffix_len, position_or_len};
 ghost use Rattle.mf_forms.specs.Forms.{begins_with_word};
-ghost use Rattle.mf_forms.specs.Words.{is_blank, without_front, without_end, trimmed, words, first_word, behind_word};
+ghost use Rattle.mf_forms.specs.Words.{is_blank, without_front, without_end};
+ghost use Rattle.mf_forms.specs.Words.{trimmed, words, first_word, behind_word};
 
 use flow_types::{Memory, Rows, Text};
 use std::alloc::Global;
@@ -24,8 +26,10 @@ pub fn words(alloc: Global, text: &str) -> Result<Rows<Text>, Memory>
 
 // The first word and what follows it, none where there is no word.
 fn next_word(text: &str) -> Option<(&str, &str)>
-    ensures words { MatchOption result (words text.now ≡ []) (λ x. words text.now ≡ x.0.now ∷ words x.1.now) }
-    ensures shorter { MatchOption result (words text.now ≡ []) (λ x. length x.1.now < length text.now) }
+    ensures words { MatchOption result
+        (words text.now ≡ []) (λ x. words text.now ≡ x.0.now ∷ words x.1.now) }
+    ensures shorter { MatchOption result
+        (words text.now ≡ []) (λ x. length x.1.now < length text.now) }
 {
     let (word, rest) = split_word(text);
     if word.is_empty() {

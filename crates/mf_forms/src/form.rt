@@ -1,6 +1,7 @@
 //! The form of a line, which its own text decides.
 ghost use Rattle.std.specs.Prelude.{◌≡◌, IfOk};
-ghost use Rattle.mf_forms.specs.Forms.{uncommented, is_head, bare_form, tab_form, plain_form, form_of};
+ghost use Rattle.mf_forms.specs.Forms.{uncommented, is_head, bare_form};
+ghost use Rattle.mf_forms.specs.Forms.{tab_form, plain_form, form_of};
 
 use crate::assignments::{as_assignment, as_export};
 use crate::blanks::{first_byte, trimmed};

@@ -48,7 +48,8 @@ fn files_in(alloc: Global, text: &str) -> Result<Rows<RawFile>, Memory>
 fn next_item(text: &str) -> Option<(&str, &str)>
     ensures items { MatchOption result (items text.now ≡ []) (λ x.
         items text.now ≡ without_marks (placed x.0.now) ∷ items x.1.now) }
-    ensures shorter { MatchOption result (items text.now ≡ []) (λ x. length x.1.now < length text.now) }
+    ensures shorter { MatchOption result
+        (items text.now ≡ []) (λ x. length x.1.now < length text.now) }
 {
     let rest = without_front(text);
     let (item, behind) = rest.split_at(bare_position(rest, b" \t"));

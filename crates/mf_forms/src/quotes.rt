@@ -1,6 +1,8 @@
 //! Quotes: a quotation mark opens one, which ends at the next same mark.
 ghost use Rattle.std.specs.Prelude.{◌≡◌, IfOk, string_bytes};
-ghost use Rattle.mf_forms.specs.Quotes.{is_quote, is_open_at_end, open_behind, is_bare, is_mark, place_behind, placed, bare_position, is_enclosed, unquoted, without_marks};
+ghost use Rattle.mf_forms.specs.Quotes.{is_quote, is_open_at_end, open_behind, is_bare};
+ghost use Rattle.mf_forms.specs.Quotes.{is_mark, place_behind, placed, bare_position};
+ghost use Rattle.mf_forms.specs.Quotes.{is_enclosed, unquoted, without_marks};
 
 use flow_types::Memory;
 use std::alloc::Global;

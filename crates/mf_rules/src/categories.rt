@@ -1,5 +1,6 @@
 //! Categories, and the amounts that each states.
-ghost use Rattle.std.specs.Prelude.{◌≡◌, ℕ, List, OnOk, IfOk, MatchResult, ◌&&◌, if◌then◌else◌, Some, None, []};
+ghost use Rattle.std.specs.Prelude.{◌≡◌, ℕ, List, OnOk, IfOk, MatchResult};
+ghost use Rattle.std.specs.Prelude.{◌&&◌, if◌then◌else◌, Some, None, []};
 ghost use Rattle.std.specs.FinMap as finite;
 ghost use Rattle.std.specs.Str.{bytes_eq};
 ghost use Rattle.mf_forms.specs.declared.form.Resource.{Resource};
@@ -7,7 +8,8 @@ ghost use Rattle.mf_forms.specs.Forms.{or_else};
 ghost use Rattle.mf_rules.specs.Categories.{is_same, resource_of, amount_in, needs_by};
 ghost use Rattle.mf_text.specs.Answers.{Fails};
 ghost use Rattle.mf_rules.specs.Faults.{least, setting_faults};
-ghost use Rattle.mf_rules.specs.Progress.{HoldsCategories, Heeds, SetsAmount, amounts_of, set_by_variable, refused};
+ghost use Rattle.mf_rules.specs.Progress.{HoldsCategories, Heeds, SetsAmount};
+ghost use Rattle.mf_rules.specs.Progress.{amounts_of, set_by_variable, refused};
 
 use crate::numbers::Numbers;
 use flow_types::{Amounts, Memory, Needs, Text};

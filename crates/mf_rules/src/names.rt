@@ -1,5 +1,6 @@
 //! Sets of names.
-ghost use Rattle.std.specs.Prelude.{◌≡◌, ◌+◌, ◌≤◌, length, nat_lt, if◌then◌else◌, unwrap_or, [], IfOk, OnOk, OnErr};
+ghost use Rattle.std.specs.Prelude.{◌≡◌, ◌+◌, ◌≤◌, length, nat_lt, if◌then◌else◌};
+ghost use Rattle.std.specs.Prelude.{unwrap_or, [], IfOk, OnOk, OnErr};
 ghost use Rattle.std.specs.FinMap as finite;
 ghost use Rattle.mf_rules.specs.Tables.{names_in, pairs_of, limited_pairs};
 

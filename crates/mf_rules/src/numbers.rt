@@ -24,7 +24,8 @@ impl Model for Numbers {
 
     ghost coded = { map_of.code (coded_list coded_ℕ) coded_ℕ };
 
-    ghost view = { λ s. map_of.from_entries (map (λ e. (string_bytes e.0, e.1)) s.numbers.entries) };
+    ghost view = { λ s.
+        map_of.from_entries (map (λ e. (string_bytes e.0, e.1)) s.numbers.entries) };
 }
 
 impl Numbers {

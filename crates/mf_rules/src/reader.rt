@@ -1,5 +1,6 @@
 //! The table that the lines of a text fill, line by line.
-ghost use Rattle.std.specs.Prelude.{◌≡◌, ℕ, Bool, false, not, nat_lt, map, List, [], ◌∷◌, ◌++◌, IfOk, MatchOption, MatchResult};
+ghost use Rattle.std.specs.Prelude.{◌≡◌, ℕ, Bool, false, not, nat_lt, map, List};
+ghost use Rattle.std.specs.Prelude.{[], ◌∷◌, ◌++◌, IfOk, MatchOption, MatchResult};
 ghost use Rattle.mf_rules.specs.declared.steps.Formed.{Formed};
 ghost use Rattle.mf_rules.specs.Tables.{environment_size};
 ghost use Rattle.mf_rules.specs.Flow.{given_pairs, flow_at};

@@ -47,8 +47,8 @@ impl Variables {
         })
     }
 
-    /// Gives a variable this value, in place of the one that the text gave it or behind it, and marks
-    /// its name or not.
+    /// Gives a variable this value, in place of the one that the text gave it or behind it, and
+    /// marks its name or not.
     pub(crate) fn assign(
         &mut self,
         marks: bool,

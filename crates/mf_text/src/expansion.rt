@@ -25,8 +25,8 @@ pub fn expand(alloc: Global, scope: &Scope, line: u32, text: &str) -> Result<Tex
 }
 
 fn whole(made: Expanded) -> Result<Text, MakeFault>
-    ensures { Gives (λ text. text) result (if made.is_too_large then Err (MakeFault.TooLarge 16777216)
-        else Ok made.text) }
+    ensures { Gives (λ text. text) result
+        (if made.is_too_large then Err (MakeFault.TooLarge 16777216) else Ok made.text) }
 {
     if made.is_too_large {
         Err(MakeFault::TooLarge(MAX_TEXT))

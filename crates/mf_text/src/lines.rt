@@ -103,7 +103,8 @@ fn extended(
 }
 
 fn closed(alloc: Global, last: Open) -> Result<Line, MakeFault>
-    ensures line { IfOk result (λ line. line ≡ record { number = last.number; text = string_bytes last.text }) }
+    ensures line { IfOk result
+        (λ line. line ≡ record { number = last.number; text = string_bytes last.text }) }
     ensures memory { IfErr result (λ e. e ≡ MakeFault.Memory) }
 {
     let text = Text::of(alloc, last.text.as_str())?;

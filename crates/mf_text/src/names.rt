@@ -51,8 +51,8 @@ pub fn is_variable(text: &str) -> bool
 
 /// How many bytes the longest name at the text's beginning has, none where it begins with none.
 pub fn name_len(text: &str) -> Option<usize>
-    ensures { result ≡ (if begins_name (slice_index text.now 0) then Some (prefix_len continues_name text.now)
-        else None) }
+    ensures { result ≡ (if begins_name (slice_index text.now 0)
+        then Some (prefix_len continues_name text.now) else None) }
 {
     if begins_name(first_byte(text)) {
         Some(continuing_len(text.as_bytes()))

@@ -1,5 +1,7 @@
 //! What a text becomes, written part by part.
-ghost use Rattle.std.specs.Prelude.{◌≡◌, ◌++◌, ◌+◌, ◌-◌, ◌<◌, [], List, length, IfErr, OnOk, MatchResult, Ok, true, false, ℕ, Option, string_bytes, if◌then◌else◌, nat_lt};
+ghost use Rattle.std.specs.Prelude.{◌≡◌, ◌++◌, ◌+◌, ◌-◌, ◌<◌, [], List, length};
+ghost use Rattle.std.specs.Prelude.{IfErr, OnOk, MatchResult, Ok, true, false, ℕ};
+ghost use Rattle.std.specs.Prelude.{Option, string_bytes, if◌then◌else◌, nat_lt};
 ghost use Rattle.std.specs.Option.{option_map};
 ghost use Rattle.std.specs.FinMap as map;
 ghost use Rattle.mf_text.specs.Answers.{Fails, Gives};

@@ -1,9 +1,10 @@
 //! A text taken apart from left to right: runs of plain bytes, and what its dollars begin.
-ghost use Rattle.std.specs.Prelude.{◌≡◌, ◌<◌, ◌++◌, ◌∷◌, [], true, false, length, drop, slice_index, MatchOption, ◌≢◌, ℕ, List};
+ghost use Rattle.std.specs.Prelude.{◌≡◌, ◌<◌, ◌++◌, ◌∷◌, [], true, false, length};
+ghost use Rattle.std.specs.Prelude.{drop, slice_index, MatchOption, ◌≢◌, ℕ, List};
 ghost use Rattle.std.specs.List.{take_while, prefix_len};
 ghost use Rattle.mf_text.specs.Names.{begins_name, continues_name};
 ghost use Rattle.mf_text.specs.Expansion.{pieces, holds, after_dollar, between};
-ghost use Rattle.mf_text.specs.Parts.{shown, Lacks, LacksMissing};
+ghost use Rattle.mf_text.specs.Parts.{shown, Lacks, LacksMissing, BeginsNoName};
 
 use crate::names::name_len;
 use std::marker::Model;
@@ -57,8 +58,10 @@ impl<'a> Parts<'a> {
     }
 
     pub(crate) fn next(&mut self) -> Option<Part<'a>>
-        ensures pieces { MatchOption result (self.old ≡ []) (λ part. pieces self.old ≡ shown part ++ pieces self.new) }
-        ensures shorter { MatchOption result (self.old ≡ []) (λ _. length self.new < length self.old) }
+        ensures pieces { MatchOption result (self.old ≡ [])
+            (λ part. pieces self.old ≡ shown part ++ pieces self.new) }
+        ensures shorter { MatchOption result (self.old ≡ [])
+            (λ _. length self.new < length self.old) }
     {
         if self.rest.is_empty() {
             return None;
@@ -83,7 +86,8 @@ impl<'a> Parts<'a> {
 fn split_plain(text: &str) -> (&str, &str)
     ensures whole { text.now ≡ result.0.now ++ result.1.now }
     ensures plain { holds 36 result.0.now ≡ false }
-    ensures shorter { (length text.now ≡ 0 → ⊥) → ((rest : List ℕ) → text.now ≢ 36 ∷ rest) → length result.1.now < length text.now }
+    ensures shorter { (length text.now ≡ 0 → ⊥)
+        → ((rest : List ℕ) → text.now ≢ 36 ∷ rest) → length result.1.now < length text.now }
 {
     match text.find('$') {
         Some(at) => text.split_at(at),
@@ -135,9 +139,12 @@ fn marked_part<'a>(text: &'a str, close: char, missed: &mut bool) -> (Part<'a>, 
 
 // The longest name at the text's beginning, and the rest.
 fn split_name(text: &str) -> Option<(&str, &str)>
-    ensures begins { MatchOption result (begins_name (slice_index text.now 0) ≡ false) (λ _. begins_name (slice_index text.now 0) ≡ true) }
-    ensures name { MatchOption result (begins_name (slice_index text.now 0) ≡ false) (λ x. x.0.now ≡ take_while continues_name text.now) }
-    ensures rest { MatchOption result (begins_name (slice_index text.now 0) ≡ false) (λ x. x.1.now ≡ drop (prefix_len continues_name text.now) text.now) }
+    ensures begins { MatchOption result (BeginsNoName text.now)
+        (λ _. begins_name (slice_index text.now 0) ≡ true) }
+    ensures name { MatchOption result (BeginsNoName text.now)
+        (λ x. x.0.now ≡ take_while continues_name text.now) }
+    ensures rest { MatchOption result (BeginsNoName text.now)
+        (λ x. x.1.now ≡ drop (prefix_len continues_name text.now) text.now) }
 {
     match name_len(text) {
         Some(len) => Some(text.split_at(len)),

@@ -26,7 +26,8 @@ impl Model for Scope {
 
     ghost coded = { map_of.code (coded_list coded_ℕ) (coded_list coded_ℕ) };
 
-    ghost view = { λ s. map_of.from_entries (map (λ e. (string_bytes e.0, string_bytes e.1)) s.values.entries) };
+    ghost view = { λ s.
+        map_of.from_entries (map (λ e. (string_bytes e.0, string_bytes e.1)) s.values.entries) };
 }
 
 impl Scope {
