@@ -1,5 +1,5 @@
-//! Records of the log: one spelling each, written and read back. A spelling is a kind byte and a body; the length and the
-//! gate that the log puts before it are the log's.
+//! Records of the log: one spelling each, written and read back. A spelling is a kind byte and a
+//! body; the length and the gate that the log puts before it are the log's.
 #![tactic(auto)]
 
 mod contents;

@@ -1,7 +1,8 @@
 //! Readers of a record's parts. Each takes its part off the front.
 ghost use Rattle.std.specs.Prelude.{◌≡◌};
 ghost use Rattle.byte_fields.specs.Reading.{Gives};
-ghost use Rattle.log_records.specs.Reading.{limit_at, digest_at, failure_at, end_at, opening_at, attempt_at};
+ghost use Rattle.log_records.specs.Reading.{limit_at, digest_at, failure_at};
+ghost use Rattle.log_records.specs.Reading.{end_at, opening_at, attempt_at};
 
 use byte_fields::{FieldFault, fixed_bytes, u8_field, u32_field, u64_field};
 use flow_types::{AttemptNo, Digest, EndKind, Failure, RuleNo};

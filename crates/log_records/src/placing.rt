@@ -2,7 +2,10 @@
 ghost use Rattle.std.specs.Prelude.{◌≡◌, ◌≤◌, ◌+◌, ◌++◌, length, take};
 ghost use Rattle.std.specs.List.{AllByRecursion};
 ghost use Rattle.byteorder.specs.Endian.{big_bytes};
-ghost use Rattle.log_records.specs.Spelling.{limit_bytes, opening_bytes, attempt_bytes, failure_bytes, end_bytes, content_bytes, contents_bytes, most_contents, IsLimit, IsOpening, IsAttempt, IsFailure, IsDigest, IsContent};
+ghost use Rattle.log_records.specs.Spelling.{limit_bytes, opening_bytes, attempt_bytes};
+ghost use Rattle.log_records.specs.Spelling.{failure_bytes, end_bytes, content_bytes};
+ghost use Rattle.log_records.specs.Spelling.{contents_bytes, most_contents, IsLimit, IsOpening};
+ghost use Rattle.log_records.specs.Spelling.{IsAttempt, IsFailure, IsDigest, IsContent};
 
 use byte_fields::{place_bytes, place_u8, place_u32, place_u64};
 use flow_types::{AttemptNo, Content, Digest, EndKind, Failure, RuleNo};

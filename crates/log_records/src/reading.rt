@@ -3,7 +3,8 @@ ghost use Rattle.std.specs.Prelude.{◌≡◌, IfOk, IfErr, IsErrOf};
 ghost use Rattle.byte_fields.specs.Reading.{Gives, GivesInMemory};
 ghost use Rattle.flow_types.specs.declared.records.Record.{Record};
 ghost use Rattle.log_records.specs.Spelling.{spelling, HasSpelling};
-ghost use Rattle.log_records.specs.Reading.{opened_at, resumed_at, started_at, done_at, failed_at, lost_at, dropped_at, ended_at, record_at, record_of};
+ghost use Rattle.log_records.specs.Reading.{opened_at, resumed_at, started_at, done_at, failed_at};
+ghost use Rattle.log_records.specs.Reading.{lost_at, dropped_at, ended_at, record_at, record_of};
 ghost use Rattle.log_records.specs.Answers.{Answers, IsFaultOf, IsOrMemory, MayList, refused};
 
 use crate::contents::contents;
@@ -172,9 +173,10 @@ fn whole_record(alloc: Global, body: &[u8]) -> Result<Record, RecordFault>
     }
 }
 
-/// The record that a kind byte and a body spell. A body that is none is refused at the least place at which it leaves the
-/// grammar: some record's spelling has all of the bytes before it, and none has the byte there as well. Where the body is
-/// too short, that place is its length. Only the contents that a record lists want memory.
+/// The record that a kind byte and a body spell. A body that is none is refused at the least place
+/// at which it leaves the grammar: some record's spelling has all of the bytes before it, and none
+/// has the byte there as well. Where the body is too short, that place is its length. Only the
+/// contents that a record lists want memory.
 pub fn read_record(alloc: Global, body: &[u8]) -> Result<Record, RecordFault>
     ensures answer { Answers result (record_of body.now) }
     ensures spelled { IfOk result (λ r. HasSpelling r × (body.now ≡ spelling r)) }

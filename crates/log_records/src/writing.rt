@@ -1,7 +1,8 @@
 //! Writing a record.
 ghost use Rattle.std.specs.Prelude.{◌≡◌, ◌≤◌, ◌<◌, ◌^◌, ◌+◌, ◌*◌, ◌++◌, length, take, IfOk, Ok};
 ghost use Rattle.byteorder.specs.Endian.{big_bytes};
-ghost use Rattle.log_records.specs.Spelling.{spelling, limit_bytes, failure_bytes, contents_bytes, most_contents, most_spelled, ListsFew, HasSpelling};
+ghost use Rattle.log_records.specs.Spelling.{spelling, limit_bytes, failure_bytes, contents_bytes};
+ghost use Rattle.log_records.specs.Spelling.{most_contents, most_spelled, ListsFew, HasSpelling};
 ghost use Rattle.log_records.specs.Reading.{record_of};
 
 use crate::placing::{
@@ -75,7 +76,8 @@ pub fn record_len(entry: &Record) -> usize
 
 fn place_front(into: &mut [u8], at: usize, kind: u8, moment: u64) -> usize
     requires { at + 9 ≤ length into.old }
-    ensures text { take result into.new ≡ take at into.old ++ (big_bytes 1 kind ++ big_bytes 8 moment) }
+    ensures text { take result into.new
+        ≡ take at into.old ++ (big_bytes 1 kind ++ big_bytes 8 moment) }
     ensures end { result ≡ at + 9 }
     ensures fits { moment < 2 ^ 64 }
 {

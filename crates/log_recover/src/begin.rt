@@ -1,5 +1,6 @@
 //! A log that is begun anew.
-ghost use Rattle.std.specs.Prelude.{◌≡◌, ◌≢◌, [], List, ℕ, length, Option, Some, IsSome, OnOk, option_map};
+ghost use Rattle.std.specs.Prelude.{◌≡◌, ◌≢◌, [], List, ℕ, length, Option};
+ghost use Rattle.std.specs.Prelude.{Some, IsSome, OnOk, option_map};
 ghost use Rattle.outside.specs.Causes.{HasCause};
 ghost use Rattle.outside.specs.Disk.{LeavesOnly};
 ghost use Rattle.outside.specs.Files.{content};
@@ -50,7 +51,8 @@ fn begin<S: Site>(site: &mut S, name: &Name) -> Result<(), Fault>
     write_synced(site, name, 0, &START)
 }
 
-/// Begins a log anew that is absent or not begun. `size` is how long its file is, where there is one.
+/// Begins a log anew that is absent or not begun. `size` is how long its file is, where there is
+/// one.
 pub(crate) fn begin_anew<S: Site>(site: &mut S, name: &Name, size: Option<u64>) -> Result<(), Fault>
     requires size { S.tells → size ≡ option_map length (S.files site.old name.now) }
     requires short { S.tells → (file : Option (List ℕ)) → S.may_leave site.old name.now file

@@ -1,5 +1,6 @@
 //! Recovery of a log.
-ghost use Rattle.std.specs.Prelude.{◌≡◌, ◌≢◌, ◌≤◌, ◌<◌, List, ℕ, length, take, Option, Some, IfOk, IsErrOf, IsTrue, true, false};
+ghost use Rattle.std.specs.Prelude.{◌≡◌, ◌≢◌, ◌≤◌, ◌<◌, List, ℕ, length, take};
+ghost use Rattle.std.specs.Prelude.{Option, Some, IfOk, IsErrOf, IsTrue, true, false};
 ghost use Rattle.outside.specs.Causes.{HasCause};
 ghost use Rattle.outside.specs.Disk.{LeavesOnly};
 ghost use Rattle.outside.specs.Files.{content};
@@ -7,7 +8,8 @@ ghost use Rattle.txn_log.specs.Logs.{IsLog};
 ghost use Rattle.txn_log.specs.Spells.{header, Spells};
 ghost use Rattle.flow_types.specs.declared.records.Record.{Record};
 ghost use Rattle.log_recover.specs.Quiet.{IsQuiet};
-ghost use Rattle.log_recover.specs.Recovery.{Resumes, Recovers, IsThese, IsKept, IsDamage, IsNamed, IsRecovering, IsHeader};
+ghost use Rattle.log_recover.specs.Recovery.{Resumes, Recovers, IsThese, IsKept};
+ghost use Rattle.log_recover.specs.Recovery.{IsDamage, IsNamed, IsRecovering, IsHeader};
 
 use crate::begin::begin_anew;
 use crate::fault::RecoverFault;
@@ -98,10 +100,11 @@ fn open_log<S: Site>(
     }
 }
 
-/// The log under this name, and the records that its file spells. A log that is absent or not begun is begun anew.
+/// The log under this name, and the records that its file spells. A log that is absent or not begun
+/// is begun anew.
 ///
-/// What is wrong with the file's bytes is answered and changes nothing. A crash at any moment leaves the file as it was,
-/// or a log that isn't begun where it wasn't.
+/// What is wrong with the file's bytes is answered and changes nothing. A crash at any moment
+/// leaves the file as it was, or a log that isn't begun where it wasn't.
 pub fn recover<S: Site>(
     alloc: Global,
     site: &mut S,

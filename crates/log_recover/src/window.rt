@@ -1,5 +1,6 @@
 //! Bytes of a file that were read ahead, so that many short records take few calls of the site.
-ghost use Rattle.std.specs.Prelude.{◌≡◌, ◌≤◌, List, ℕ, length, take, drop, IfOk, OnOk, IsErrOf, IsTrue};
+ghost use Rattle.std.specs.Prelude.{◌≡◌, ◌≤◌, List, ℕ, length, take};
+ghost use Rattle.std.specs.Prelude.{drop, IfOk, OnOk, IsErrOf, IsTrue};
 ghost use Rattle.outside.specs.Causes.{HasCause};
 ghost use Rattle.outside.specs.Files.{content, Reads};
 ghost use Rattle.log_recover.specs.Quiet.{IsQuiet};

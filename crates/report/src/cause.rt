@@ -35,9 +35,11 @@ pub enum Cause {
     FlowMissing { name: Name },
     /// The flow of this name is refused.
     FlowRefused { flow: Name, fault: FlowFault },
-    /// Something that isn't built yet is asked for: at this line of the flow, or, where it is 0, by the words.
+    /// Something that isn't built yet is asked for: at this line of the flow, or, where it is 0, by
+    /// the words.
     Unbuilt { line: u32 },
-    /// A rule needs more of a resource than there is in all. Cores are counted, memory and disk are in megabytes.
+    /// A rule needs more of a resource than there is in all. Cores are counted, memory and disk are
+    /// in megabytes.
     NeedsTooMuch { rule: RuleNo, need: u64, total: u64 },
     /// A file that no rule makes isn't there.
     SourceMissing { file: FileNo },
@@ -134,8 +136,9 @@ impl Cause {
         self.kind().status()
     }
 
-    /// The printed line, with its newline. At a fault of what takes the lines it has no bytes and takes no memory.
-    /// Files have their names in the plan, and no bytes where the plan doesn't have them.
+    /// The printed line, with its newline. At a fault of what takes the lines it has no bytes and
+    /// takes no memory. Files have their names in the plan, and no bytes where the plan doesn't
+    /// have them.
     pub fn line(&self, alloc: Global, plan: &Plan) -> Result<Bytes, Memory>
         ensures bytes { IfOk result (λ line. line ≡ line_of plan.now self.now) }
         ensures silent { OnFalse (is_printed (kind_of self.now)) (IsOk result) }

@@ -1,11 +1,18 @@
 //! Worked printed lines, each proved by computing. Nothing calls these functions.
 ghost use Rattle.std.specs.Prelude.{◌≡◌, [], ◌∷◌, codes, pos, negsuc, Some, None};
 ghost use Rattle.flow_types.specs.declared.job.Failure.TheVariants.{Status, MissingOutput, TooLong};
-ghost use Rattle.mf_text.specs.declared.fault.MakeFault.TheVariants.{NotUtf8, UnknownName, NoColon, TooLarge};
-ghost use Rattle.rule_graph.specs.declared.faults.GraphFault.TheVariants.{BadName, NestedName, TwoMakers, Cycle};
-ghost use Rattle.report.specs.declared.cause.Cause.TheVariants.{Complete, Usage, FlowMissing, Unbuilt, NeedsTooMuch, SourceTooLarge, InputsTooLarge, SiteFault, RunnerFault, SinkFault, Memory};
+ghost use Rattle.mf_text.specs.declared.fault.MakeFault.TheVariants.{NotUtf8, UnknownName};
+ghost use Rattle.mf_text.specs.declared.fault.MakeFault.TheVariants.{NoColon, TooLarge};
+ghost use Rattle.rule_graph.specs.declared.faults.GraphFault.TheVariants.{BadName, NestedName};
+ghost use Rattle.rule_graph.specs.declared.faults.GraphFault.TheVariants.{TwoMakers, Cycle};
+ghost use Rattle.report.specs.declared.cause.Cause.TheVariants.{Complete, Usage, FlowMissing};
+ghost use Rattle.report.specs.declared.cause.Cause.TheVariants.{Unbuilt, NeedsTooMuch};
+ghost use Rattle.report.specs.declared.cause.Cause.TheVariants.{SourceTooLarge, InputsTooLarge};
+ghost use Rattle.report.specs.declared.cause.Cause.TheVariants.{SiteFault, RunnerFault};
+ghost use Rattle.report.specs.declared.cause.Cause.TheVariants.{SinkFault, Memory};
 ghost use Rattle.report.specs.Lines.{line_of};
-ghost use Rattle.report.specs.Examples.{one_rule, rule_failed, source_missing, refused_text, refused_jx, refused_rules};
+ghost use Rattle.report.specs.Examples.{one_rule, rule_failed, source_missing};
+ghost use Rattle.report.specs.Examples.{refused_text, refused_jx, refused_rules};
 ghost use Rattle.jx_tokens.specs.declared.fault.JxFault.TheVariants as syntax;
 ghost use Rattle.jx_meaning.specs.declared.fault.EvalFault.TheVariants as evaluation;
 ghost use Rattle.jx_flow.specs.declared.fault.JxFlowFault.TheVariants as jx;
@@ -43,11 +50,14 @@ pub fn lines_of_refusals()
 
 /// What is printed where the text of a flow is refused.
 pub fn lines_of_texts()
-    ensures utf8 { line_of one_rule (refused_text (NotUtf8 7)) ≡ codes "makeflow: flow: not UTF-8 at 7\n" }
+    ensures utf8 { line_of one_rule (refused_text (NotUtf8 7))
+        ≡ codes "makeflow: flow: not UTF-8 at 7\n" }
     ensures name { line_of one_rule (refused_text (UnknownName 2 (codes "X")))
         ≡ codes "makeflow: flow: line 2: unknown name X\n" }
-    ensures colon { line_of one_rule (refused_text (NoColon 12)) ≡ codes "makeflow: flow: line 12: no colon\n" }
-    ensures large { line_of one_rule (refused_text (TooLarge 16777216)) ≡ codes "makeflow: flow: too large\n" }
+    ensures colon { line_of one_rule (refused_text (NoColon 12))
+        ≡ codes "makeflow: flow: line 12: no colon\n" }
+    ensures large { line_of one_rule (refused_text (TooLarge 16777216))
+        ≡ codes "makeflow: flow: too large\n" }
 {}
 
 /// What is printed where a JX text is refused.
@@ -68,13 +78,16 @@ pub fn lines_of_jx()
 
 /// What is printed where the rules of a flow are no plan.
 pub fn lines_of_rules()
-    ensures name { line_of one_rule (refused_rules (BadName (record { 0 = 0 }) (codes "/etc/passwd")))
+    ensures name { line_of one_rule
+        (refused_rules (BadName (record { 0 = 0 }) (codes "/etc/passwd")))
         ≡ codes "makeflow: flow: rule 0: bad name /etc/passwd\n" }
     ensures nested { line_of one_rule (refused_rules (NestedName (codes "a") (codes "a/b")))
         ≡ codes "makeflow: flow: nested names a and a/b\n" }
-    ensures makers { line_of one_rule (refused_rules (TwoMakers (codes "x") (record { 0 = 0 }) (record { 0 = 1 })))
+    ensures makers { line_of one_rule
+        (refused_rules (TwoMakers (codes "x") (record { 0 = 0 }) (record { 0 = 1 })))
         ≡ codes "makeflow: flow: two rules make x: 0 and 1\n" }
-    ensures cycle { line_of one_rule (refused_rules (Cycle (record { 0 = 0 } ∷ record { 0 = 1 } ∷ [])))
+    ensures cycle { line_of one_rule
+        (refused_rules (Cycle (record { 0 = 0 } ∷ record { 0 = 1 } ∷ [])))
         ≡ codes "makeflow: flow: cycle of rules 0 1\n" }
 {}
 

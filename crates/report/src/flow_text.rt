@@ -56,7 +56,8 @@ fn of_rule(alloc: Global, rule: RuleNo, what: &[u8], name: &[u8]) -> Result<Vec<
 
 // Two rules.
 fn pair_text(alloc: Global, rule: RuleNo, other: RuleNo) -> Result<Vec<u8>, AllocError>
-    ensures { IfOk result (λ text. text.items ≡ codes ": " ++ decimal rule.0 ++ codes " and " ++ decimal other.0) }
+    ensures { IfOk result
+        (λ text. text.items ≡ codes ": " ++ decimal rule.0 ++ codes " and " ++ decimal other.0) }
 {
     let first = rule.0;
     let second = other.0;
@@ -75,7 +76,8 @@ fn add_rule(alloc: Global, text: &mut Vec<u8>, rule: RuleNo) -> Result<(), Alloc
 
 // The rules of a loop.
 fn cycle_text(alloc: Global, rules: &[RuleNo]) -> Result<Vec<u8>, AllocError>
-    ensures { IfOk result (λ text. text.items ≡ codes "cycle of rules" ++ flat_map (λ rule. codes " " ++ decimal rule.0) rules.now) }
+    ensures { IfOk result (λ text. text.items
+        ≡ codes "cycle of rules" ++ flat_map (λ rule. codes " " ++ decimal rule.0) rules.now) }
 {
     let mut text = Vec::from_slice(alloc, b"cycle of rules")?;
     for rule in rules {

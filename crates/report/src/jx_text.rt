@@ -1,7 +1,8 @@
 //! Why a JX text is refused, in words.
 ghost use Rattle.std.specs.Prelude.{◌≡◌, ◌++◌, codes, IfOk};
 ghost use Rattle.std.specs.Fmt.{decimal};
-ghost use Rattle.report.specs.Lines.{evaluation_at, evaluation_text, jx_text, syntax_at, syntax_text};
+ghost use Rattle.report.specs.Lines.{evaluation_at, evaluation_text};
+ghost use Rattle.report.specs.Lines.{jx_text, syntax_at, syntax_text};
 
 use crate::text::around;
 use jx_flow::JxFlowFault;

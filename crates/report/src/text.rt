@@ -1,6 +1,7 @@
 //! What a line says of each cause.
 ghost use Rattle.std.specs.Prelude.{◌≡◌, ◌++◌, IfOk};
-ghost use Rattle.report.specs.Lines.{failure_text, file_name, output_name, output_name_in, rule_text, text_of, fault_text, needs_text, inputs_text};
+ghost use Rattle.report.specs.Lines.{failure_text, file_name, output_name, output_name_in};
+ghost use Rattle.report.specs.Lines.{rule_text, text_of, fault_text, needs_text, inputs_text};
 ghost use Rattle.std.specs.Prelude.{codes};
 
 use crate::cause::{Cause, FlowFault};

@@ -28,6 +28,10 @@ raw_rule outputs inputs command = record {
   env = [];
 }
 
+-- a rule that makes one file of another by this command
+abbrev pub made_of : String → String → String → RawRule
+made_of output input command = raw_rule (raw output ∷ []) (raw input ∷ []) command
+
 -- a flow of these rules alone
 abbrev pub flow_of : List RawRule → RawFlow
 flow_of rules = record { rules = rules; keep = []; bounds = [] }

@@ -1,9 +1,12 @@
 //! The faults that a flow's rules show one by one.
-ghost use Rattle.std.specs.Prelude.{◌≡◌, ◌∷◌, [], ◌++◌, ◌<◌, ◌^◌, ℕ, Option, Some, None, if◌then◌else◌, ⊤, All, IfOk, OnOk, find, length};
+ghost use Rattle.std.specs.Prelude.{◌≡◌, ◌∷◌, [], ◌++◌, ◌<◌, ◌^◌, ℕ, Option, Some, None};
+ghost use Rattle.std.specs.Prelude.{if◌then◌else◌, ⊤, All, IfOk, OnOk, find, length};
 ghost use Rattle.std.specs.Option.{option_copied};
 ghost use Rattle.flow_types.specs.declared.flow.RawRule.{RawRule as RawRuleValue};
 ghost use Rattle.rule_graph.specs.declared.faults.GraphFault.{GraphFault as GraphFaultValue};
-ghost use Rattle.rule_graph.specs.Faults.{remotes, over_rules, too_many_ports, too_many, is_no_name, file_texts, texts_of, bad_name, no_output, remote_names, first_repeat, same_name};
+ghost use Rattle.rule_graph.specs.Faults.{remotes, over_rules, too_many_ports, too_many};
+ghost use Rattle.rule_graph.specs.Faults.{is_no_name, file_texts, texts_of, bad_name};
+ghost use Rattle.rule_graph.specs.Faults.{no_output, remote_names, first_repeat, same_name};
 ghost use Rattle.rule_graph.specs.Checked.{HasNames, IsName};
 
 use crate::faults::GraphFault;

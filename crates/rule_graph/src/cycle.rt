@@ -1,20 +1,28 @@
 //! The loop that is named where a serial run leaves rules over, in time of the plan's ports.
-ghost use Rattle.std.specs.Prelude.{◌≡◌, ◌<◌, ◌≤◌, ◌^◌, ◌==◌, true, false, not, IfOk, IsTrue, MatchOption, length, min, replicate, slice_set, slice_index, slice_index_or};
+ghost use Rattle.std.specs.Prelude.{◌≡◌, ◌<◌, ◌≤◌, ◌^◌, ◌==◌, true, false, not, IfOk};
+ghost use Rattle.std.specs.Prelude.{IsTrue, MatchOption, length, min, replicate};
+ghost use Rattle.std.specs.Prelude.{slice_set, slice_index, slice_index_or};
 ghost use Rattle.std.specs.List.{prefix_len};
 ghost use Rattle.std.specs.Option.{option_map, option_map_or};
 ghost use Rattle.flow_types.specs.Plans.{contains_number, files_of, maker_of};
 ghost use Rattle.rule_graph.specs.Progress.{IsWired};
 ghost use Rattle.rule_graph.specs.Cycles.{left_over, from_first};
-ghost use Rattle.rule_graph.specs.Loops.{IsNumbered, NoneNamedWhereAllAreTaken, NoneNamedWhereNoneIs, NamedLoopIsALoop, NamedLoopIsTheLoop, LoopsAreLeftOver, ValidPlansAreNumbered, named_loop, step};
-ghost use Rattle.rule_graph.specs.Walking.{numbers_of, rule_number, file_number, is_never_made, AreMarks, HasNoMark, IsFirstMark, IsLeastOf, IsLeastPlace, IsWalkOf, ComesRound, IsTurned};
+ghost use Rattle.rule_graph.specs.Loops.{IsNumbered, NoneNamedWhereAllAreTaken};
+ghost use Rattle.rule_graph.specs.Loops.{NoneNamedWhereNoneIs, NamedLoopIsALoop};
+ghost use Rattle.rule_graph.specs.Loops.{NamedLoopIsTheLoop, LoopsAreLeftOver};
+ghost use Rattle.rule_graph.specs.Loops.{ValidPlansAreNumbered, named_loop, step};
+ghost use Rattle.rule_graph.specs.Walking.{numbers_of, rule_number, file_number, is_never_made};
+ghost use Rattle.rule_graph.specs.Walking.{AreMarks, HasNoMark, IsFirstMark, IsLeastOf};
+ghost use Rattle.rule_graph.specs.Walking.{IsLeastPlace, IsWalkOf, ComesRound, IsTurned};
 
 use crate::order::order_of;
 use flow_types::{FileNo, Plan, Port, Rows, RuleNo};
 use std::alloc::{AllocError, Global};
 
-/// No loop is named exactly where the serial order has every rule, which is exactly where the plan has no loop. The loop that
-/// is named is a loop of the plan: the one to which the steps from the least rule left over lead, begun at its least rule.
-/// All this holds of plans whose files are numbered, as those of valid plans are.
+/// No loop is named exactly where the serial order has every rule, which is exactly where the plan
+/// has no loop. The loop that is named is a loop of the plan: the one to which the steps from the
+/// least rule left over lead, begun at its least rule. All this holds of plans whose files are
+/// numbered, as those of valid plans are.
 pub fn the_named_loop()
     ensures taken { NoneNamedWhereAllAreTaken }
     ensures none { NoneNamedWhereNoneIs }
@@ -154,7 +162,8 @@ struct Walk {
     next: RuleNo,
 }
 
-// Walks from a rule left over to the maker of its least input whose maker is left over, until a rule repeats.
+// Walks from a rule left over to the maker of its least input whose maker is left over, until a
+// rule repeats.
 fn walk_from(alloc: Global, plan: &Plan, left: &[bool], first: RuleNo) -> Result<Walk, AllocError>
     requires numbered { IsNumbered plan.now }
     requires marks { AreMarks (left_over plan.now) left.now }

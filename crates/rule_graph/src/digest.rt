@@ -2,8 +2,11 @@
 ghost use Rattle.std.specs.Prelude.{◌≡◌, All};
 ghost use Rattle.std.specs.Int.{to_be_bytes, w32, w64};
 ghost use Rattle.flow_types.specs.Plans.{IsValid};
-ghost use Rattle.rule_graph.specs.Spelling.{text_bytes, counted_bytes, pair_bytes, port_bytes, rule_bytes, maker_bytes, flag_bytes, file_bytes, plan_digest};
-ghost use Rattle.rule_graph.specs.Hashing.{Adds, IsCountable, IsPairCountable, IsPortCountable, IsRuleCountable, IsFileCountable};
+ghost use Rattle.rule_graph.specs.Spelling.{text_bytes, counted_bytes, pair_bytes};
+ghost use Rattle.rule_graph.specs.Spelling.{port_bytes, rule_bytes, maker_bytes};
+ghost use Rattle.rule_graph.specs.Spelling.{flag_bytes, file_bytes, plan_digest};
+ghost use Rattle.rule_graph.specs.Hashing.{Adds, IsCountable, IsPairCountable};
+ghost use Rattle.rule_graph.specs.Hashing.{IsPortCountable, IsRuleCountable, IsFileCountable};
 
 use flow_types::{Digest, FileRow, Name, Pair, Plan, Port, Rows, Rule, RuleNo, Text};
 use sha2::{Digest as Hasher, Sha256};

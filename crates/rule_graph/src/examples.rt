@@ -5,27 +5,38 @@ ghost use Rattle.rule_graph.specs.declared.faults.GraphFault.TheVariants as faul
 ghost use Rattle.rule_graph.specs.Spelling.{plan_bytes};
 ghost use Rattle.rule_graph.specs.Flows.{rule_no};
 ghost use Rattle.rule_graph.specs.Faults.{plan_of};
-ghost use Rattle.rule_graph.specs.Examples.{raw, renamed, raw_rule, flow_of, one_copy, one_copy_bytes, takes_from_a_folder};
+ghost use Rattle.rule_graph.specs.Examples.{raw, renamed, raw_rule, made_of, flow_of, one_copy};
+ghost use Rattle.rule_graph.specs.Examples.{one_copy_bytes, takes_from_a_folder};
 
 /// The bytes of a plan of one copy.
 pub fn bytes_of_one_copy()
     ensures { plan_bytes one_copy ≡ one_copy_bytes }
 {}
 
-/// Files are numbered by their names, made files that nothing takes in are kept, and names have their one form.
+/// Files are numbered by their names, made files that nothing takes in are kept, and names have
+/// their one form.
 pub fn plans_of_small_flows()
-    ensures two_rules { plan_of (flow_of (raw_rule (raw "c" ∷ []) (raw "b" ∷ []) "cp b c" ∷ raw_rule (raw "b" ∷ []) (raw "a" ∷ []) "cp a b" ∷ [])) ≡ Ok two_rules }
-    ensures one_copy { plan_of (flow_of (raw_rule (raw "out" ∷ []) (raw "in" ∷ []) "cat in > out" ∷ [])) ≡ Ok one_copy }
-    ensures folder { plan_of (flow_of (raw_rule (raw "a" ∷ []) (raw "./b//c" ∷ []) "cat b/c > a" ∷ [])) ≡ Ok takes_from_a_folder }
+    ensures two_rules { plan_of (flow_of (made_of "c" "b" "cp b c" ∷ made_of "b" "a" "cp a b" ∷ []))
+        ≡ Ok two_rules }
+    ensures one_copy { plan_of (flow_of (made_of "out" "in" "cat in > out" ∷ [])) ≡ Ok one_copy }
+    ensures folder { plan_of (flow_of (made_of "a" "./b//c" "cat b/c > a" ∷ []))
+        ≡ Ok takes_from_a_folder }
 {}
 
 /// The faults of small flows.
 pub fn faults_of_small_flows()
-    ensures two_makers { plan_of (flow_of (raw_rule (raw "x" ∷ []) (raw "a" ∷ []) "" ∷ raw_rule (raw "x" ∷ []) (raw "b" ∷ []) "" ∷ [])) ≡ Err (faults.TwoMakers (codes "x") (rule_no 0) (rule_no 1)) }
-    ensures cycle { plan_of (flow_of (raw_rule (raw "a" ∷ []) (raw "b" ∷ []) "" ∷ raw_rule (raw "b" ∷ []) (raw "a" ∷ []) "" ∷ [])) ≡ Err (faults.Cycle (rule_no 0 ∷ rule_no 1 ∷ [])) }
-    ensures least_first { plan_of (flow_of (raw_rule (raw "p" ∷ []) (raw "x" ∷ []) "" ∷ raw_rule (raw "y" ∷ []) (raw "x" ∷ []) "" ∷ raw_rule (raw "x" ∷ []) (raw "y" ∷ []) "" ∷ [])) ≡ Err (faults.Cycle (rule_no 1 ∷ rule_no 2 ∷ [])) }
-    ensures own_input { plan_of (flow_of (raw_rule (renamed "a" "x" ∷ []) (raw "a" ∷ []) "" ∷ [])) ≡ Err (faults.Cycle (rule_no 0 ∷ [])) }
-    ensures same_name { plan_of (flow_of (raw_rule (raw "a" ∷ []) (raw "a" ∷ []) "" ∷ [])) ≡ Err (faults.SameName (rule_no 0) (codes "a")) }
-    ensures bad_name { plan_of (flow_of (raw_rule (raw "a" ∷ []) (raw "/etc/passwd" ∷ []) "" ∷ [])) ≡ Err (faults.BadName (rule_no 0) (codes "/etc/passwd")) }
-    ensures nested { plan_of (flow_of (raw_rule (raw "a" ∷ []) (raw "s" ∷ []) "" ∷ raw_rule (raw "a/b" ∷ []) (raw "s" ∷ []) "" ∷ [])) ≡ Err (faults.NestedName (codes "a") (codes "a/b")) }
+    ensures two_makers { plan_of (flow_of (made_of "x" "a" "" ∷ made_of "x" "b" "" ∷ []))
+        ≡ Err (faults.TwoMakers (codes "x") (rule_no 0) (rule_no 1)) }
+    ensures cycle { plan_of (flow_of (made_of "a" "b" "" ∷ made_of "b" "a" "" ∷ []))
+        ≡ Err (faults.Cycle (rule_no 0 ∷ rule_no 1 ∷ [])) }
+    ensures least_first { plan_of (flow_of (made_of "p" "x" "" ∷ made_of "y" "x" ""
+        ∷ made_of "x" "y" "" ∷ [])) ≡ Err (faults.Cycle (rule_no 1 ∷ rule_no 2 ∷ [])) }
+    ensures own_input { plan_of (flow_of (raw_rule (renamed "a" "x" ∷ []) (raw "a" ∷ []) "" ∷ []))
+        ≡ Err (faults.Cycle (rule_no 0 ∷ [])) }
+    ensures same_name { plan_of (flow_of (made_of "a" "a" "" ∷ []))
+        ≡ Err (faults.SameName (rule_no 0) (codes "a")) }
+    ensures bad_name { plan_of (flow_of (made_of "a" "/etc/passwd" "" ∷ []))
+        ≡ Err (faults.BadName (rule_no 0) (codes "/etc/passwd")) }
+    ensures nested { plan_of (flow_of (made_of "a" "s" "" ∷ made_of "a/b" "s" "" ∷ []))
+        ≡ Err (faults.NestedName (codes "a") (codes "a/b")) }
 {}

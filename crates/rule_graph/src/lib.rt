@@ -1,4 +1,5 @@
-//! The graph of a flow's rules: the plan of a flow or its first fault, the order of a serial run, and a plan's digest.
+//! The graph of a flow's rules: the plan of a flow or its first fault, the order of a serial run,
+//! and a plan's digest.
 #![tactic(auto)]
 
 mod checks;

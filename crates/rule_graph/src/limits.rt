@@ -14,8 +14,8 @@ const MOST_AMOUNT: u32 = 1000000000;
 // What a pair takes of an environment's bytes beside its name and its value.
 const PAIR_BYTES: usize = 8;
 
-/// Whether no command, environment, amount or stated bound of a flow passes its limit, as `plan_of` requires. It goes once
-/// over the flow.
+/// Whether no command, environment, amount or stated bound of a flow passes its limit, as `plan_of`
+/// requires. It goes once over the flow.
 pub fn fits_limits(flow: &RawFlow) -> bool
     ensures { IsTrue result ↔ FitsLimits flow.now }
 {

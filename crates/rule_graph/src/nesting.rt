@@ -1,10 +1,12 @@
 //! Names that are folders of other names.
-ghost use Rattle.std.specs.Prelude.{◌≡◌, ◌∷◌, [], ◌++◌, ◌<◌, ◌≤◌, ◌^◌, ℕ, false, true, All, IfOk, find, length, nat_eq};
+ghost use Rattle.std.specs.Prelude.{◌≡◌, ◌∷◌, [], ◌++◌, ◌<◌, ◌≤◌, ◌^◌, ℕ, false};
+ghost use Rattle.std.specs.Prelude.{true, All, IfOk, find, length, nat_eq};
 ghost use Rattle.std.specs.List.{list_any, starts_with};
 ghost use Rattle.std.specs.Option.{option_copied};
 ghost use Rattle.flow_types.specs.Plans.{is_name_less};
 ghost use Rattle.rule_graph.specs.Faults.{nested_under, nested_in, nested_name, remote_names};
-ghost use Rattle.rule_graph.specs.Checked.{HasNames, IsName, IsAscending, HasAll, ascending, stands_before};
+ghost use Rattle.rule_graph.specs.Checked.{HasNames, IsName, IsAscending};
+ghost use Rattle.rule_graph.specs.Checked.{HasAll, ascending, stands_before};
 
 use crate::checks::{RuleCheck, name_from, over_rules, remote_names};
 use crate::faults::GraphFault;
@@ -99,7 +101,8 @@ fn nested_under(
     }
 }
 
-// The first of the names that is a folder of another, with the first of which it is. Each stands among the sorted names.
+// The first of the names that is a folder of another, with the first of which it is. Each stands
+// among the sorted names.
 fn nested_in(
     alloc: Global,
     sorted: &[Bytes],

@@ -108,7 +108,8 @@ pub(crate) fn taken_of(
     Ok(table)
 }
 
-// Sets what a table says of the file that a text names. What is no name, or the name of no file, is passed over.
+// Sets what a table says of the file that a text names. What is no name, or the name of no file, is
+// passed over.
 fn put_text<T: Copy>(
     alloc: Global,
     names: &[Bytes],
@@ -171,7 +172,8 @@ fn add_makings(
     maker: u32,
     outputs: Vec<RawPort>,
 ) -> Result<(), AllocError>
-    ensures { OnOk result (makings.new.items ≡ makings.old.items ++ port_makings maker outputs.items) }
+    ensures { OnOk result
+        (makings.new.items ≡ makings.old.items ++ port_makings maker outputs.items) }
 {
     for port in outputs {
         let RawPort { local, remote: _ } = port;

@@ -1,18 +1,21 @@
 //! The order of a serial run, in time of the plan's ports.
-ghost use Rattle.std.specs.Prelude.{◌≡◌, ℕ, List, [], ◌∷◌, ◌++◌, ◌+◌, ◌<◌, ◌^◌, ◌&&◌, ◌||◌, ◌==◌, nat_lt, not, true, false, All, IfOk, OnOk, length, map, is_none, slice_set, slice_index, slice_index_or};
+ghost use Rattle.std.specs.Prelude.{◌≡◌, ℕ, List, [], ◌∷◌, ◌++◌, ◌+◌, ◌<◌, ◌^◌, ◌&&◌, ◌||◌};
+ghost use Rattle.std.specs.Prelude.{◌==◌, nat_lt, not, true, false, All, IfOk, OnOk, length};
+ghost use Rattle.std.specs.Prelude.{map, is_none, slice_set, slice_index, slice_index_or};
 ghost use Rattle.std.specs.Ordering.{nat_cmp};
 ghost use Rattle.std.specs.BTreeSet.{contains};
 ghost use Rattle.flow_types.specs.declared.plan.Plan.{Plan as PlanValue};
 ghost use Rattle.flow_types.specs.Plans.{IsValid, contains_number, files_of};
 ghost use Rattle.flow_types.specs.Serial.{serial_order};
-ghost use Rattle.rule_graph.specs.Progress.{IsWired, IsIndex, IsIndexBelow, IsUnderWay, IsMarked, unmade, times_in};
+ghost use Rattle.rule_graph.specs.Progress.{IsWired, IsIndex, IsIndexBelow};
+ghost use Rattle.rule_graph.specs.Progress.{IsUnderWay, IsMarked, unmade, times_in};
 
 use flow_types::{FileNo, Memory, Plan, Port, Rows, Rule, RuleNo};
 use std::alloc::{AllocError, Global};
 use std::collections::BTreeSet;
 
-/// The rules in the order of a serial run: again and again the least that is not yet taken and whose inputs are sources or
-/// made by taken rules.
+/// The rules in the order of a serial run: again and again the least that is not yet taken and
+/// whose inputs are sources or made by taken rules.
 pub fn serial_order(alloc: Global, plan: &Plan) -> Result<Rows<RuleNo>, Memory>
     requires { IsValid plan.now }
     ensures { IfOk result (λ order. map (λ rule. rule.0) order ≡ serial_order plan.now) }
@@ -79,9 +82,14 @@ fn empty_index(alloc: Global, files: usize) -> Result<Vec<Rows<u32>>, AllocError
 fn add_takers(index: &mut Vec<Rows<u32>>, rule: u32, inputs: &Rows<Port>) -> Result<(), AllocError>
     requires { All (λ port. port.file.0 < length index.old.items) inputs.now }
     ensures len { OnOk result (length index.new.items ≡ length index.old.items) }
-    ensures inside { OnOk result ((n : ℕ) → rule < n → All (All (λ t. t < n)) index.old.items → All (All (λ t. t < n)) index.new.items) }
-    ensures own { OnOk result ((f : ℕ) → f < length index.old.items → times_in rule (slice_index_or index.new.items f []) ≡ times_in rule (slice_index_or index.old.items f []) + times_in f (files_of inputs.now)) }
-    ensures others { OnOk result ((t f : ℕ) → (rule == t) ≡ false → times_in t (slice_index_or index.new.items f []) ≡ times_in t (slice_index_or index.old.items f [])) }
+    ensures inside { OnOk result ((n : ℕ) → rule < n
+        → All (All (λ t. t < n)) index.old.items → All (All (λ t. t < n)) index.new.items) }
+    ensures own { OnOk result ((f : ℕ) → f < length index.old.items
+        → times_in rule (slice_index_or index.new.items f [])
+        ≡ times_in rule (slice_index_or index.old.items f []) + times_in f (files_of inputs.now)) }
+    ensures others { OnOk result ((t f : ℕ) → (rule == t) ≡ false
+        → times_in t (slice_index_or index.new.items f [])
+        ≡ times_in t (slice_index_or index.old.items f [])) }
 {
     for port in inputs.as_slice() {
         add_taker(index, port.file, rule)?;
@@ -91,7 +99,8 @@ fn add_takers(index: &mut Vec<Rows<u32>>, rule: u32, inputs: &Rows<Port>) -> Res
 
 fn add_taker(index: &mut Vec<Rows<u32>>, file: FileNo, rule: u32) -> Result<(), AllocError>
     requires { file.0 < length index.old.items }
-    ensures { OnOk result (index.new.items ≡ slice_set index.old.items file.0 (slice_index_or index.old.items file.0 [] ++ rule ∷ [])) }
+    ensures { OnOk result (index.new.items ≡ slice_set index.old.items file.0
+        (slice_index_or index.old.items file.0 [] ++ rule ∷ [])) }
 {
     match index[file.0 as usize].push(rule) {
         Ok(()) => Ok(()),
@@ -146,7 +155,8 @@ fn missing_of(made: &[bool], rule: &Rule) -> usize
 }
 
 fn missing_inputs(alloc: Global, plan: &Plan, made: &[bool]) -> Result<Vec<usize>, AllocError>
-    ensures { IfOk result (λ missing. missing.items ≡ map (λ rule. unmade made.now (files_of rule.inputs)) plan.now.rules) }
+    ensures { IfOk result (λ missing. missing.items
+        ≡ map (λ rule. unmade made.now (files_of rule.inputs)) plan.now.rules) }
 {
     plan.rules
         .as_slice()
@@ -158,7 +168,8 @@ fn missing_inputs(alloc: Global, plan: &Plan, made: &[bool]) -> Result<Vec<usize
 // The rules that miss no input.
 fn rules_without(alloc: Global, missing: &[usize]) -> Result<BTreeSet<u32>, AllocError>
     requires { length missing.now < 2 ^ 32 }
-    ensures { IfOk result (λ ready. (t : ℕ) → contains nat_cmp ready t ≡ (nat_lt t (length missing.now) && (slice_index missing.now t == 0))) }
+    ensures { IfOk result (λ ready. (t : ℕ) → contains nat_cmp ready t
+        ≡ (nat_lt t (length missing.now) && (slice_index missing.now t == 0))) }
 {
     let mut ready = BTreeSet::new(alloc);
     'rules: for rule in 0..missing.len() {
@@ -172,9 +183,11 @@ fn rules_without(alloc: Global, missing: &[usize]) -> Result<BTreeSet<u32>, Allo
 // A rule hears that one input more is made.
 fn note(progress: &mut Progress, rule: u32) -> Result<(), AllocError>
     requires { rule < length progress.old.missing.items }
-    ensures under_way { OnOk result ((P : PlanValue) (taken rest : List ℕ) → IsUnderWay P taken (rule ∷ rest) progress.old → IsUnderWay P taken rest progress.new) }
+    ensures under_way { OnOk result ((P : PlanValue) (taken rest : List ℕ)
+        → IsUnderWay P taken (rule ∷ rest) progress.old → IsUnderWay P taken rest progress.new) }
     ensures made { OnOk result (progress.new.made.items ≡ progress.old.made.items) }
-    ensures rules { OnOk result (length progress.new.missing.items ≡ length progress.old.missing.items) }
+    ensures rules { OnOk result
+        (length progress.new.missing.items ≡ length progress.old.missing.items) }
 {
     let left = progress.missing[rule as usize].saturating_sub(1);
     progress.missing[rule as usize] = left;
@@ -187,9 +200,11 @@ fn note(progress: &mut Progress, rule: u32) -> Result<(), AllocError>
 // All takers of a file hear that it is made.
 fn announce(progress: &mut Progress, takers: &[u32]) -> Result<(), AllocError>
     requires { All (λ t. t < length progress.old.missing.items) takers.now }
-    ensures under_way { OnOk result ((P : PlanValue) (taken : List ℕ) → IsUnderWay P taken takers.now progress.old → IsUnderWay P taken [] progress.new) }
+    ensures under_way { OnOk result ((P : PlanValue) (taken : List ℕ)
+        → IsUnderWay P taken takers.now progress.old → IsUnderWay P taken [] progress.new) }
     ensures made { OnOk result (progress.new.made.items ≡ progress.old.made.items) }
-    ensures rules { OnOk result (length progress.new.missing.items ≡ length progress.old.missing.items) }
+    ensures rules { OnOk result
+        (length progress.new.missing.items ≡ length progress.old.missing.items) }
 {
     for rule in takers {
         note(progress, *rule)?;
@@ -209,9 +224,12 @@ fn mark(progress: &mut Progress, index: &[Rows<u32>], file: FileNo) -> Result<()
     requires inside { file.0 < length progress.old.made.items }
     requires files { length index.now ≡ length progress.old.made.items }
     requires rules { All (All (λ t. t < length progress.old.missing.items)) index.now }
-    ensures under_way { OnOk result ((P : PlanValue) (taken : List ℕ) → IsIndex P index.now → IsUnderWay P taken [] progress.old → IsUnderWay P taken [] progress.new) }
-    ensures made { OnOk result (progress.new.made.items ≡ slice_set progress.old.made.items file.0 true) }
-    ensures rules { OnOk result (length progress.new.missing.items ≡ length progress.old.missing.items) }
+    ensures under_way { OnOk result ((P : PlanValue) (taken : List ℕ) → IsIndex P index.now
+        → IsUnderWay P taken [] progress.old → IsUnderWay P taken [] progress.new) }
+    ensures made { OnOk result
+        (progress.new.made.items ≡ slice_set progress.old.made.items file.0 true) }
+    ensures rules { OnOk result
+        (length progress.new.missing.items ≡ length progress.old.missing.items) }
 {
     if is_marked(&progress.made, file) {
         return Ok(());
@@ -230,8 +248,12 @@ fn finish(
     requires inside { All (λ port. port.file.0 < length progress.old.made.items) outputs.now }
     requires files { length index.now ≡ length progress.old.made.items }
     requires rules { All (All (λ t. t < length progress.old.missing.items)) index.now }
-    ensures under_way { OnOk result ((P : PlanValue) (taken : List ℕ) → IsIndex P index.now → IsUnderWay P taken [] progress.old → IsUnderWay P taken [] progress.new) }
-    ensures made { OnOk result ((f : ℕ) → f < length progress.old.made.items → slice_index_or progress.new.made.items f false ≡ (slice_index_or progress.old.made.items f false || contains_number f (files_of outputs.now))) }
+    ensures under_way { OnOk result ((P : PlanValue) (taken : List ℕ) → IsIndex P index.now
+        → IsUnderWay P taken [] progress.old → IsUnderWay P taken [] progress.new) }
+    ensures made { OnOk result ((f : ℕ) → f < length progress.old.made.items
+        → slice_index_or progress.new.made.items f false
+        ≡ (slice_index_or progress.old.made.items f false
+        || contains_number f (files_of outputs.now))) }
 {
     for port in outputs.as_slice() {
         mark(progress, index, port.file)?;

@@ -13,9 +13,10 @@ use crate::rows::numbered;
 use flow_types::{Plan, RawFlow, Rows};
 use std::alloc::{AllocError, Global};
 
-/// The plan of a flow, or why it has none: the first fault in the order of `GraphFault`, of one kind that of the least
-/// rule. Rules keep the order of the flow, and files are numbered by the byte order of their names. Commands, variables
-/// and needs are moved into the plan. It costs n log n in the names and goes once over the ports for each kind of fault.
+/// The plan of a flow, or why it has none: the first fault in the order of `GraphFault`, of one
+/// kind that of the least rule. Rules keep the order of the flow, and files are numbered by the
+/// byte order of their names. Commands, variables and needs are moved into the plan. It costs n log
+/// n in the names and goes once over the ports for each kind of fault.
 pub fn plan_of(alloc: Global, flow: RawFlow) -> Result<Plan, GraphFault>
     requires { FitsLimits flow }
     ensures plan { Gives result (plan_of flow) }

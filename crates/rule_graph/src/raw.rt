@@ -2,7 +2,8 @@
 ghost use Rattle.std.specs.Prelude.{◌≡◌, IfOk, OnOk, map, fold};
 ghost use Rattle.flow_types.specs.Names.{form_of};
 ghost use Rattle.rule_graph.specs.Checked.{names_in};
-ghost use Rattle.rule_graph.specs.Flows.{remote_text, raw_port, raw_outputs, raw_inputs, with_port, names_of};
+ghost use Rattle.rule_graph.specs.Flows.{remote_text, raw_port, raw_outputs};
+ghost use Rattle.rule_graph.specs.Flows.{raw_inputs, with_port, names_of};
 
 use flow_types::{Bytes, RawFile, RawFlow, RawRule, Rows, form_of};
 use std::alloc::{AllocError, Global};

@@ -5,8 +5,10 @@ ghost use Rattle.flow_types.specs.Plans.{most_rules, most_files};
 ghost use Rattle.rule_graph.specs.Flows.{names_of, port_for};
 ghost use Rattle.rule_graph.specs.Faults.{makings, second_maker};
 ghost use Rattle.rule_graph.specs.Checked.{HasNames, IsAscending};
-ghost use Rattle.rule_graph.specs.Numbering.{AreLevel, AreOf, AreRowsOf, AreRulesOf, IsBoundOf, IsPortAmong};
-ghost use Rattle.rule_graph.specs.Numbering.{IsNumberedPlan, IsRowOf, IsRuleAmong, IsRuleOf, numbered};
+ghost use Rattle.rule_graph.specs.Numbering.{AreLevel, AreOf, AreRowsOf};
+ghost use Rattle.rule_graph.specs.Numbering.{AreRulesOf, IsBoundOf, IsPortAmong};
+ghost use Rattle.rule_graph.specs.Numbering.{IsNumberedPlan, IsRowOf};
+ghost use Rattle.rule_graph.specs.Numbering.{IsRuleAmong, IsRuleOf, numbered};
 
 use crate::faults::GraphFault;
 use crate::numbering::{
@@ -31,7 +33,8 @@ pub(crate) struct Tables {
 fn is_kept(tables: &Tables, file: usize) -> bool
     requires level { AreLevel tables.now }
     requires inside { file < length tables.now.names.items }
-    ensures { result ≡ (slice_index_or tables.now.kept.items file false || not (slice_index_or tables.now.taken.items file false)) }
+    ensures { result ≡ (slice_index_or tables.now.kept.items file false
+        || not (slice_index_or tables.now.taken.items file false)) }
 {
     tables.kept[file] || !tables.taken[file]
 }
@@ -158,8 +161,10 @@ fn rules_of(alloc: Global, tables: &Tables, raw: Rows<RawRule>) -> Result<Rows<R
 fn tables_of(alloc: Global, flow: &RawFlow) -> Result<Result<Tables, GraphFault>, AllocError>
     requires few { length flow.now.rules ≤ most_rules }
     requires names { All HasNames flow.now.rules }
-    ensures fault { IfOk result (λ made. IfErr made (λ fault. second_maker (makings flow.now) ≡ Some fault)) }
-    ensures faultless { IfOk result (λ made. IfOk made (λ tables. second_maker (makings flow.now) ≡ None)) }
+    ensures fault { IfOk result
+        (λ made. IfErr made (λ fault. second_maker (makings flow.now) ≡ Some fault)) }
+    ensures faultless { IfOk result
+        (λ made. IfOk made (λ tables. second_maker (makings flow.now) ≡ None)) }
     ensures level { IfOk result (λ made. IfOk made AreLevel) }
     ensures tables { IfOk result (λ made. IfOk made (AreOf flow.now)) }
 {

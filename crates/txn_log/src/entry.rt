@@ -1,5 +1,6 @@
 //! A record as an entry of the log, and its append to the file.
-ghost use Rattle.std.specs.Prelude.{◌≡◌, ◌≢◌, ◌≤◌, ◌<◌, ◌+◌, ◌-◌, ◌^◌, ◌++◌, [], ◌∷◌, List, ℕ, length, Option, OnOk, OnErr, IsErrOf};
+ghost use Rattle.std.specs.Prelude.{◌≡◌, ◌≢◌, ◌≤◌, ◌<◌, ◌+◌, ◌-◌, ◌^◌, ◌++◌, [], ◌∷◌};
+ghost use Rattle.std.specs.Prelude.{List, ℕ, length, Option, OnOk, OnErr, IsErrOf};
 ghost use Rattle.byte_fields.specs.Spelling.{counted};
 ghost use Rattle.flow_types.specs.declared.records.Record.{Record};
 ghost use Rattle.log_records.specs.Spelling.{spelling, ListsFew, HasSpelling};
@@ -51,7 +52,8 @@ fn stage(entry: &Record, into: &mut [u8])
     let _end = place_u8(into, 4 + len, CLOSED_GATE);
 }
 
-/// Appends a record behind the closed gate of a log's file, from a buffer that grows where it is too short.
+/// Appends a record behind the closed gate of a log's file, from a buffer that grows where it is
+/// too short.
 pub(crate) fn put_entry<S: Site>(
     alloc: Global,
     site: &mut S,

@@ -1,11 +1,13 @@
-//! Worked examples of what bytes spell a log, each proved by computing. Nothing calls these functions.
-ghost use Rattle.std.specs.Prelude.{◌≡◌, ◌++◌, ◌∷◌, [], length, take, drop, replicate, get_or, Some, None};
+//! Worked examples of what bytes spell a log, each proved by computing. Nothing calls these
+//! functions.
+ghost use Rattle.std.specs.Prelude.{◌≡◌, ◌++◌, ◌∷◌, [], length, take};
+ghost use Rattle.std.specs.Prelude.{drop, replicate, get_or, Some, None};
 ghost use Rattle.txn_log.specs.Gates.{open_gate, closed_gate};
 ghost use Rattle.txn_log.specs.Spells.{entries, front_of, header, Spells, IsUnbegun};
 ghost use Rattle.txn_log.specs.Examples.{one_rule_run, one_lost};
 
-/// A run of one rule takes four records. With its closed gate the log has 227 bytes, and the gates stand where they are said
-/// to. A log that is short or absent has no records.
+/// A run of one rule takes four records. With its closed gate the log has 227 bytes, and the gates
+/// stand where they are said to. A log that is short or absent has no records.
 pub fn example_log_is_spelled()
     ensures size { length (front_of one_rule_run ++ closed_gate ∷ []) ≡ 227 }
     ensures first_gate { length header ≡ 8 }

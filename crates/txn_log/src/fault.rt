@@ -10,7 +10,8 @@ pub enum LogFault {
     /// The log has as many records as one may have.
     #[error("the log is full")]
     Full,
-    /// There is no memory, in this call or in an earlier one of this log. The log is to be recovered.
+    /// There is no memory, in this call or in an earlier one of this log. The log is to be
+    /// recovered.
     #[error("out of memory")]
     Memory,
 }

@@ -1,5 +1,6 @@
 //! Writes that are on the disk, and an entry behind a closed gate.
-ghost use Rattle.std.specs.Prelude.{◌≡◌, ◌≢◌, ◌≤◌, ◌<◌, ◌+◌, ◌^◌, ◌++◌, [], ◌∷◌, List, ℕ, length, take, Option, Some, OnOk};
+ghost use Rattle.std.specs.Prelude.{◌≡◌, ◌≢◌, ◌≤◌, ◌<◌, ◌+◌, ◌^◌, ◌++◌, [], ◌∷◌};
+ghost use Rattle.std.specs.Prelude.{List, ℕ, length, take, Option, Some, OnOk};
 ghost use Rattle.outside.specs.Causes.{HasCause, IsAmple};
 ghost use Rattle.outside.specs.Files.{content, written};
 ghost use Rattle.outside.specs.Disk.{IsTorn, LeavesOnly, IsStepped};
@@ -32,9 +33,11 @@ pub fn write_synced<S: Site>(site: &mut S, name: &Name, at: u64, bytes: &[u8]) -
     Ok(())
 }
 
-/// Puts an entry behind the closed gate of a file, then opens the gate. `behind` is the entry and a closed gate.
+/// Puts an entry behind the closed gate of a file, then opens the gate. `behind` is the entry and a
+/// closed gate.
 ///
-/// At Ok each crash leaves a file with the entry. At any moment before, it leaves the file with the entry or without it.
+/// At Ok each crash leaves a file with the entry. At any moment before, it leaves the file with the
+/// entry or without it.
 pub fn append_behind<S: Site>(
     site: &mut S,
     name: &Name,

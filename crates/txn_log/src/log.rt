@@ -1,9 +1,11 @@
 //! The log of a run.
-ghost use Rattle.std.specs.Prelude.{◌≡◌, ◌≢◌, ◌≤◌, ◌<◌, ◌↔◌, ◌-◌, ◌^◌, ◌++◌, ◌∷◌, [], List, ℕ, length, Option, Some, None, OnOk, OnErr, IsErrOf};
+ghost use Rattle.std.specs.Prelude.{◌≡◌, ◌≢◌, ◌≤◌, ◌<◌, ◌↔◌, ◌-◌, ◌^◌, ◌++◌, ◌∷◌, [], List};
+ghost use Rattle.std.specs.Prelude.{ℕ, length, Option, Some, None, OnOk, OnErr, IsErrOf};
 ghost use Rattle.flow_types.specs.declared.records.Record.{Record};
 ghost use Rattle.log_records.specs.Spelling.{spelling, ListsFew};
 ghost use Rattle.outside.specs.Disk.{LeavesOnly};
-ghost use Rattle.txn_log.specs.Logs.{IsFine, TakesOne, IsLog, IsAppended, HasRoom, Appends, told_of, most_records, farthest};
+ghost use Rattle.txn_log.specs.Logs.{IsFine, TakesOne, IsLog, IsAppended, HasRoom};
+ghost use Rattle.txn_log.specs.Logs.{Appends, told_of, most_records, farthest};
 
 use crate::entry::{AROUND, put_entry, widen};
 use crate::fault::LogFault;
@@ -18,8 +20,9 @@ const MOST_RECORDS: u32 = 1_000_000;
 
 /// A log that stands on a site.
 ///
-/// The site isn't its own: each append is given it. A log that had a fault of the site, or no memory, takes no record any
-/// more: what its file spells then is known again after it was recovered.
+/// The site isn't its own: each append is given it. A log that had a fault of the site, or no
+/// memory, takes no record any more: what its file spells then is known again after it was
+/// recovered.
 #[derive(Drop)]
 pub struct Log {
     alloc: Global,
@@ -89,7 +92,8 @@ impl Log {
         &self.name
     }
 
-    /// Makes room for one append of a record whose spelling has at most that many bytes, and for each after it.
+    /// Makes room for one append of a record whose spelling has at most that many bytes, and for
+    /// each after it.
     pub fn reserve(&mut self, bytes: u32) -> Result<(), Memory>
         ensures room { OnOk result (HasRoom self.new bytes) }
         ensures same { self.new ≡ record self.old { room = self.new.room } }
@@ -101,8 +105,8 @@ impl Log {
 
     /// Appends a record behind the closed gate.
     ///
-    /// At Ok each crash leaves a log that has it. At any moment before, a crash leaves the records that the log had, or
-    /// these and the new one.
+    /// At Ok each crash leaves a log that has it. At any moment before, a crash leaves the records
+    /// that the log had, or these and the new one.
     pub fn append<S: Site>(&mut self, site: &mut S, entry: &Record) -> Result<(), LogFault>
         requires few { ListsFew entry.now }
         requires stands { S.tells → TakesOne self.old
