@@ -24,7 +24,8 @@ fn words_of<R: Env + AllocGlobal>(rt: &R) -> Result<Vec<String>, AllocError> {
     }
 }
 
-// The variables of the environment. Where one isn't text there are none: a flow that asks for one is refused by its name.
+// The variables of the environment. Where one isn't text there are none: a flow that asks for one
+// is refused by its name.
 fn variables_of<R: Env + AllocGlobal>(rt: &R) -> Result<Vec<(String, String)>, AllocError> {
     match env::vars(rt) {
         Ok(variables) => variables.collect(rt.alloc()),

@@ -1,11 +1,12 @@
 -- What words, environment and files ask for: a plan to run, or the first refusal. Each stage is asked once the ones before it let
 -- pass.
-use Rattle.std.specs.Prelude.{ℕ, List, Option, Some, None, Result, Ok, Err, ok_or}
+use Rattle.std.specs.Prelude.{ℕ, List, map, string_bytes, Option, Some, None, Result, Ok, Err, ok_or}
+use Rattle.std.proofs.Common.{String, Global}
 use Rattle.flow_types.specs.declared.numbers.Amounts.{Amounts}
 use Rattle.flow_types.specs.declared.flow.RawFlow.{RawFlow}
 use Rattle.flow_types.specs.declared.plan.Plan.{Plan}
 use Rattle.mf_text.specs.declared.fault.MakeFault.{MakeFault}
-use Rattle.mf_rules.specs.Flow.{flow_of}
+use Rattle.mf_rules.specs.Flow.{flow_of, given_pairs}
 use Rattle.jx_flow.specs.declared.fault.JxFlowFault.{JxFlowFault}
 use Rattle.jx_flow.specs.Flow.{flow_of_text}
 use Rattle.rule_graph.specs.declared.faults.GraphFault.{GraphFault}
@@ -72,3 +73,17 @@ with_sources files P = sources_checked P (source_fault P files)
 -- what words, environment and files ask for
 abbrev pub asked : List (List ℕ) → List (List ℕ × List ℕ) → Files → Result Plan Cause
 asked words env files = and_then (planned words env files) (with_sources files)
+
+-- what the words of a call choose
+abbrev pub choice : List (String Global) → Result Options Cause
+choice words = chosen (map string_bytes words)
+
+-- the plan that the words and the environment of a call give over these files, or the first refusal
+abbrev pub call_plan : List (String Global) → List (String Global × String Global) → Files
+    → Result Plan Cause
+call_plan words env files = planned (map string_bytes words) (given_pairs env) files
+
+-- what a call with these words and this environment asks for over these files
+abbrev pub request : List (String Global) → List (String Global × String Global) → Files
+    → Result Plan Cause
+request words env files = asked (map string_bytes words) (given_pairs env) files

@@ -1,15 +1,16 @@
 //! From the words and the flow file to the plan.
-ghost use Rattle.std.specs.Prelude.{◌≡◌, ◌≤◌, ◌<◌, ℕ, List, [], map, string_bytes, IfOk, IsErrOf, Err};
+ghost use Rattle.std.specs.Prelude.{◌≡◌, ◌≤◌, ◌<◌, ℕ, List, [], IfOk, IsErrOf, Err};
 ghost use Rattle.flow_types.specs.Flows.{FitsLimits};
 ghost use Rattle.flow_types.specs.Plans.{IsValid};
 ghost use Rattle.mf_rules.specs.Flow.{given_pairs};
 ghost use Rattle.master_run.specs.declared.asking.Refusal.{Refusal as RefusalValue};
 ghost use Rattle.rule_graph.specs.Faults as graph;
 ghost use Rattle.command_words.specs.declared.options.Language.TheVariants.{Make, Jx};
-ghost use Rattle.master_run.specs.Asked.{flow_plan, file_plan, planned, read_rules};
+ghost use Rattle.master_run.specs.Asked.{flow_plan, file_plan, call_plan, choice, read_rules};
 ghost use Rattle.master_run.specs.Needs.{with_needs};
-ghost use Rattle.master_run.specs.Stages.{Stage, WordsStage, OfFlow, SaysRefusal, SiteTrace, make_refusal, jx_refusal, graph_refusal};
-ghost use Rattle.master_run.specs.Words.{chosen, flow_language, flow_name};
+ghost use Rattle.master_run.specs.Stages.{Stage, WordsStage, OfFlow, SaysRefusal, SiteTrace};
+ghost use Rattle.master_run.specs.Stages.{make_refusal, jx_refusal, graph_refusal};
+ghost use Rattle.master_run.specs.Words.{flow_language, flow_name};
 
 use crate::needs::{Excess, least_excess};
 use command_words::{Flow, Language, Options, WordsFault, read_words};
@@ -36,8 +37,8 @@ pub enum Refusal {
 
 // What the words choose, if all of it is built.
 fn chosen(alloc: Global, words: &[String]) -> Result<Options, Refusal>
-    ensures stage { Stage (chosen (map string_bytes words.now)) result }
-    ensures words { WordsStage (chosen (map string_bytes words.now)) result }
+    ensures stage { Stage (choice words.now) result }
+    ensures words { WordsStage (choice words.now) result }
     ensures kind { SaysRefusal result }
     ensures no_site { IsErrOf result Refusal.Site → ⊥ }
 {
@@ -127,7 +128,8 @@ fn rules_plan(alloc: Global, name: Name, flow: RawFlow) -> Result<Plan, Refusal>
     }
 }
 
-// The plan of the Makeflow text of the flow of this name. The text is let go before the plan is made.
+// The plan of the Makeflow text of the flow of this name. The text is let go before the plan is
+// made.
 fn make_plan(
     alloc: Global,
     name: Name,
@@ -210,7 +212,8 @@ fn file_plan<S: Site>(
     env: &[(String, String)],
     site: &mut S,
 ) -> Result<Plan, Refusal>
-    ensures stage { S.tells → Stage (file_plan language (given_pairs env.now) (S.files site.old) name total) result }
+    ensures stage { S.tells
+        → Stage (file_plan language (given_pairs env.now) (S.files site.old) name total) result }
     ensures flow { OfFlow name result }
     ensures kind { SaysRefusal result }
     ensures valid { IfOk result IsValid }
@@ -236,8 +239,8 @@ pub fn read_plan<S: Site>(
     env: &[(String, String)],
     site: &mut S,
 ) -> Result<Plan, Refusal>
-    ensures stage { S.tells → Stage (planned (map string_bytes words.now) (given_pairs env.now) (S.files site.old)) result }
-    ensures words { WordsStage (chosen (map string_bytes words.now)) result }
+    ensures stage { S.tells → Stage (call_plan words.now env.now (S.files site.old)) result }
+    ensures words { WordsStage (choice words.now) result }
     ensures kind { SaysRefusal result }
     ensures valid { IfOk result IsValid }
     ensures files { S.tells → S.files site.new ≡ S.files site.old }

@@ -32,7 +32,8 @@ fn printed_cause(cause: Cause, before: u64, after: u64, printed: Result<(), Faul
 
 /// Prints the line of the cause, and answers the cause that stands then.
 pub fn tell<O: Sink>(alloc: Global, plan: &Plan, cause: Cause, out: &mut O) -> Cause
-    ensures told { O.tells → Told plan.now (O.count out.old) (O.count out.new) (O.bytes out.old) (O.bytes out.new) cause result }
+    ensures told { O.tells → Told plan.now
+        (O.count out.old) (O.count out.new) (O.bytes out.old) (O.bytes out.new) cause result }
     ensures stands { IsPrinted (O.count out.old) (O.count out.new) cause result }
     ensures later { O.count out.old ≤ O.count out.new }
 {

@@ -1,8 +1,8 @@
 //! The run of a plan, with the check of its sources before it.
-ghost use Rattle.std.specs.Prelude.{◌≡◌, false, List, ℕ};
+ghost use Rattle.std.specs.Prelude.{◌≡◌, false};
 ghost use Rattle.flow_types.specs.Plans.{IsValid};
 ghost use Rattle.flow_types.specs.Serial.{serial_order};
-ghost use Rattle.plan_run.specs.Course.{IsMadeName};
+ghost use Rattle.plan_run.specs.Course.{KeepsUnmade};
 ghost use Rattle.plan_run.specs.Sources.{source_fault};
 ghost use Rattle.plan_run.specs.Steps.{HasCauses, CountsFailures, is_by_runner};
 ghost use Rattle.master_run.specs.Runs.{PerformEnds, halt_cause, run_cause, refusal_cause};
@@ -24,12 +24,14 @@ pub fn perform<F: Commands, S: Site, R: Runner<F>>(
     runner: &mut R,
 ) -> Result<(), Halt>
     requires { IsValid plan.now }
-    ensures told { S.tells → PerformEnds plan.now F.gives F.may_fail (R.tells runner.old) (source_fault plan.now (S.files site.old))
-        (S.files site.old) (S.files site.new) result }
-    ensures others { S.tells → (name : List ℕ) → (IsMadeName plan.now (serial_order plan.now) name → ⊥) → S.files site.new name ≡ S.files site.old name }
+    ensures told { S.tells → PerformEnds plan.now F.gives F.may_fail (R.tells runner.old)
+        (source_fault plan.now (S.files site.old)) (S.files site.old) (S.files site.new) result }
+    ensures others { S.tells
+        → KeepsUnmade plan.now (serial_order plan.now) (S.files site.old) (S.files site.new) }
     ensures sure { R.sure runner.old → is_by_runner result ≡ false }
     ensures failures { CountsFailures (R.failures runner.old) (R.failures runner.new) result }
-    ensures causes { HasCauses (S.count site.old) (S.count site.new) (R.count runner.old) (R.count runner.new) result }
+    ensures causes { HasCauses (S.count site.old) (S.count site.new)
+        (R.count runner.old) (R.count runner.new) result }
 {
     let order = match serial_order(alloc, plan) {
         Ok(order) => order,

@@ -1,11 +1,11 @@
 //! The top call.
-ghost use Rattle.std.specs.Prelude.{◌≡◌, ◌≤◌, [], Some, Ok, Result, IsTrue, IsOk, map, string_bytes, length};
+ghost use Rattle.std.specs.Prelude.{◌≡◌, ◌≤◌, [], Some, Ok, Result, IsTrue, IsOk, length};
 ghost use Rattle.flow_types.specs.declared.plan.Plan.{Plan as PlanValue};
 ghost use Rattle.report.specs.Causes.{kind_of, status_of};
-ghost use Rattle.master_run.specs.Asked.{asked, planned};
-ghost use Rattle.master_run.specs.Ends.{CallEnds, OthersStay, WordsEnd, FaultEnd, FailureEnd, Prints, NoneRose, is_of_plan, is_unfailed_end, is_rule_failed, counts};
-ghost use Rattle.mf_rules.specs.Flow.{given_pairs};
-ghost use Rattle.master_run.specs.Words.{chosen};
+ghost use Rattle.master_run.specs.Asked.{call_plan, choice, request};
+ghost use Rattle.master_run.specs.Ends.{CallEnds, OthersStay, WordsEnd, FaultEnd};
+ghost use Rattle.master_run.specs.Ends.{FailureEnd, Prints, NoneRose, is_of_plan};
+ghost use Rattle.master_run.specs.Ends.{is_unfailed_end, is_rule_failed, counts};
 ghost use Rattle.std.specs.Prelude.{IsFalse};
 
 use crate::asking::read_plan;
@@ -64,11 +64,16 @@ fn follow<F: Commands, S: Site, R: Runner<F>>(
     site: &mut S,
     runner: &mut R,
 ) -> Course
-    ensures ends { S.tells → CallEnds F.gives F.may_fail (R.tells runner.old) (asked (map string_bytes words.now) (given_pairs env.now) (S.files site.old)) (S.files site.old) (S.files site.new) result.cause }
-    ensures others { S.tells → OthersStay (asked (map string_bytes words.now) (given_pairs env.now) (S.files site.old)) (S.files site.old) (S.files site.new) }
-    ensures plan { S.tells → IsTrue (is_of_plan (kind_of result.cause)) → planned (map string_bytes words.now) (given_pairs env.now) (S.files site.old) ≡ Ok result.plan }
-    ensures words { WordsEnd (chosen (map string_bytes words.now)) result.cause }
-    ensures faults { FaultEnd (counts (S.count site.old) (R.count runner.old) 0) (counts (S.count site.new) (R.count runner.new) 0) result.cause }
+    ensures ends { S.tells → CallEnds F.gives F.may_fail (R.tells runner.old)
+        (request words.now env.now (S.files site.old)) (S.files site.old) (S.files site.new)
+        result.cause }
+    ensures others { S.tells → OthersStay (request words.now env.now (S.files site.old))
+        (S.files site.old) (S.files site.new) }
+    ensures plan { S.tells → IsTrue (is_of_plan (kind_of result.cause))
+        → call_plan words.now env.now (S.files site.old) ≡ Ok result.plan }
+    ensures words { WordsEnd (choice words.now) result.cause }
+    ensures faults { FaultEnd (counts (S.count site.old) (R.count runner.old) 0)
+        (counts (S.count site.new) (R.count runner.new) 0) result.cause }
     ensures failures { FailureEnd (R.failures runner.old) (R.failures runner.new) result.cause }
     ensures sure { R.sure runner.old → IsFalse (is_rule_failed (kind_of result.cause)) }
     ensures site_later { S.count site.old ≤ S.count site.new }
@@ -92,7 +97,8 @@ fn follow<F: Commands, S: Site, R: Runner<F>>(
     }
 }
 
-/// Reads the flow that the words name, runs its rules in the order of the serial run and prints one line about how that ended.
+/// Reads the flow that the words name, runs its rules in the order of the serial run and prints one
+/// line about how that ended.
 pub fn makeflow_top<F: Commands, S: Site, R: Runner<F>, O: Sink>(
     alloc: Global,
     words: &[String],
@@ -104,34 +110,41 @@ pub fn makeflow_top<F: Commands, S: Site, R: Runner<F>, O: Sink>(
     ensures status { result.status ≡ status_of result.cause }
     ensures records { result.records ≡ [] }
 
-    // Where the site tells its files: the refusals that are asked for, in their order; else the end of the plan's run, with
-    // the serial run's contents.
-    ensures ends { S.tells → CallEnds F.gives F.may_fail (R.tells runner.old) (asked (map string_bytes words.now) (given_pairs env.now) (S.files site))
-        (S.files site) (S.files result.site) result.cause }
+    // Where the site tells its files: the refusals that are asked for, in their order; else the end
+    // of the plan's run, with the serial run's contents.
+    ensures ends { S.tells → CallEnds F.gives F.may_fail (R.tells runner.old)
+        (request words.now env.now (S.files site)) (S.files site) (S.files result.site)
+        result.cause }
 
     // However it ends, only files that the plan's rules make were written.
-    ensures others { S.tells → OthersStay (asked (map string_bytes words.now) (given_pairs env.now) (S.files site)) (S.files site) (S.files result.site) }
+    ensures others { S.tells → OthersStay (request words.now env.now (S.files site))
+        (S.files site) (S.files result.site) }
 
-    // Over every site: words that are no command line, or that ask for what isn't built, are refused, and no others.
-    ensures words { WordsEnd (chosen (map string_bytes words.now)) result.cause }
+    // Over every site: words that are no command line, or that ask for what isn't built, are
+    // refused, and no others.
+    ensures words { WordsEnd (choice words.now) result.cause }
 
     // Each fault only where that object's count rose in this call.
     ensures faults { FaultEnd (counts (S.count site) (R.count runner.old) (O.count out.old))
         (counts (S.count result.site) (R.count runner.new) (O.count out.new)) result.cause }
 
-    // CommandFailed exactly where the runner answered that a command failed, which it does once at most.
+    // CommandFailed exactly where the runner answered that a command failed, which it does once at
+    // most.
     ensures failures { FailureEnd (R.failures runner.old) (R.failures runner.new) result.cause }
 
-    // Where the sink tells its bytes, they grew by the cause's line, whole unless the sink's count rose or memory was wanting, and
-    // then by a first part of a line. Complete, CommandFailed and InputsTooLarge are answered only where their line was printed
-    // whole.
-    ensures text { O.tells → Prints (λ plan. S.tells → planned (map string_bytes words.now) (given_pairs env.now) (S.files site) ≡ Ok plan)
+    // Where the sink tells its bytes, they grew by the cause's line, whole unless the sink's count
+    // rose or memory was wanting, and then by a first part of a line. Complete, CommandFailed and
+    // InputsTooLarge are answered only where their line was printed whole.
+    ensures text { O.tells → Prints
+        (λ plan. S.tells → call_plan words.now env.now (S.files site) ≡ Ok plan)
         (O.count out.old) (O.count out.new) (O.bytes out.old) (O.bytes out.new) result.cause }
 
-    // What can be run is run: over a sure runner and with no count rising it ends Complete, stops since the inputs of a ready
-    // rule are too large, or wants memory.
-    ensures completes { S.tells → R.sure runner.old → IsOk (asked (map string_bytes words.now) (given_pairs env.now) (S.files site))
-        → NoneRose (counts (S.count site) (R.count runner.old) (O.count out.old)) (counts (S.count result.site) (R.count runner.new) (O.count out.new))
+    // What can be run is run: over a sure runner and with no count rising it ends Complete, stops
+    // since the inputs of a ready rule are too large, or wants memory.
+    ensures completes { S.tells → R.sure runner.old
+        → IsOk (request words.now env.now (S.files site))
+        → NoneRose (counts (S.count site) (R.count runner.old) (O.count out.old))
+        (counts (S.count result.site) (R.count runner.new) (O.count out.new))
         → IsTrue (is_unfailed_end (kind_of result.cause)) }
 {
     let mut site = site;

@@ -33,6 +33,11 @@ pub record IsMadeName (P : Plan) (done : List ℕ) (name : List ℕ) : Type 0 wh
   pub is_output : IsTrue (contains_number file (makes P rule))
   pub has_name : file_name P file ≡ name
 
+-- No file changed but those that these rules make.
+abbrev pub KeepsUnmade : Plan → List ℕ → Files → Files → Type 0
+KeepsUnmade P done before after =
+    (name : List ℕ) → (IsMadeName P done name → ⊥) → after name ≡ before name
+
 -- What a run leaves once these rules ran: each file that they make is there, with the due content where the runner tells
 -- of the due jobs, and every other file is as it was.
 pub record HasRun (P : Plan) (due : Contents) (told : Type 0) (done : List ℕ) (before after : Files) : Type 0 where

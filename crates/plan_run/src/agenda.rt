@@ -1,5 +1,6 @@
 //! At which place of the order each rule becomes ready.
-ghost use Rattle.std.specs.Prelude.{◌≡◌, ◌<◌, ◌+◌, [], ◌∷◌, ◌++◌, All, IfOk, OnOk, length, map, slice_set, slice_index_or};
+ghost use Rattle.std.specs.Prelude.{◌≡◌, ◌<◌, ◌+◌, [], ◌∷◌, ◌++◌, All, IfOk};
+ghost use Rattle.std.specs.Prelude.{OnOk, length, map, slice_set, slice_index_or};
 ghost use Rattle.flow_types.specs.Plans.{IsValid, files_of};
 ghost use Rattle.flow_types.specs.Serial.{serial_order};
 ghost use Rattle.plan_run.specs.Agenda.{ArePlaces, IsAgenda, file_place, latest};
@@ -29,7 +30,8 @@ fn set_place(places: &mut Vec<usize>, rule: RuleNo, place: usize)
 // For each rule the place of the order from which on it is taken.
 fn rule_places(alloc: Global, plan: &Plan, order: &[RuleNo]) -> Result<Vec<usize>, AllocError>
     requires { map (λ number. number.0) order.now ≡ serial_order plan.now }
-    ensures { IfOk result (λ places. ArePlaces plan.now (length (serial_order plan.now)) places.items) }
+    ensures { IfOk result
+        (λ places. ArePlaces plan.now (length (serial_order plan.now)) places.items) }
 {
     let mut places = unplaced(alloc, plan.rules.len(), order.len() + 1)?;
     for (place, number) in order.iter().enumerate() {
@@ -85,7 +87,8 @@ fn empty_agenda(alloc: Global, places: usize) -> Result<Vec<Rows<RuleNo>>, Alloc
 
 fn add_rule(agenda: &mut Vec<Rows<RuleNo>>, place: usize, rule: RuleNo) -> Result<(), AllocError>
     requires { place < length agenda.old.items }
-    ensures { OnOk result (agenda.new.items ≡ slice_set agenda.old.items place (slice_index_or agenda.old.items place [] ++ rule ∷ [])) }
+    ensures { OnOk result (agenda.new.items ≡ slice_set agenda.old.items place
+        (slice_index_or agenda.old.items place [] ++ rule ∷ [])) }
 {
     match agenda[place].push(rule) {
         Ok(()) => Ok(()),

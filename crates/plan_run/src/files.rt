@@ -36,8 +36,10 @@ pub fn read_file<S: Site>(alloc: Global, site: &mut S, name: &Name) -> Result<Op
 
 /// Makes these bytes the file's content. Two calls of the site.
 pub fn write_file<S: Site>(site: &mut S, name: &Name, bytes: &[u8]) -> Result<(), Fault>
-    ensures written { OnOk result (S.tells → S.files site.new ≡ place name.now (Some bytes.now) (S.files site.old)) }
-    ensures others { S.tells → (m : List ℕ) → m ≢ name.now → S.files site.new m ≡ S.files site.old m }
+    ensures written { OnOk result
+        (S.tells → S.files site.new ≡ place name.now (Some bytes.now) (S.files site.old)) }
+    ensures others { S.tells
+        → (m : List ℕ) → m ≢ name.now → S.files site.new m ≡ S.files site.old m }
     ensures cause { HasCause (S.count site.old) (S.count site.new) result }
 {
     site.write(name, 0, bytes)?;

@@ -16,7 +16,8 @@ fn read_input<S: Site>(
     port: &Port,
 ) -> Result<Result<Given, FileNo>, Fault>
     requires { port.now.file.0 < length plan.now.files }
-    ensures told { IfOk result (λ input. S.tells → InputIs plan.now (S.files site.old) port.now input) }
+    ensures told { IfOk result
+        (λ input. S.tells → InputIs plan.now (S.files site.old) port.now input) }
     ensures files { S.tells → S.files site.new ≡ S.files site.old }
     ensures cause { HasCause (S.count site.old) (S.count site.new) result }
 {
@@ -38,7 +39,8 @@ pub fn read_inputs<S: Site>(
     ports: &[Port],
 ) -> Result<Result<Rows<Given>, FileNo>, Fault>
     requires { PortsIn (length plan.now.files) ports.now }
-    ensures told { IfOk result (λ inputs. S.tells → InputsAre plan.now (S.files site.old) ports.now inputs) }
+    ensures told { IfOk result
+        (λ inputs. S.tells → InputsAre plan.now (S.files site.old) ports.now inputs) }
     ensures files { S.tells → S.files site.new ≡ S.files site.old }
     ensures cause { HasCause (S.count site.old) (S.count site.new) result }
 {

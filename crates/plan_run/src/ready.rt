@@ -21,7 +21,8 @@ pub struct Overfull {
 // The bytes of the file of a port.
 fn file_bytes<S: Site>(site: &mut S, plan: &Plan, port: &Port) -> Result<u64, Fault>
     requires { port.now.file.0 < length plan.now.files }
-    ensures told { IfOk result (λ bytes. S.tells → bytes ≡ size_in plan.now (S.files site.old) port.now.file.0) }
+    ensures told { IfOk result
+        (λ bytes. S.tells → bytes ≡ size_in plan.now (S.files site.old) port.now.file.0) }
     ensures files { S.tells → S.files site.new ≡ S.files site.old }
     ensures cause { HasCause (S.count site.old) (S.count site.new) result }
 {
@@ -35,7 +36,8 @@ fn file_bytes<S: Site>(site: &mut S, plan: &Plan, port: &Port) -> Result<u64, Fa
 // The bytes of the files of these ports together.
 fn input_bytes<S: Site>(site: &mut S, plan: &Plan, ports: &[Port]) -> Result<u64, Fault>
     requires { PortsIn (length plan.now.files) ports.now }
-    ensures told { IfOk result (λ total. S.tells → total ≡ told_bytes (sum_by (size_in plan.now (S.files site.old)) (files_of ports.now))) }
+    ensures told { IfOk result (λ total. S.tells
+        → total ≡ told_bytes (sum_by (size_in plan.now (S.files site.old)) (files_of ports.now))) }
     ensures files { S.tells → S.files site.new ≡ S.files site.old }
     ensures cause { HasCause (S.count site.old) (S.count site.new) result }
 {
@@ -47,7 +49,8 @@ fn input_bytes<S: Site>(site: &mut S, plan: &Plan, ports: &[Port]) -> Result<u64
     Ok(total)
 }
 
-/// The first of these rules whose inputs have too many bytes together. One call of the site for each input.
+/// The first of these rules whose inputs have too many bytes together. One call of the site for
+/// each input.
 pub fn first_overfull<S: Site>(
     site: &mut S,
     plan: &Plan,
@@ -55,7 +58,8 @@ pub fn first_overfull<S: Site>(
 ) -> Result<Option<Overfull>, Fault>
     requires valid { IsValid plan.now }
     requires rules { All (λ rule. rule.0 < length plan.now.rules) rules.now }
-    ensures told { IfOk result (λ over. S.tells → IsFound plan.now (S.files site.old) rules.now over) }
+    ensures told { IfOk result
+        (λ over. S.tells → IsFound plan.now (S.files site.old) rules.now over) }
     ensures files { S.tells → S.files site.new ≡ S.files site.old }
     ensures cause { HasCause (S.count site.old) (S.count site.new) result }
 {

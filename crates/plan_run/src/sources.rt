@@ -23,7 +23,8 @@ fn fault_at<S: Site>(
     file: FileNo,
     row: &FileRow,
 ) -> Result<Option<SourceFault>, Fault>
-    ensures told { IfOk result (λ fault. S.tells → fault ≡ fault_at (S.files site.old) file.0 row.now) }
+    ensures told { IfOk result
+        (λ fault. S.tells → fault ≡ fault_at (S.files site.old) file.0 row.now) }
     ensures files { S.tells → S.files site.new ≡ S.files site.old }
     ensures cause { HasCause (S.count site.old) (S.count site.new) result }
 {
@@ -42,10 +43,12 @@ fn fault_at<S: Site>(
     }
 }
 
-/// What is wrong with the least source with which anything is. One call of the site for each source.
+/// What is wrong with the least source with which anything is. One call of the site for each
+/// source.
 pub fn source_fault<S: Site>(site: &mut S, rows: &[FileRow]) -> Result<Option<SourceFault>, Fault>
     requires { length rows.now < 2 ^ 32 }
-    ensures told { IfOk result (λ fault. S.tells → fault ≡ fault_among (S.files site.old) 0 rows.now) }
+    ensures told { IfOk result
+        (λ fault. S.tells → fault ≡ fault_among (S.files site.old) 0 rows.now) }
     ensures files { S.tells → S.files site.new ≡ S.files site.old }
     ensures cause { HasCause (S.count site.old) (S.count site.new) result }
 {

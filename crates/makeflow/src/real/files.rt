@@ -1,4 +1,5 @@
-//! Regular files by path. None of these calls opens anything but a regular file or a folder, so none waits at a pipe.
+//! Regular files by path. None of these calls opens anything but a regular file or a folder, so
+//! none waits at a pipe.
 ghost use Rattle.std.specs.Prelude.{◌≤◌, length, IfOk};
 
 use std::fs::{File, OpenFile};
@@ -93,8 +94,8 @@ pub fn set_len<R: Files>(rt: &R, path: &str, len: u64) -> io::Result<()> {
     file.set_len(len)
 }
 
-/// Syncs the file, where it is there, and each folder on the way to it: a new or a removed name is durable only once
-/// the folder that holds it is.
+/// Syncs the file, where it is there, and each folder on the way to it: a new or a removed name is
+/// durable only once the folder that holds it is.
 pub fn sync_name<R: Files>(rt: &R, path: &str) -> io::Result<()> {
     if file_len(rt, path)?.is_some() {
         let file = fs::open(rt, path)?;

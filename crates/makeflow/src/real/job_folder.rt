@@ -17,8 +17,8 @@ const RUNNABLE: u32 = 0o755;
 
 const MOST_TRIES: u32 = 1_000_000;
 
-/// Makes a new folder under the system's temporary folder, for its owner alone. One that is there already is never
-/// taken, so no two jobs share a folder.
+/// Makes a new folder under the system's temporary folder, for its owner alone. One that is there
+/// already is never taken, so no two jobs share a folder.
 pub fn new_folder<R: Files + AllocGlobal + Env>(rt: &R, process: u32) -> io::Result<String> {
     let base = env::temp_dir(rt)?;
     let base = base.as_path().as_str();

@@ -13,8 +13,8 @@ use std::{fs, io};
 
 const MOST_TOGETHER: u64 = 67_108_864;
 
-/// The contents of the outputs, or the least output that is missing, is longer than its bound, or with which all
-/// outputs together are too long.
+/// The contents of the outputs, or the least output that is missing, is longer than its bound, or
+/// with which all outputs together are too long.
 pub fn take_outputs<R: Files>(rt: &R, alloc: Global, folder: &str, job: &Job) -> io::Result<Outcome>
     ensures { IfOk result (IsShaped job.now) }
 {

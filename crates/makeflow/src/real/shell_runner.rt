@@ -17,8 +17,8 @@ use std::rt::{Env, Files};
 // What a shell adds to the number of a signal that ended a command.
 const SIGNALLED: i32 = 128;
 
-/// Runs each job by `sh -c` in a folder of its own under the temporary folder. The folder goes when the job ends,
-/// whatever happened; one that can't be removed is a fault.
+/// Runs each job by `sh -c` in a folder of its own under the temporary folder. The folder goes when
+/// the job ends, whatever happened; one that can't be removed is a fault.
 #[derive(Drop)]
 pub struct ShellRunner<'a, R> {
     rt: &'a R,
