@@ -34,3 +34,7 @@ pub record IsCall {T : Type 0} (old new : Calls) (has_to_fail : Type 0) (result 
   pub passed : OnOk result ((has_to_fail → ⊥) × (new.faults ≡ old.faults))
   pub failed : IsErrOf result Failed → has_to_fail × (new.faults ≡ old.faults + 1)
   pub memory : IsErrOf result Memory → (has_to_fail → old.faults ≡ 2 ^ 64 - 1) × (new.faults ≡ old.faults)
+
+-- One call more was made, which failed where it was due to.
+abbrev pub IsDueCall : {T : Type 0} → Calls → Calls → Result T Fault → Type 0
+IsDueCall old new result = IsCall old new (IsDue old) result

@@ -3,7 +3,7 @@ use Rattle.std.specs.Prelude.{◌≡◌, ℕ, List, [], ◌∷◌, ◌++◌, len
 use Rattle.mem_outside.specs.declared.mem_site.MemSite.{MemSite}
 use Rattle.mem_outside.specs.declared.step.Change.{Change}
 use Rattle.mem_outside.specs.declared.step.Step.{Step}
-use Rattle.outside.specs.Disk.{Outcomes}
+use Rattle.outside.specs.Disk.{Outcomes, Elapses}
 use Rattle.outside.specs.Files.{Files}
 use Rattle.mem_outside.specs.Calls.{Calls, calls_in}
 use Rattle.mem_outside.specs.Entries.{files_in}
@@ -36,6 +36,11 @@ moment_of site = length (steps_of site)
 -- what a crash since a time might have left
 abbrev pub images_of : MemSite → ℕ → Files → Type 0
 images_of site = images (start_of site) (steps_of site)
+
+-- Its disk time goes on by a call.
+abbrev pub TimePasses : MemSite → MemSite → Type 0
+TimePasses old new =
+    Elapses (moment_of old) (moment_of new) (images_of old) (images_of new) (leaves_of new)
 
 -- what a crash might have left when a call had ended
 abbrev pub leaves_at : ℕ → MemSite → Outcomes

@@ -1,7 +1,7 @@
 //! The calls of an object in memory: which are to fail, and how many did.
 ghost use Rattle.std.specs.Prelude.{◌≡◌, ◌+◌, ◌-◌, ◌^◌, OnOk, OnErr};
 ghost use Rattle.outside.specs.Causes.{HasCause};
-ghost use Rattle.mem_outside.specs.Calls.{calls_in, no_calls, with_failure, IsDue, IsCall};
+ghost use Rattle.mem_outside.specs.Calls.{calls_in, no_calls, with_failure, IsDue, IsDueCall};
 
 use flow_types::Memory;
 use outside::{Fault, failed};
@@ -46,7 +46,7 @@ impl CallList {
 
     // Counts a call, which fails where it is to.
     pub(crate) fn begin(&mut self) -> Result<(), Fault>
-        ensures call { IsCall (calls_in self.old) (calls_in self.new) (IsDue (calls_in self.old)) result }
+        ensures call { IsDueCall (calls_in self.old) (calls_in self.new) result }
         ensures stopped { OnErr result (IsDue (calls_in self.old)) }
         ensures cause { HasCause (calls_in self.old).faults (calls_in self.new).faults result }
     {
@@ -60,10 +60,12 @@ impl CallList {
 
     // Counts a fault. At the count's last value it is want of memory.
     pub(crate) fn fail(&mut self) -> Fault
-        ensures failed { result ≡ Fault.Failed → (calls_in self.new).faults ≡ (calls_in self.old).faults + 1 }
+        ensures failed { result ≡ Fault.Failed
+            → (calls_in self.new).faults ≡ (calls_in self.old).faults + 1 }
         ensures memory { result ≡ Fault.Memory →
             ((calls_in self.old).faults ≡ 2 ^ 64 - 1) × (calls_in self.new ≡ calls_in self.old) }
-        ensures others { calls_in self.new ≡ record (calls_in self.old) { faults = (calls_in self.new).faults } }
+        ensures others { calls_in self.new
+            ≡ record (calls_in self.old) { faults = (calls_in self.new).faults } }
     {
         failed(&mut self.faults)
     }

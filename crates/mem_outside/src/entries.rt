@@ -26,8 +26,8 @@ pub(crate) fn apply(
     name: &[u8],
     change: &Change,
 ) -> Result<(), AllocError>
-    ensures ok { OnOk result (files_in entries.new
-        ≡ with_file name.now (value_after change.now (files_in entries.old name.now)) (files_in entries.old)) }
+    ensures ok { OnOk result (files_in entries.new ≡ with_file name.now
+        (value_after change.now (files_in entries.old name.now)) (files_in entries.old)) }
     ensures err { OnErr result (files_in entries.new ≡ files_in entries.old) }
 {
     match change {
@@ -82,8 +82,8 @@ pub(crate) fn settle(
     }
 }
 
-// Writes over the bytes of the file from `at`, or from their end where that comes first, and past their end. It makes the
-// file where there is none.
+// Writes over the bytes of the file from `at`, or from their end where that comes first, and past
+// their end. It makes the file where there is none.
 fn write(
     alloc: Global,
     entries: &mut Entries,
@@ -92,7 +92,8 @@ fn write(
     bytes: &[u8],
 ) -> Result<(), AllocError>
     ensures ok { OnOk result (files_in entries.new ≡ with_file name.now
-        (Some (written at bytes.now (content (files_in entries.old name.now)))) (files_in entries.old)) }
+        (Some (written at bytes.now (content (files_in entries.old name.now))))
+        (files_in entries.old)) }
     ensures err { OnErr result (files_in entries.new ≡ files_in entries.old) }
 {
     match entries.get_mut(name) {
@@ -104,7 +105,8 @@ fn write(
 // Cuts the file, if it is there.
 fn cut(entries: &mut Entries, name: &[u8], len: usize)
     ensures { files_in entries.new ≡ with_file name.now
-        (option_map (λ bytes. take len bytes) (files_in entries.old name.now)) (files_in entries.old) }
+        (option_map (λ bytes. take len bytes) (files_in entries.old name.now))
+        (files_in entries.old) }
 {
     if let Some(file) = entries.get_mut(name) {
         file.truncate(len);

@@ -1,4 +1,5 @@
-//! The outside in memory, for tests: files, commands and a place to print to, with faults where a test wants them.
+//! The outside in memory, for tests: files, commands and a place to print to, with faults where a
+//! test wants them.
 #![tactic(auto)]
 
 mod blank;

@@ -2,7 +2,7 @@
 ghost use Rattle.std.specs.Prelude.{◌≡◌, [], OnOk, OnErr};
 ghost use Rattle.outside.specs.Causes.{HasCause};
 ghost use Rattle.outside.specs.Sent.{Sends};
-ghost use Rattle.mem_outside.specs.Calls.{no_calls, with_failure, IsDue, IsCall};
+ghost use Rattle.mem_outside.specs.Calls.{no_calls, with_failure, IsDueCall};
 ghost use Rattle.mem_outside.specs.MemSink.{bytes_of, calls_of};
 
 use crate::calls::CallList;
@@ -57,7 +57,7 @@ impl Sink for MemSink {
         ensures bytes { Sends result text.now (bytes_of self.old) (bytes_of self.new) }
         ensures err { OnErr result (bytes_of self.new ≡ bytes_of self.old) }
         ensures cause { HasCause (calls_of self.old).faults (calls_of self.new).faults result }
-        ensures call { IsCall (calls_of self.old) (calls_of self.new) (IsDue (calls_of self.old)) result }
+        ensures call { IsDueCall (calls_of self.old) (calls_of self.new) result }
     {
         self.calls.begin()?;
         match self.bytes.extend_from_slice(text) {

@@ -12,10 +12,11 @@ use crate::entries::Entries;
 use crate::step::Step;
 use std::alloc::Global;
 
-/// Files by name. The calls that take the site as `&mut` are numbered from 0, but for `put` and `fail_at`.
+/// Files by name. The calls that take the site as `&mut` are numbered from 0, but for `put` and
+/// `fail_at`.
 ///
-/// It keeps each step that was done to its files, and so knows what a crash at each moment may leave. A call that fails
-/// does nothing.
+/// It keeps each step that was done to its files, and so knows what a crash at each moment may
+/// leave. A call that fails does nothing.
 #[derive(Drop)]
 pub struct MemSite {
     alloc: Global,

@@ -14,7 +14,8 @@ pub(crate) enum Change {
     Sync,
 }
 
-// A change, and the number of the call that made it. What was put has the number of the call before which it was.
+// A change, and the number of the call that made it. What was put has the number of the call before
+// which it was.
 #[derive(Drop)]
 pub(crate) struct Step {
     pub(crate) call: u64,

@@ -1,11 +1,13 @@
 //! A runner that answers from a table.
-ghost use Rattle.std.specs.Prelude.{◌≡◌, ◌≢◌, ◌⊎◌, Some, None, IfOk, OnOk, OnErr, IfSome, IfNone, true, false, Ok, if◌then◌else◌, ◌+◌, ◌-◌, ◌^◌};
+ghost use Rattle.std.specs.Prelude.{◌≡◌, ◌≢◌, ◌⊎◌, Some, None, IfOk, OnOk, OnErr, IfSome};
+ghost use Rattle.std.specs.Prelude.{IfNone, true, false, Ok, if◌then◌else◌, ◌+◌, ◌-◌, ◌^◌};
 ghost use Rattle.flow_types.specs.declared.job.Job.{Job as JobValue};
 ghost use Rattle.flow_types.specs.Serial.{given_by};
 ghost use Rattle.outside.specs.Causes.{HasCause};
 ghost use Rattle.outside.specs.Jobs.{IsShaped, IsHonest, CountsFailure, is_failure};
 ghost use Rattle.mem_outside.specs.Calls.{no_calls, with_failure, IsDue, IsCall};
-ghost use Rattle.mem_outside.specs.TableRunner.{outcomes_in, outcomes_of, calls_of, failures_of, with_outcome, IsLacking, IsTold};
+ghost use Rattle.mem_outside.specs.TableRunner.{outcomes_in, outcomes_of, calls_of};
+ghost use Rattle.mem_outside.specs.TableRunner.{failures_of, with_outcome, IsLacking, IsTold};
 
 use crate::calls::CallList;
 use crate::fitting::fits;
@@ -17,8 +19,8 @@ use std::marker::PhantomData;
 
 type Table = BTreeMap<String, Outcome>;
 
-/// Answers each job with the outcome that was put under its command, and fails where there is none that fits the job.
-/// The jobs are numbered from 0.
+/// Answers each job with the outcome that was put under its command, and fails where there is none
+/// that fits the job. The jobs are numbered from 0.
 #[derive(Drop)]
 pub struct TableRunner<F: Commands> {
     alloc: Global,
@@ -74,7 +76,8 @@ impl<F: Commands> TableRunner<F> {
 }
 
 impl<F: Commands> Runner<F> for TableRunner<F> {
-    ghost tells = { λ runner job. IsTold (given_by F.gives job) (F.may_fail job) (outcomes_of runner job.command) };
+    ghost tells = { λ runner job.
+        IsTold (given_by F.gives job) (F.may_fail job) (outcomes_of runner job.command) };
 
     ghost sure = { λ runner. ⊥ };
 
@@ -85,19 +88,24 @@ impl<F: Commands> Runner<F> for TableRunner<F> {
     fn run(&mut self, alloc: Global, job: &Job) -> Result<Outcome, Fault>
         ensures shape { IfOk result (IsShaped job.now) }
         ensures honest { IfOk result (λ outcome.
-            IsTold (given_by F.gives job.now) (F.may_fail job.now) (outcomes_of self.old job.now.command)
+            IsTold (given_by F.gives job.now) (F.may_fail job.now)
+            (outcomes_of self.old job.now.command)
             → IsHonest (given_by F.gives job.now) (F.may_fail job.now) outcome) }
-        ensures still_tells { (other : JobValue) →
-            IsTold (given_by F.gives other) (F.may_fail other) (outcomes_of self.old other.command)
-            → IsTold (given_by F.gives other) (F.may_fail other) (outcomes_of self.new other.command) }
-        ensures outcome { IfOk result (λ outcome. outcomes_of self.old job.now.command ≡ Some outcome) }
+        ensures still_tells { (other : JobValue)
+            → IsTold (given_by F.gives other)
+            (F.may_fail other) (outcomes_of self.old other.command)
+            → IsTold (given_by F.gives other)
+            (F.may_fail other) (outcomes_of self.new other.command) }
+        ensures outcome { IfOk result
+            (λ outcome. outcomes_of self.old job.now.command ≡ Some outcome) }
         ensures outcomes { outcomes_of self.new ≡ outcomes_of self.old }
         ensures failures { CountsFailure (failures_of self.old) (failures_of self.new) result }
         ensures counted { failures_of self.new ≡
             (if is_failure result then failures_of self.old + 1 else failures_of self.old) }
         ensures cause { HasCause (calls_of self.old).faults (calls_of self.new).faults result }
         ensures call { IsCall (calls_of self.old) (calls_of self.new)
-            (IsDue (calls_of self.old) ⊎ IsLacking (outcomes_of self.old job.now.command) job.now) result }
+            (IsDue (calls_of self.old) ⊎ IsLacking (outcomes_of self.old job.now.command) job.now)
+            result }
     {
         self.calls.begin()?;
         let Some(outcome) = fitting(&self.table, job) else {
@@ -137,7 +145,8 @@ fn fitting<'a>(table: &'a Table, job: &Job) -> Option<&'a Outcome>
     }
 }
 
-// Counts the outcome where it is that a command failed. It is false where the count stands at its last value.
+// Counts the outcome where it is that a command failed. It is false where the count stands at its
+// last value.
 fn count_failure(failures: &mut u64, outcome: &Outcome) -> bool
     ensures counted { result ≡ true → failures.new ≡
         (if is_failure (Ok outcome.now) then failures.old + 1 else failures.old) }

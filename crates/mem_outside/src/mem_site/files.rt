@@ -1,9 +1,9 @@
 //! The files of a site in memory, and how a change of one is kept.
 ghost use Rattle.std.specs.Prelude.{◌≡◌, ◌∷◌, ◌++◌, [], Some, OnOk, OnErr, IsErrOf, option_map};
-ghost use Rattle.outside.specs.Disk.{Elapses};
 ghost use Rattle.mem_outside.specs.Calls.{no_calls, with_failure};
 ghost use Rattle.mem_outside.specs.Entries.{with_file};
-ghost use Rattle.mem_outside.specs.MemSite.{files_of, calls_of, start_of, steps_of, leaves_of, moment_of, images_of, no_files, IsStill, IsKept};
+ghost use Rattle.mem_outside.specs.MemSite.{files_of, calls_of, start_of, steps_of, leaves_of};
+ghost use Rattle.mem_outside.specs.MemSite.{no_files, IsStill, IsKept, TimePasses};
 ghost use Rattle.mem_outside.specs.Steps.{value_after};
 ghost use Rattle.mem_outside.specs.declared.step.Change.TheVariants.{Put as PutChange};
 
@@ -68,8 +68,8 @@ impl MemSite {
 
     // Does a change to a file, and keeps it under the number of a call.
     pub(super) fn keep(&mut self, call: u64, name: &Name, change: Change) -> Result<(), Fault>
-        ensures files { OnOk result (files_of self.new
-            ≡ with_file name.now (value_after change (files_of self.old name.now)) (files_of self.old)) }
+        ensures files { OnOk result (files_of self.new ≡ with_file name.now
+            (value_after change (files_of self.old name.now)) (files_of self.old)) }
         ensures same { OnErr result (files_of self.new ≡ files_of self.old) }
         ensures steps { OnOk result (steps_of self.new
             ≡ steps_of self.old ++ record { call = call; name = name.now; change = change } ∷ []) }
@@ -77,8 +77,7 @@ impl MemSite {
         ensures start { start_of self.new ≡ start_of self.old }
         ensures calls { calls_of self.new ≡ calls_of self.old }
         ensures cause { OnErr result (IsErrOf result Fault.Memory) }
-        ensures time { Elapses (moment_of self.old) (moment_of self.new)
-            (images_of self.old) (images_of self.new) (leaves_of self.new) }
+        ensures time { TimePasses self.old self.new }
     {
         let own = name.copy(self.alloc)?;
         self.steps.reserve(1)?;

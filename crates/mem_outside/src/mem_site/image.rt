@@ -4,7 +4,8 @@ ghost use Rattle.std.specs.List.{position};
 ghost use Rattle.outside.specs.Disk.{IsImage};
 ghost use Rattle.mem_outside.specs.Calls.{no_calls};
 ghost use Rattle.mem_outside.specs.Entries.{files_in};
-ghost use Rattle.mem_outside.specs.MemSite.{files_of, calls_of, start_of, steps_of, images_of, leaves_at, moment_at, reads_at, synced_at};
+ghost use Rattle.mem_outside.specs.MemSite.{files_of, calls_of, start_of, steps_of, images_of};
+ghost use Rattle.mem_outside.specs.MemSite.{leaves_at, moment_at, reads_at, synced_at};
 ghost use Rattle.mem_outside.specs.Steps.{is_durable, stepped, settled, reads, synced, up_to};
 
 use super::MemSite;
@@ -22,15 +23,19 @@ struct Disk {
 }
 
 impl MemSite {
-    /// What a crash may leave at the moment when the call of that number had ended, or now where there was no such call.
-    /// At choice 0 each file is as it was when it was last synced or put, and at any other as reads gave it.
+    /// What a crash may leave at the moment when the call of that number had ended, or now where
+    /// there was no such call. At choice 0 each file is as it was when it was last synced or put,
+    /// and at any other as reads gave it.
     ///
     /// The site that is answered has no other image, and its calls are numbered from 0 again.
     pub fn image(&self, alloc: Global, call: u64, choice: u64) -> Result<MemSite, Memory>
         ensures image { IfOk result (λ image. IsImage (leaves_at call self.now) (files_of image)) }
-        ensures since { IfOk result (λ image. (t : ℕ) → t ≤ moment_at call self.now → images_of self.now t (files_of image)) }
-        ensures synced { choice ≡ 0 → IfOk result (λ image. files_of image ≡ synced_at call self.now) }
-        ensures written { choice ≡ 1 → IfOk result (λ image. files_of image ≡ reads_at call self.now) }
+        ensures since { IfOk result (λ image. (t : ℕ)
+            → t ≤ moment_at call self.now → images_of self.now t (files_of image)) }
+        ensures synced { choice ≡ 0
+            → IfOk result (λ image. files_of image ≡ synced_at call self.now) }
+        ensures written { choice ≡ 1
+            → IfOk result (λ image. files_of image ≡ reads_at call self.now) }
         ensures start { IfOk result (λ image. start_of image ≡ files_of image) }
         ensures steps { IfOk result (λ image. steps_of image ≡ []) }
         ensures calls { IfOk result (λ image. calls_of image ≡ no_calls) }
@@ -84,8 +89,10 @@ fn steps_up_to(steps: &[Step], call: u64) -> &[Step]
 
 // What some steps make of files that were on the disk.
 fn replay(alloc: Global, start: &Entries, steps: &[Step]) -> Result<Disk, AllocError>
-    ensures written { IfOk result (λ disk. files_in disk.written ≡ reads (files_in start.now) steps.now) }
-    ensures synced { IfOk result (λ disk. files_in disk.synced ≡ synced (files_in start.now) steps.now) }
+    ensures written { IfOk result
+        (λ disk. files_in disk.written ≡ reads (files_in start.now) steps.now) }
+    ensures synced { IfOk result
+        (λ disk. files_in disk.synced ≡ synced (files_in start.now) steps.now) }
 {
     let mut disk = Disk {
         written: entries::copy(start)?,

@@ -1,12 +1,19 @@
 //! A site in memory as a site, with all that a crash may leave of it.
-ghost use Rattle.std.specs.Prelude.{◌≡◌, ◌≤◌, length, take, Some, None, IfOk, OnErr, IsSome, option_map};
+ghost use Rattle.std.specs.Prelude.{◌≡◌, ◌≤◌, length, take, Some, None};
+ghost use Rattle.std.specs.Prelude.{IfOk, OnErr, IsSome, option_map};
 ghost use Rattle.outside.specs.Causes.{HasCause};
-ghost use Rattle.outside.specs.Disk.{IsTorn, IsShortened, IsRemoved, Within, Follows, Settles, Elapses};
+ghost use Rattle.outside.specs.Disk.{IsTorn, IsShortened, IsRemoved};
+ghost use Rattle.outside.specs.Disk.{Within, Follows, Settles};
 ghost use Rattle.outside.specs.Files.{content, written, Reads, Sets, Keeps};
-ghost use Rattle.mem_outside.specs.Calls.{IsDue, IsCall};
-ghost use Rattle.mem_outside.specs.MemSite.{files_of, calls_of, start_of, steps_of, leaves_of, moment_of, images_of, IsStill, IsKept};
+ghost use Rattle.mem_outside.specs.Calls.{IsDueCall};
+ghost use Rattle.mem_outside.specs.MemSite.{files_of, calls_of, start_of, steps_of};
+ghost use Rattle.mem_outside.specs.MemSite.{leaves_of, moment_of, images_of};
+ghost use Rattle.mem_outside.specs.MemSite.{IsStill, IsKept, TimePasses};
 ghost use Rattle.mem_outside.specs.StepLaws.{reads_image, counts_now, only_now};
-ghost use Rattle.mem_outside.specs.declared.step.Change.TheVariants.{Write as WriteChange, Cut as CutChange, Remove as RemoveChange, Sync as SyncChange};
+ghost use Rattle.mem_outside.specs.declared.step.Change.TheVariants.{Write as WriteChange};
+ghost use Rattle.mem_outside.specs.declared.step.Change.TheVariants.{Cut as CutChange};
+ghost use Rattle.mem_outside.specs.declared.step.Change.TheVariants.{Remove as RemoveChange};
+ghost use Rattle.mem_outside.specs.declared.step.Change.TheVariants.{Sync as SyncChange};
 
 use super::MemSite;
 use crate::entries;
@@ -29,12 +36,14 @@ impl Site for MemSite {
 
     ghost ample = { λ site. ⊥ };
 
-    ghost reads_image = { λ told site. reads_image (start_of site) (steps_of site) (files_of site) site.agrees };
+    ghost reads_image = { λ told site.
+        reads_image (start_of site) (steps_of site) (files_of site) site.agrees };
 
     ghost counts_now = { λ told site t image le is.
         counts_now (start_of site) (steps_of site) t image le is };
 
-    ghost only_now = { λ told site image since. only_now (start_of site) (steps_of site) image since };
+    ghost only_now = { λ told site image since.
+        only_now (start_of site) (steps_of site) image since };
 
     ghost ample_below = { λ site never. absurd never };
 
@@ -43,10 +52,9 @@ impl Site for MemSite {
         ensures files { files_of self.new ≡ files_of self.old }
         ensures still { IsStill self.old self.new }
         ensures crash { Within (leaves_of self.old) (leaves_of self.new) }
-        ensures time { Elapses (moment_of self.old) (moment_of self.new)
-            (images_of self.old) (images_of self.new) (leaves_of self.new) }
+        ensures time { TimePasses self.old self.new }
         ensures cause { HasCause (calls_of self.old).faults (calls_of self.new).faults result }
-        ensures call { IsCall (calls_of self.old) (calls_of self.new) (IsDue (calls_of self.old)) result }
+        ensures call { IsDueCall (calls_of self.old) (calls_of self.new) result }
     {
         self.calls.begin()?;
         match entries::file(&self.entries, name.as_bytes()) {
@@ -62,10 +70,9 @@ impl Site for MemSite {
         ensures files { files_of self.new ≡ files_of self.old }
         ensures still { IsStill self.old self.new }
         ensures crash { Within (leaves_of self.old) (leaves_of self.new) }
-        ensures time { Elapses (moment_of self.old) (moment_of self.new)
-            (images_of self.old) (images_of self.new) (leaves_of self.new) }
+        ensures time { TimePasses self.old self.new }
         ensures cause { HasCause (calls_of self.old).faults (calls_of self.new).faults result }
-        ensures call { IsCall (calls_of self.old) (calls_of self.new) (IsDue (calls_of self.old)) result }
+        ensures call { IsDueCall (calls_of self.old) (calls_of self.new) result }
     {
         self.calls.begin()?;
         match entries::file(&self.entries, name.as_bytes()) {
@@ -83,10 +90,9 @@ impl Site for MemSite {
         ensures kept { IsKept result name.now (WriteChange at bytes.now) self.old self.new }
         ensures crash { Follows result name.now (IsTorn at (length bytes.now))
             (leaves_of self.old) (leaves_of self.new) }
-        ensures time { Elapses (moment_of self.old) (moment_of self.new)
-            (images_of self.old) (images_of self.new) (leaves_of self.new) }
+        ensures time { TimePasses self.old self.new }
         ensures cause { HasCause (calls_of self.old).faults (calls_of self.new).faults result }
-        ensures call { IsCall (calls_of self.old) (calls_of self.new) (IsDue (calls_of self.old)) result }
+        ensures call { IsDueCall (calls_of self.old) (calls_of self.new) result }
     {
         let call = self.calls.made();
         self.calls.begin()?;
@@ -104,10 +110,9 @@ impl Site for MemSite {
         ensures kept { IsKept result name.now (CutChange len) self.old self.new }
         ensures crash { Follows result name.now (IsShortened len)
             (leaves_of self.old) (leaves_of self.new) }
-        ensures time { Elapses (moment_of self.old) (moment_of self.new)
-            (images_of self.old) (images_of self.new) (leaves_of self.new) }
+        ensures time { TimePasses self.old self.new }
         ensures cause { HasCause (calls_of self.old).faults (calls_of self.new).faults result }
-        ensures call { IsCall (calls_of self.old) (calls_of self.new) (IsDue (calls_of self.old)) result }
+        ensures call { IsDueCall (calls_of self.old) (calls_of self.new) result }
     {
         let call = self.calls.made();
         self.calls.begin()?;
@@ -120,10 +125,9 @@ impl Site for MemSite {
         ensures kept { IsKept result name.now SyncChange self.old self.new }
         ensures crash { Settles result name.now (files_of self.new)
             (leaves_of self.old) (leaves_of self.new) }
-        ensures time { Elapses (moment_of self.old) (moment_of self.new)
-            (images_of self.old) (images_of self.new) (leaves_of self.new) }
+        ensures time { TimePasses self.old self.new }
         ensures cause { HasCause (calls_of self.old).faults (calls_of self.new).faults result }
-        ensures call { IsCall (calls_of self.old) (calls_of self.new) (IsDue (calls_of self.old)) result }
+        ensures call { IsDueCall (calls_of self.old) (calls_of self.new) result }
     {
         let call = self.calls.made();
         self.calls.begin()?;
@@ -134,11 +138,11 @@ impl Site for MemSite {
         ensures files { Sets result name.now None (files_of self.old) (files_of self.new) }
         ensures err { OnErr result (files_of self.new ≡ files_of self.old) }
         ensures kept { IsKept result name.now RemoveChange self.old self.new }
-        ensures crash { Follows result name.now IsRemoved (leaves_of self.old) (leaves_of self.new) }
-        ensures time { Elapses (moment_of self.old) (moment_of self.new)
-            (images_of self.old) (images_of self.new) (leaves_of self.new) }
+        ensures crash { Follows result name.now IsRemoved
+            (leaves_of self.old) (leaves_of self.new) }
+        ensures time { TimePasses self.old self.new }
         ensures cause { HasCause (calls_of self.old).faults (calls_of self.new).faults result }
-        ensures call { IsCall (calls_of self.old) (calls_of self.new) (IsDue (calls_of self.old)) result }
+        ensures call { IsDueCall (calls_of self.old) (calls_of self.new) result }
     {
         let call = self.calls.made();
         self.calls.begin()?;
