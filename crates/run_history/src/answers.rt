@@ -21,7 +21,8 @@ pub enum Nothing {
     NoFit {
         rule: RuleNo,
     },
-    /// No ready rule that fits the link fits the storage; this is the least that fits the link. All are bytes.
+    /// No ready rule that fits the link fits the storage; this is the least that fits the link. All
+    /// are bytes.
     NoStorage {
         rule: RuleNo,
         need: u64,

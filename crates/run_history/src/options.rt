@@ -11,7 +11,8 @@ pub enum Mode {
     OnDemand,
 }
 
-/// What a run is asked for. The limit is in bytes; `wq` says that rules run on workers, but for the local ones.
+/// What a run is asked for. The limit is in bytes; `wq` says that rules run on workers, but for the
+/// local ones.
 #[derive(Clone, Copy, Debug, PartialEq, Eq)]
 pub struct Options {
     pub mode: Mode,
