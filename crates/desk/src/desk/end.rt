@@ -20,7 +20,8 @@ use run_history::{Check, Stop};
 impl<F: Commands, S: Site, T: Terms> Desk<F, S, T> {
     /// Asks for a stop, and answers whether one stands now. The first stop stays. Where none stands
     /// Halt is set always, and Waited where waiting is in vain: no attempt runs, no file is wanted,
-    /// and some ready rule fits the storage, but no live link takes such a rule. It takes no memory.
+    /// and some ready rule fits the storage, but no live link takes such a rule. It takes no
+    /// memory.
     pub fn stop(&mut self, why: Stop) -> bool
         ensures answer { result ≡ is_some self.new.stop }
         ensures stop { self.new ≡ record self.old {
