@@ -1,0 +1,11 @@
+//! Tables of cases for the programs that test: it reads them from a text, and shows texts and flows.
+#![tactic(auto)]
+
+mod escapes;
+mod flows;
+mod table;
+mod texts;
+
+pub use flows::flow_shown;
+pub use table::{Case, CaseFault, read_cases, read_input};
+pub use texts::shown;
