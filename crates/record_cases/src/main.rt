@@ -8,11 +8,8 @@
 
 mod text;
 
-ghost use Rattle.log_records.specs.Spelling.{HasSpelling};
-
 use crate::text::shown_record;
 use cases::{read_cases, read_input};
-use flow_types::{Bytes, Memory, Record};
 use hex::FromHexError;
 use log_records::{RecordFault, read_record, write_record};
 use std::alloc::{AllocError, Global};
@@ -38,20 +35,12 @@ fn shown_fault(alloc: Global, fault: RecordFault) -> Result<String, AllocError> 
     }
 }
 
-// The bytes that are written of a record.
-#[tactic(auto, using(crate::proofs::Few::few))]
-fn written(alloc: Global, record: &Record) -> Result<Bytes, Memory>
-    requires { HasSpelling record.now }
-{
-    write_record(alloc, record)
-}
-
 // The record of these bytes and, on a second line, what is written of it.
 fn shown(alloc: Global, bytes: &[u8]) -> Result<String, AllocError> {
     match read_record(alloc, bytes) {
         Ok(record) => {
             let text = shown_record(alloc, &record)?;
-            let Ok(written) = written(alloc, &record) else {
+            let Ok(written) = write_record(alloc, &record) else {
                 return Err(AllocError);
             };
             let written = hex::encode(alloc, written.as_slice())?;

@@ -1,7 +1,8 @@
-//! What was synced in the folder outlives a program that is killed.
+//! What was synced in the folder outlives a program that is killed, and can be removed: calls that
+//! no run makes yet.
 use super::FolderSite;
 use flow_types::Name;
-use outside::Site;
+use outside::{Fault, Site};
 use std::alloc::Global;
 use std::io::ErrorKind;
 use std::os::unix::process::ExitStatusExt;
@@ -52,7 +53,7 @@ fn write_and_be_killed<R: Files + Processes + Sync>(
 }
 
 #[test]
-fn what_was_synced_outlives_a_kill(rt: HostRuntime) -> Result<(), Fail> {
+fn what_was_synced_outlives_a_kill_until_it_is_removed(rt: HostRuntime) -> Result<(), Fail> {
     let alloc = rt.alloc();
     let name = Name::of(alloc, b"new/folders/file")?;
     if env::var(&rt, TO_BE_KILLED).is_ok() {
@@ -63,6 +64,13 @@ fn what_was_synced_outlives_a_kill(rt: HostRuntime) -> Result<(), Fail> {
     let mut bytes = [0u8; 4];
     assert_eq!(rt; site.read(&name, 0, &mut bytes), Ok(4));
     assert_eq!(rt; bytes.as_slice(), b"kept".as_slice());
+    let folder = Name::of(alloc, b"new/folders")?;
+    assert_eq!(rt; site.remove(&folder), Err(Fault::Failed));
+    assert_eq!(rt; site.remove(&name), Ok(()));
+    assert_eq!(rt; site.remove(&name), Ok(()));
+    assert_eq!(rt; site.sync(&name), Ok(()));
+    assert_eq!(rt; site.size(&name), Ok(None));
+    assert_eq!(rt; site.faults(), 1);
     fs::remove_dir_all(&rt, "new")?;
     Ok(())
 }
