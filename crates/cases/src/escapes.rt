@@ -19,7 +19,8 @@ struct Group {
     start: usize,
 }
 
-// Puts the bytes that a line spells behind those of a body, and tells whether its escapes are in form.
+// Puts the bytes that a line spells behind those of a body, and tells whether its escapes are in
+// form.
 pub(crate) fn add_spelled(
     alloc: Global,
     body: &mut Vec<u8>,

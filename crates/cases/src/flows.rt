@@ -3,9 +3,10 @@ use crate::texts::shown;
 use flow_types::{Needs, Pair, RawFile, RawFlow, RawRule, Rows};
 use std::alloc::{AllocError, Global};
 
-/// A flow as lines: each rule as `PLACE [OUTPUT].. <- [INPUT].. : [COMMAND]`, a file with a remote name as
-/// `[LOCAL]->[REMOTE]`, and behind the command ` local`, ` CORES/MEMORY/DISK` where needs are stated, and ` NAME=[VALUE]`
-/// for each variable of the environment; then `keep [NAME]` and `bound [NAME] BYTES`.
+/// A flow as lines: each rule as `PLACE [OUTPUT].. <- [INPUT].. : [COMMAND]`, a file with a remote
+/// name as `[LOCAL]->[REMOTE]`, and behind the command ` local`, ` CORES/MEMORY/DISK` where needs
+/// are stated, and ` NAME=[VALUE]` for each variable of the environment; then `keep [NAME]` and
+/// `bound [NAME] BYTES`.
 pub fn flow_shown(alloc: Global, flow: &RawFlow) -> Result<String, AllocError> {
     let mut text = String::new(alloc);
     for rule in flow.rules.as_slice() {

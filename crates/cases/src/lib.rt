@@ -1,4 +1,4 @@
-//! Tables of cases for the programs that test: it reads them from a text, and shows texts and flows.
+//! Reads tables of cases for the programs that test, and shows texts and flows.
 #![tactic(auto)]
 
 mod escapes;

@@ -1,4 +1,4 @@
-//! A table of cases: a line `== TITLE` or `=~ TITLE` begins a case, and the lines below it are its body.
+//! A table of cases: a line `== TITLE` or `=~ TITLE` begins a case, the lines below are its body.
 use crate::escapes::add_spelled;
 use std::alloc::{AllocError, AllocFailed, Global};
 use std::io::Read;
@@ -38,9 +38,9 @@ pub struct Case<'a> {
 }
 
 impl<'a> Case<'a> {
-    /// The bytes of the body. Below `== TITLE` they are its lines, each with its newline; below `=~ TITLE` the lines
-    /// joined without newlines, where `\n`, `\t`, `\r`, `\0`, `\\`, `\}` and `\xHH` stand for a byte, and `\{N:TEXT}`
-    /// for N times what TEXT spells.
+    /// The bytes of the body. Below `== TITLE` they are its lines, each with its newline; below
+    /// `=~ TITLE` the lines joined without newlines, where `\n`, `\t`, `\r`, `\0`, `\\`, `\}` and
+    /// `\xHH` stand for a byte, and `\{N:TEXT}` for N times what TEXT spells.
     pub fn body(&self, alloc: Global) -> Result<Vec<u8>, CaseFault> {
         let mut body = Vec::new(alloc);
         for (place, line) in self.lines.iter().enumerate() {
@@ -55,7 +55,8 @@ impl<'a> Case<'a> {
     }
 }
 
-/// The cases of a table, in order. Before the first one stand only empty lines and lines that begin with `#!`.
+/// The cases of a table, in order. Before the first one stand only empty lines and lines that
+/// begin with `#!`.
 pub fn read_cases<'a>(alloc: Global, text: &'a [u8]) -> Result<Vec<Case<'a>>, CaseFault> {
     let text = text.strip_suffix(b"\n").unwrap_or(text);
     let mut cases: Vec<Case<'a>> = Vec::new(alloc);

@@ -6,8 +6,8 @@ const MOST_SHOWN: usize = 400;
 
 const SHOWN_OF_LONG: usize = 20;
 
-/// These bytes as text of one line: control characters, backslashes and bytes that are no part of a UTF-8 text as
-/// escapes. Of more than 400 bytes the first 20 are shown, and `\{.. N bytes}`.
+/// These bytes as text of one line: control characters, backslashes and bytes that are no part of a
+/// UTF-8 text as escapes. Of more than 400 bytes the first 20 are shown, and `\{.. N bytes}`.
 pub fn shown(alloc: Global, bytes: &[u8]) -> Result<String, AllocError> {
     let mut text = String::new(alloc);
     if bytes.len() <= MOST_SHOWN {
