@@ -18,8 +18,8 @@ mod view;
 mod writing;
 
 pub use examples::{refused_bodies, worked_messages};
-pub use heads::{Ended, Head};
 pub use fault::{MessageFault, PeerFault};
+pub use heads::{Ended, Head};
 pub use laws::messages_are_spelled_once;
 pub use view::{View, read_message, view_of};
 pub use writing::write_message;
