@@ -1,8 +1,10 @@
 # make test: all checks. make demo: the example flow. make programs: the programs into bin/.
-# make install PREFIX=FOLDER: the programs into FOLDER/bin, their manual pages into FOLDER/share/man/man1.
+# make install PREFIX=FOLDER: the programs into FOLDER/bin, their manual pages into
+# FOLDER/share/man/man1. The programs are those with a manual page; the other crates with a main
+# hold cases.
 
 PREFIX ?= /usr/local
-PROGRAMS := $(patsubst crates/%/src/main.rt,%,$(wildcard crates/*/src/main.rt))
+PROGRAMS := $(patsubst man/%.1,%,$(wildcard man/*.1))
 BUILT := $(addprefix bin/,$(PROGRAMS))
 SOURCES := crates.txt $(shell find crates -name out -prune -o -type f -print)
 
