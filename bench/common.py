@@ -1,6 +1,5 @@
 """What the benches share: flows as texts, and times of a program."""
 import os
-import shutil
 import subprocess
 import sys
 import time
@@ -67,13 +66,27 @@ def measure(command, folder):
     return wall, own, usage.ru_utime + usage.ru_stime, started.returncode, printed
 
 
+def found(program):
+    """Each program of this name on the path, but the built one."""
+    for folder in os.environ.get("PATH", "").split(os.pathsep):
+        path = os.path.join(folder or ".", program)
+        if os.access(path, os.X_OK) and os.path.realpath(path) != os.path.realpath(OURS):
+            yield path
+
+
+def is_other(path):
+    """Whether it tells its version, as each tool here does and this project's makeflow doesn't."""
+    asked = {"stdin": subprocess.DEVNULL, "capture_output": True}
+    return subprocess.run([path, "--version"], **asked).returncode == 0
+
+
 def other(program):
-    """Where a program of another project is installed, nothing where it isn't."""
-    found = shutil.which(program)
-    if found and os.path.realpath(found) != os.path.realpath(OURS):
-        return found
-    print(f"{program}: not installed, skipped")
-    return None
+    """Where a program of another project is installed, nothing where it isn't. Two are called
+    makeflow: an installed one of this project is passed over."""
+    path = next((it for it in found(program) if is_other(it)), None)
+    if not path:
+        print(f"{program}: not installed, skipped")
+    return path
 
 
 def ready():
