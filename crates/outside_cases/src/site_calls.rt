@@ -3,6 +3,10 @@
 //! a call; `crash CALL CHOICE` goes on with what a crash may leave after the call of that number,
 //! and `image CALL CHOICE NAME` shows a file of it. A write behind the file's end, and a cut of no
 //! file or to more than it has, is out of range and not made.
+ghost use Rattle.std.specs.Prelude.{◌≡◌, ◌≤◌, true, length, IsSome};
+ghost use Rattle.outside.specs.Files.{content};
+ghost use Rattle.mem_outside.specs.MemSite.{files_of};
+
 use crate::words::{bytes_of, done, first, name_of, noted, number, said};
 use cases::shown;
 use flow_types::Name;
@@ -51,10 +55,24 @@ fn read(alloc: Global, site: &mut MemSite, name: &Name, rest: &str) -> Result<St
     }
 }
 
-fn len_of(site: &MemSite, name: &Name) -> Option<u64> {
+// Whether the place is within the file, its end too; of no file that is 0.
+fn is_within(site: &MemSite, name: &Name, at: u64) -> bool
+    ensures { result ≡ true → at ≤ length (content (files_of site.now name.now)) }
+{
     match site.get(name.as_bytes()) {
-        Some(content) => Some(content.len() as u64),
-        None => None,
+        Some(content) => at <= content.len() as u64,
+        None => at == 0,
+    }
+}
+
+// Whether there is a file of at least so many bytes.
+fn has_bytes(site: &MemSite, name: &Name, len: u64) -> bool
+    ensures there { result ≡ true → IsSome (files_of site.now name.now) }
+    ensures within { result ≡ true → len ≤ length (content (files_of site.now name.now)) }
+{
+    match site.get(name.as_bytes()) {
+        Some(content) => len <= content.len() as u64,
+        None => false,
     }
 }
 
@@ -63,7 +81,7 @@ fn write(alloc: Global, site: &mut MemSite, name: &Name, rest: &str) -> Result<S
     let Some(at) = number(at) else {
         return said(alloc, "no number");
     };
-    if at > len_of(site, name).unwrap_or(0) {
+    if !is_within(site, name, at) {
         return said(alloc, "out of range");
     }
     done(alloc, site.write(name, at, bytes_of(text)))
@@ -73,10 +91,7 @@ fn cut(alloc: Global, site: &mut MemSite, name: &Name, len: &str) -> Result<Stri
     let Some(len) = number(len) else {
         return said(alloc, "no number");
     };
-    let Some(size) = len_of(site, name) else {
-        return said(alloc, "out of range");
-    };
-    if len > size {
+    if !has_bytes(site, name, len) {
         return said(alloc, "out of range");
     }
     done(alloc, site.cut(name, len))

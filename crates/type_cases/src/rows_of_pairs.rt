@@ -1,7 +1,6 @@
 //! Rows of two bytes, as a kind of row to read and to write.
 ghost use Rattle.byte_fields.specs.Reading.{number_at};
 ghost use Rattle.byteorder.specs.Endian.{big_bytes};
-ghost use Rattle.std.specs.Prelude.{Unit};
 
 use byte_fields::{FieldFault, PassedRow, PutRow, Row, TakeFault, put_u16, u16_field};
 use flow_types::Memory;
