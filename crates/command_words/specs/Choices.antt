@@ -3,7 +3,7 @@ use Rattle.std.specs.Prelude.{ℕ, ◌^◌, List, ◌++◌, length, nat_le, Opti
 use Rattle.std.specs.Option.{option_map_or}
 use Rattle.std.specs.Str.{bytes_eq}
 use Rattle.clap.specs.Walk.{Row, Text, first_of}
-use Rattle.clap.specs.Simple.{matches_of}
+use Rattle.clap.specs.Simple.{App, matches_of}
 use Rattle.clap.specs.Takes.{takes}
 use Rattle.flow_types.specs.Names.{most_name_bytes, name_of}
 use Rattle.flow_types.specs.declared.numbers.Amounts.{Amounts}
@@ -132,7 +132,10 @@ options_in rows = do
     unbuilt = asks_unbuilt rows;
   })
 
+-- what the words choose by this command, none where they are no command line of it
+unfoldable pub chosen_by : {A : Type 0} → App → (List Row → Option A) → List Text → Option A
+chosen_by app choose words = if takes app words then choose (matches_of app words) else None
+
 -- what the words choose, none where they are no command line; the first word is the program's name
 unfoldable pub options_of : List Text → Option Options
-options_of words =
-    if takes command words then options_in (matches_of command words) else None
+options_of words = chosen_by command options_in words

@@ -1,10 +1,9 @@
 -- Which words are a command line of `work_queue_worker` or `work_queue_foreman`, and what they choose.
-use Rattle.std.specs.Prelude.{ℕ, List, Option, Some, None, option_and_then, codes, if◌then◌else◌}
+use Rattle.std.specs.Prelude.{ℕ, List, Option, Some, option_and_then, codes}
 use Rattle.clap.specs.Walk.{Row, Text, first_of}
-use Rattle.clap.specs.Simple.{App, matches_of, new_app}
-use Rattle.clap.specs.Takes.{takes}
+use Rattle.clap.specs.Simple.{App, new_app}
 use Rattle.flow_types.specs.declared.numbers.Amounts.{Amounts}
-use Rattle.command_words.specs.Choices.{◌>>=◌}
+use Rattle.command_words.specs.Choices.{◌>>=◌, chosen_by}
 use Rattle.command_words.specs.Command.{letter_option, long_option, place, ◌with◌}
 use Rattle.command_words.specs.Numbers.{number_in}
 use Rattle.command_words.specs.Values.{number}
@@ -61,10 +60,8 @@ foreman_options_in rows = do
 
 -- what the words choose, none where they are no command line of the worker
 unfoldable pub worker_options_of : List Text → Option WorkerOptions
-worker_options_of words =
-    if takes worker_command words then worker_options_in (matches_of worker_command words) else None
+worker_options_of words = chosen_by worker_command worker_options_in words
 
 -- what the words choose, none where they are no command line of the foreman
 unfoldable pub foreman_options_of : List Text → Option ForemanOptions
-foreman_options_of words =
-    if takes foreman_command words then foreman_options_in (matches_of foreman_command words) else None
+foreman_options_of words = chosen_by foreman_command foreman_options_in words

@@ -1,6 +1,9 @@
 // The command lines of the worker and the foreman.
-ghost use Rattle.std.specs.Prelude.{◌≡◌, Some, None, IfOk, IsErrOf, map};
+ghost use Rattle.std.specs.Prelude.{◌≡◌, true, Some, None, IfOk, IsErrOf, map};
 ghost use Rattle.std.specs.String.{string_bytes};
+ghost use Rattle.clap.specs.Words.{app_of};
+ghost use Rattle.command_words.specs.Choices.{chosen_by};
+ghost use Rattle.command_words.specs.Command.{is_plain};
 ghost use Rattle.command_words.specs.Found.{rows_in};
 ghost use Rattle.command_words.specs.Peers.{port_in, peer_amounts_in};
 ghost use Rattle.command_words.specs.Peers.{worker_options_in, foreman_options_in};
@@ -12,7 +15,7 @@ use crate::numbers::number_in;
 use crate::options::{ForemanOptions, WorkerOptions};
 use crate::values::{number, value_of};
 use crate::words::parse;
-use clap::ArgMatches;
+use clap::{ArgMatches, Command};
 use flow_types::{Amounts, Memory, Text};
 use std::alloc::Global;
 
@@ -101,6 +104,24 @@ fn foreman_options_in(alloc: Global, matches: &ArgMatches<'_>) -> Result<Foreman
     })
 }
 
+#[tactic(auto, unfolding(crate::specs::Choices::chosen_by))]
+fn worker_options_by<'a>(
+    alloc: Global,
+    command: Command<'a>,
+    words: &'a [String],
+) -> Result<WorkerOptions, WordsFault>
+    requires { is_plain (app_of command) ≡ true }
+    ensures ok { IfOk result (λ options.
+        chosen_by (app_of command.entry) worker_options_in (map string_bytes words.entry.now)
+        ≡ Some options) }
+    ensures usage { IsErrOf result WordsFault.Usage →
+        chosen_by (app_of command.entry) worker_options_in (map string_bytes words.entry.now)
+        ≡ None }
+{
+    let matches = parse(command, words)?;
+    worker_options_in(alloc, &matches)
+}
+
 /// What the words of a command line of `work_queue_worker` choose. The first word is the program's
 /// name.
 #[tactic(auto, unfolding(crate::specs::Peers::worker_options_of))]
@@ -111,8 +132,25 @@ pub fn read_worker_words(alloc: Global, words: &[String]) -> Result<WorkerOption
         worker_options_of (map string_bytes words.now) ≡ None }
 {
     let command = worker_command_of(alloc)?;
+    worker_options_by(alloc, command, words)
+}
+
+#[tactic(auto, unfolding(crate::specs::Choices::chosen_by))]
+fn foreman_options_by<'a>(
+    alloc: Global,
+    command: Command<'a>,
+    words: &'a [String],
+) -> Result<ForemanOptions, WordsFault>
+    requires { is_plain (app_of command) ≡ true }
+    ensures ok { IfOk result (λ options.
+        chosen_by (app_of command.entry) foreman_options_in (map string_bytes words.entry.now)
+        ≡ Some options) }
+    ensures usage { IsErrOf result WordsFault.Usage →
+        chosen_by (app_of command.entry) foreman_options_in (map string_bytes words.entry.now)
+        ≡ None }
+{
     let matches = parse(command, words)?;
-    worker_options_in(alloc, &matches)
+    foreman_options_in(alloc, &matches)
 }
 
 /// What the words of a command line of `work_queue_foreman` choose. The first word is the program's
@@ -125,6 +163,5 @@ pub fn read_foreman_words(alloc: Global, words: &[String]) -> Result<ForemanOpti
         foreman_options_of (map string_bytes words.now) ≡ None }
 {
     let command = foreman_command_of(alloc)?;
-    let matches = parse(command, words)?;
-    foreman_options_in(alloc, &matches)
+    foreman_options_by(alloc, command, words)
 }

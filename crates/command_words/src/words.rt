@@ -5,7 +5,7 @@ ghost use Rattle.clap.specs.Words.{app_of};
 ghost use Rattle.clap.specs.Simple.{matches_of};
 ghost use Rattle.clap.specs.Takes.{takes};
 ghost use Rattle.command_words.specs.Command.{is_plain};
-ghost use Rattle.command_words.specs.Choices.{options_in, options_of};
+ghost use Rattle.command_words.specs.Choices.{options_in, options_of, chosen_by};
 ghost use Rattle.command_words.specs.Found.{rows_in};
 ghost use Rattle.command_words.specs.Ranges.{IsInRange};
 ghost use Rattle.command_words.specs.Unbuilt.{IsBuilt};
@@ -75,6 +75,25 @@ pub fn parse<'a>(command: Command<'a>, words: &'a [String]) -> Result<ArgMatches
     }
 }
 
+#[tactic(auto, unfolding(crate::specs::Choices::chosen_by))]
+fn options_by<'a>(
+    alloc: Global,
+    command: Command<'a>,
+    words: &'a [String],
+) -> Result<Options, WordsFault>
+    requires { is_plain (app_of command) ≡ true }
+    ensures ok { IfOk result (λ options.
+        chosen_by (app_of command.entry) options_in (map string_bytes words.entry.now)
+        ≡ Some options) }
+    ensures usage { IsErrOf result WordsFault.Usage →
+        chosen_by (app_of command.entry) options_in (map string_bytes words.entry.now) ≡ None }
+    ensures range { IfOk result IsInRange }
+    ensures built { IfOk result (λ options. options.unbuilt ≡ false → IsBuilt options) }
+{
+    let matches = parse(command, words)?;
+    options_in(alloc, &matches)
+}
+
 /// What the words of a command line of `makeflow` choose. The first word is the program's name.
 #[tactic(auto, unfolding(crate::specs::Choices::options_of))]
 pub fn read_words(alloc: Global, words: &[String]) -> Result<Options, WordsFault>
@@ -85,6 +104,5 @@ pub fn read_words(alloc: Global, words: &[String]) -> Result<Options, WordsFault
     ensures built { IfOk result (λ options. options.unbuilt ≡ false → IsBuilt options) }
 {
     let command = command_of(alloc)?;
-    let matches = parse(command, words)?;
-    options_in(alloc, &matches)
+    options_by(alloc, command, words)
 }
