@@ -49,6 +49,7 @@ up_from most zero seen bytes = number_at 4 bytes
 up_from most (suc n) seen bytes =
     if nat_lt most (big_number 4 (take (seen + 1) bytes)) then Err (Kind (length bytes - seen)) else up_from most n (seen + 1) bytes
 
+-- a number of 4 bytes that is at most this
 abbrev pub up_to_at : ℕ → Reader ℕ
 up_to_at most = up_from most 4 0
 
