@@ -19,7 +19,8 @@ pub data Front : Type 0 where
   -- less than a whole frame
   part : Front
 
--- a front by three tests: less than a length is there; the length is above the limit; less than the frame is there
+-- a front by three tests: less than a length is there; the length is above the limit; less than the
+-- frame is there
 abbrev pub front_by : Bool → Bool → Bool → ℕ → List ℕ → Front
 front_by no_length long short n behind =
     cond no_length part

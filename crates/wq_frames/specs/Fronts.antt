@@ -28,8 +28,9 @@ pub record IsBegun (bytes : List ℕ) : Type 0 where
 abbrev pub HasNoLongLength : List ℕ → Type 0
 HasNoLongLength bytes = 4 ≤ length bytes → big_number 4 bytes ≤ most_body
 
--- A feeder waits exactly where the bytes left are a proper prefix of a frame, and no length above the
--- limit is there.
+-- A feeder waits exactly where the bytes left are a proper prefix of a frame, and no length above
+-- the limit is there.
 abbrev pub WaitsForTheRest : Type 0
 WaitsForTheRest =
-    (bytes : List ℕ) → IsBytes bytes → (front bytes ≡ part) ↔ (IsBegun bytes × HasNoLongLength bytes)
+    (bytes : List ℕ) → IsBytes bytes
+    → (front bytes ≡ part) ↔ (IsBegun bytes × HasNoLongLength bytes)

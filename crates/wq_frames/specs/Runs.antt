@@ -61,5 +61,5 @@ RunsAreStreams =
 -- Bytes are frames and a rest that begins no whole frame in one way only.
 abbrev pub StreamsAreOne : Type 0
 StreamsAreOne =
-    (bytes : List ℕ) (ms ns : List Message) (r s : List ℕ) → IsStream bytes ms r → IsStream bytes ns s
-    → BeginsNoFrame r → BeginsNoFrame s → (ms ≡ ns) × (r ≡ s)
+    (bytes : List ℕ) (ms ns : List Message) (r s : List ℕ)
+    → IsStream bytes ms r → IsStream bytes ns s → BeginsNoFrame r → BeginsNoFrame s → (ms ≡ ns) × (r ≡ s)

@@ -60,7 +60,8 @@ WantsMemory old r new = (r ≡ Err faults.Memory) × (new ≡ stopped faults.Mem
 -- What advancing answers at each front, and leaves.
 abbrev pub Advances : Front → Stream → Result Bool FeedFault → Stream → Type 0
 Advances (whole body rest) old r new = Takes body rest r new ⊎ WantsMemory old r new
-Advances (too_long n) old r new = (r ≡ Err (faults.TooLong n)) × (new ≡ stopped (faults.TooLong n) old)
+Advances (too_long n) old r new =
+    (r ≡ Err (faults.TooLong n)) × (new ≡ stopped (faults.TooLong n) old)
 Advances part old r new = (r ≡ Ok false) × (new ≡ old)
 
 -- The same of a stream that may have stopped: then the fault again, and nothing changes.

@@ -34,8 +34,8 @@ impl From<io::Error> for FrameFault {
     }
 }
 
-/// Takes bodies off the front of a stream. A cut shares the buffer and copies nothing; one for which there is no memory
-/// leaves the stream as it was.
+/// Takes bodies off the front of a stream. A cut shares the buffer and copies nothing; one for
+/// which there is no memory leaves the stream as it was.
 #[derive(Clone, Copy)]
 pub struct FrameCodec;
 

@@ -80,8 +80,8 @@ impl Feeder {
         })
     }
 
-    /// Takes the next piece of the stream and lets go of the message heard last. Where there is no memory it takes
-    /// nothing; after a fault it changes nothing.
+    /// Takes the next piece of the stream and lets go of the message heard last. Where there is no
+    /// memory it takes nothing; after a fault it changes nothing.
     pub fn feed(&mut self, piece: &[u8]) -> Result<(), Memory>
         ensures ok { OnOk result (self.new ≡ fed self.old piece.now) }
         ensures err { OnErr result (self.new ≡ let_go self.old) }
@@ -109,7 +109,8 @@ impl Feeder {
     // Keeps the body that was taken, and stops where it is no message.
     fn hear(&mut self, body: BytesMut) -> Result<bool, FeedFault>
         ensures answer { result ≡ heard_as (message_of body.items) }
-        ensures stream { self.new ≡ heard_by (message_of body.items) (with_body body.items self.old) }
+        ensures stream { self.new
+            ≡ heard_by (message_of body.items) (with_body body.items self.old) }
         ensures message { IfOk result (λ taken. taken ≡ true → HasMessage self.new.body) }
     {
         self.body = body;
@@ -119,8 +120,8 @@ impl Feeder {
         }
     }
 
-    /// Takes the next message off the front, and answers whether there was one. At a fault it stops for good: what was fed
-    /// stays, but for the frame of a body that is no message.
+    /// Takes the next message off the front, and answers whether there was one. At a fault it stops
+    /// for good: what was fed stays, but for the frame of a body that is no message.
     pub fn advance(&mut self) -> Result<bool, FeedFault>
         ensures step { AdvancesFrom self.old.stop self.old result self.new }
         ensures message { IfOk result (λ taken. taken ≡ true → HasMessage self.new.body) }
@@ -144,8 +145,8 @@ impl Feeder {
         view_of(self.body.as_slice())
     }
 
-    /// The next message, or NotYet where the bytes left are less than a whole frame. Where something is to be known of
-    /// the feeder afterwards, as in a loop, call `advance` and `heard`.
+    /// The next message, or NotYet where the bytes left are less than a whole frame. Where
+    /// something is to be known of the feeder afterwards, as in a loop, call `advance` and `heard`.
     pub fn next(&mut self) -> Result<Heard<'_>, FeedFault>
         ensures { (after : Stream) × AdvancesFrom self.old.stop self.old (gave_message result) after
             × Shows result after.body }

@@ -1,5 +1,6 @@
-//! Messages between peers: one spelling each, written and read back. A spelling is a kind byte and its fields; the length
-//! that a frame puts before it is the frame's. A message that is read is lent by its bytes.
+//! Messages between peers: one spelling each, written and read back. A spelling is a kind byte and
+//! its fields; the length that a frame puts before it is the frame's. A message that is read is
+//! lent by its bytes.
 #![tactic(auto)]
 
 mod examples;
