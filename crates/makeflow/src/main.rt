@@ -1,10 +1,8 @@
 //! `makeflow FILE`: runs the rules of a flow file in the current folder.
 #![tactic(auto)]
 
-mod real;
-
-use crate::real::{FolderSite, ShellRunner, StdoutSink, System};
 use master_run::makeflow_top;
+use real_outside::{FolderSite, ShellRunner, StdoutSink, System};
 use std::alloc::AllocError;
 use std::env::VarError;
 use std::io::ErrorKind;

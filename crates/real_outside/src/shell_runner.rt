@@ -2,10 +2,10 @@
 ghost use Rattle.std.specs.Prelude.{IfOk};
 ghost use Rattle.outside.specs.Jobs.{IsShaped};
 
-use super::counts::counted_or_memory;
-use super::job_folder::{fill_folder, new_folder, remove_folder};
-use super::outputs::take_outputs;
-use super::programs::program;
+use crate::counts::counted_or_memory;
+use crate::job_folder::{fill_folder, new_folder, remove_folder};
+use crate::outputs::take_outputs;
+use crate::programs::program;
 use flow_types::{Failure, Job, Outcome};
 use outside::{Commands, Fault, Runner};
 use std::alloc::Global;
@@ -49,9 +49,7 @@ fn status_of(status: ExitStatus) -> i32 {
 
 // The command's status, in the folder and with the job's variables.
 fn run_shell<R: Processes>(rt: &R, alloc: Global, folder: &str, job: &Job) -> io::Result<i32> {
-    let mut shell = program(alloc, "/bin/sh")?;
-    shell.arg("-c")?;
-    shell.arg(job.command.as_str())?;
+    let mut shell = program(alloc, "/bin/sh", &["-c", job.command.as_str()])?;
     for pair in job.env.as_slice() {
         shell.env(pair.name.as_str(), pair.value.as_str())?;
     }

@@ -1,10 +1,10 @@
 //! The outputs that a command left in its folder.
 ghost use Rattle.std.specs.Prelude.{◌≤◌, length, IfOk, IfErr, vec_len};
 ghost use Rattle.outside.specs.Jobs.{IsShaped};
-ghost use Rattle.makeflow.specs.Outputs.{IsRefused};
+ghost use Rattle.real_outside.specs.Outputs.{IsRefused};
 
-use super::files::{is_absent, read_seen};
-use super::job_folder::place_of;
+use crate::files::{is_absent, read_seen};
+use crate::job_folder::place_of;
 use flow_types::{Bytes, Failure, Job, Outcome, Rows};
 use std::alloc::Global;
 use std::io::ErrorKind;

@@ -1,7 +1,7 @@
 //! Standard output.
 ghost use Rattle.std.specs.Prelude.{[]};
 
-use super::counts::counted;
+use crate::counts::counted;
 use outside::{Fault, Sink};
 use std::io;
 use std::io::Write;

@@ -1,8 +1,8 @@
 use Rattle.std.proofs.Common.{rules, arith, ◌≡◌, ◌≤◌, ◌<◌, ℕ, ◌+◌, List, [], ◌∷◌, ◌++◌, length, take, sum_by, ap, sym, subst}
 use Rattle.std.proofs.lemmas.List.Sums.{sum_by-append}
 use Rattle.outside.specs.Jobs.{AllFit}
-use Rattle.makeflow.proofs.Taking.{fit_next}
-use Rattle.makeflow.proofs.real.outputs.take_outputs.Goals as goal
+use Rattle.real_outside.proofs.Taking.{fit_next}
+use Rattle.real_outside.proofs.outputs.take_outputs.Goals as goal
 
 pub loop-i-preserved : goal.loop-i-preserved
 loop-i-preserved g c =

@@ -1,6 +1,6 @@
 use Rattle.std.proofs.Common.{◌≡◌, ◌≤◌, take, length, sum_by}
 use Rattle.outside.specs.Jobs.{AllFit}
-use Rattle.makeflow.proofs.real.outputs.take_outputs.Given as goal
+use Rattle.real_outside.proofs.outputs.take_outputs.Given as goal
 
 abbrev pub invariant-loop-i : goal.invariant-loop-i
 invariant-loop-i g l = record {

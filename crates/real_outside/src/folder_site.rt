@@ -1,8 +1,8 @@
 //! The current folder.
 ghost use Rattle.std.specs.Prelude.{◌<◌, ◌-◌, ◌^◌, None};
 
-use super::counts::counted;
-use super::files;
+use crate::counts::counted;
+use crate::files;
 use flow_types::Name;
 use outside::{Fault, Site};
 use std::io::ErrorKind;
@@ -91,6 +91,3 @@ impl<'a, R: Files + Sync> Site for FolderSite<'a, R> {
         self.faults
     }
 }
-
-#[cfg(test)]
-mod crash;

@@ -1,7 +1,7 @@
 //! The folder in which one job runs.
-use super::files::{is_absent, make_folders_of};
-use super::folder_site::path_of;
-use super::programs::program;
+use crate::files::{is_absent, make_folders_of};
+use crate::folder_site::path_of;
+use crate::programs::program;
 use flow_types::{Given, Job, Name};
 use std::alloc::Global;
 use std::fs::{DirBuilder, OpenFile, Permissions};
@@ -89,10 +89,7 @@ fn remove_all<R: Files + AllocGlobal>(rt: &R, folder: &str) -> io::Result<()> {
 }
 
 fn open_to_owner<R: AllocGlobal + Processes>(rt: &R, folder: &str) -> io::Result<()> {
-    let mut chmod = program(rt.alloc(), "chmod")?;
-    chmod.arg("-R")?;
-    chmod.arg("u+rwx")?;
-    chmod.arg(folder)?;
+    let mut chmod = program(rt.alloc(), "chmod", &["-R", "u+rwx", folder])?;
     chmod.status(rt)?;
     Ok(())
 }

@@ -1,8 +1,8 @@
 //! What was synced in the folder outlives a program that is killed, and can be removed: calls that
 //! no run makes yet.
-use super::FolderSite;
 use flow_types::Name;
 use outside::{Fault, Site};
+use real_outside::FolderSite;
 use std::alloc::Global;
 use std::io::ErrorKind;
 use std::os::unix::process::ExitStatusExt;

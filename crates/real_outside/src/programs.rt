@@ -4,9 +4,13 @@ use std::process::{Command, Stdio};
 
 const PATH: &str = "/usr/local/bin:/usr/bin:/bin";
 
-/// A program that sees no variable but PATH and reads nothing. What it prints is thrown away.
-pub fn program(alloc: Global, name: &str) -> Result<Command, AllocError> {
+/// A program with these words, that sees no variable but PATH and reads nothing. What it prints is
+/// thrown away.
+pub fn program(alloc: Global, name: &str, words: &[&str]) -> Result<Command, AllocError> {
     let mut program = Command::new(alloc, name)?;
+    for word in words {
+        program.arg(word)?;
+    }
     program.env_clear();
     program.env("PATH", PATH)?;
     program.stdin(Stdio::null());
