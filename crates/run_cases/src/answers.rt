@@ -1,0 +1,69 @@
+//! What is said of a run.
+use cases::shown;
+use master_run::Ended;
+use mem_outside::{Blank, MemSink, MemSite, TableRunner};
+use outside::{Runner, Sink, Site};
+use report::{Cause, Kind};
+use std::alloc::{AllocError, Global};
+
+fn shown_kind(kind: Kind) -> &'static str {
+    match kind {
+        Kind::Completed => "complete",
+        Kind::RuleFailed => "rule failed",
+        Kind::WrongWords => "wrong words",
+        Kind::WrongFlow => "wrong flow",
+        Kind::WrongSource => "wrong source",
+        Kind::PastLimit => "past a limit",
+        Kind::SiteBroke => "site fault",
+        Kind::RunnerBroke => "runner fault",
+        Kind::SinkBroke => "sink fault",
+        Kind::NoMemory => "no memory",
+    }
+}
+
+// The kind of a cause, with the counts that it has.
+fn shown_cause(alloc: Global, cause: &Cause) -> Result<String, AllocError> {
+    let kind = shown_kind(cause.kind());
+    match cause {
+        Cause::Complete { rules, collected } => format!(in alloc; "{kind} {rules} {collected}"),
+        Cause::SiteFault { before, after }
+        | Cause::RunnerFault { before, after }
+        | Cause::SinkFault { before, after } => format!(in alloc; "{kind} {before} {after}"),
+        _ => String::from_str(alloc, kind),
+    }
+}
+
+/// The line of an end: the status, the cause, and what was printed.
+pub fn shown_end(
+    alloc: Global,
+    ended: &Ended<MemSite>,
+    printed: &[u8],
+) -> Result<String, AllocError> {
+    let status = ended.status;
+    let cause = shown_cause(alloc, &ended.cause)?;
+    let printed = shown(alloc, printed)?;
+    format!(in alloc; "{status} {cause} [{printed}]\n")
+}
+
+/// The line of the records, and of how often the site, the runner and the sink have failed.
+pub fn shown_counts(
+    alloc: Global,
+    ended: &Ended<MemSite>,
+    runner: &TableRunner<Blank>,
+    sink: &MemSink,
+) -> Result<String, AllocError> {
+    let records = ended.records.len();
+    let (site, runner, sink) = (ended.site.faults(), runner.faults(), sink.faults());
+    format!(in alloc; "records {records}, faults {site} {runner} {sink}\n")
+}
+
+/// The bytes in brackets, or that there are none.
+pub fn shown_content(alloc: Global, content: Option<&[u8]>) -> Result<String, AllocError> {
+    match content {
+        Some(bytes) => {
+            let bytes = shown(alloc, bytes)?;
+            format!(in alloc; "[{bytes}]")
+        }
+        None => String::from_str(alloc, "none"),
+    }
+}

@@ -1,0 +1,36 @@
+//! Whole calls of `makeflow_top` in memory.
+//!
+//! A case is a script over a site, a runner and a sink that begin empty. Its lines are those of
+//! `scene.rt` and `jobs.rt`, and `run WORD..`, which makes a call with these words. The lines below
+//! it go on with the files that it left, so a case may have several runs.
+//!
+//! A run is answered by the status, the cause and all that was printed; then by the number of
+//! records and how often the site, the runner and the sink failed in all; then by each file that
+//! the case names, as the run left it.
+#![tactic(auto)]
+
+mod answers;
+mod files;
+mod jobs;
+mod scene;
+mod words;
+
+use crate::scene::Scene;
+use cases::{read_cases, read_input};
+use std::str;
+
+fn main(rt: HostRuntime) -> anyhow::Result<()> {
+    let alloc = rt.alloc();
+    let text = read_input(&rt)?;
+    for case in read_cases(alloc, &text)?.iter() {
+        let title = case.title.as_str();
+        println!(rt; "== {title}")?;
+        let mut scene = Scene::new(alloc);
+        let body = case.body(alloc)?;
+        for line in str::from_utf8(&body)?.lines() {
+            let text = scene.answer(alloc, line)?;
+            print!(rt; "{text}")?;
+        }
+    }
+    Ok(())
+}

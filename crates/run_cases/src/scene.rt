@@ -1,0 +1,150 @@
+//! What a script works on, and its lines.
+//!
+//! `file NAME CONTENT` puts a file, `show NAME` names one that no line puts, and `env NAME VALUE`
+//! adds a variable of the environment. `job COMMAND => OUTCOME` is a row of the runner's table, by
+//! `jobs.rt`. `site fails CALL`, `runner fails CALL` and `sink fails CALL` say that a call of that
+//! object is to fail; they are numbered from 0, and go on over the runs of a case. CONTENT is
+//! spelled with the escapes of a `=~` case.
+use crate::answers::{shown_counts, shown_end};
+use crate::files::Files;
+use crate::jobs::put_job;
+use crate::words::{first, spelled, words_of};
+use flow_types::{Memory, Name};
+use master_run::{Ended, makeflow_top};
+use mem_outside::{Blank, MemSink, MemSite, TableRunner};
+use std::alloc::{AllocError, Global};
+use std::mem;
+
+/// A site, a runner, a sink and an environment, and the files that are shown after each run.
+#[derive(Drop)]
+pub struct Scene {
+    site: MemSite,
+    runner: TableRunner<Blank>,
+    sink: MemSink,
+    env: Vec<(String, String)>,
+    files: Files,
+}
+
+impl Scene {
+    /// A scene without files, outcomes or variables.
+    pub fn new(alloc: Global) -> Scene {
+        Scene {
+            site: MemSite::new(alloc),
+            runner: TableRunner::new(alloc),
+            sink: MemSink::new(alloc),
+            env: Vec::new(alloc),
+            files: Files::new(alloc),
+        }
+    }
+
+    /// Does what a line says. Only a run has an answer, and a line out of form.
+    pub fn answer(&mut self, alloc: Global, line: &str) -> Result<String, AllocError> {
+        let (kind, rest) = first(line);
+        if kind == "run" {
+            return self.run(alloc, rest);
+        }
+        if self.set(alloc, kind, rest)? {
+            return Ok(String::new(alloc));
+        }
+        format!(in alloc; "no such line: {line}\n")
+    }
+
+    // Sets what a line of this kind says, and tells whether it is in form.
+    fn set(&mut self, alloc: Global, kind: &str, line: &str) -> Result<bool, AllocError> {
+        match kind {
+            "file" => self.put_file(alloc, line),
+            "show" => self.show(alloc, line),
+            "env" => self.add_variable(alloc, line),
+            "job" => put_job(alloc, &mut self.runner, line),
+            _ => self.fail(kind, line),
+        }
+    }
+
+    fn put_file(&mut self, alloc: Global, line: &str) -> Result<bool, AllocError> {
+        let (name, text) = first(line);
+        let Some(content) = spelled(alloc, text)? else {
+            return Ok(false);
+        };
+        let Ok(name) = Name::of(alloc, name.as_bytes()) else {
+            return Ok(false);
+        };
+        if self.site.put(&name, &content).is_err() {
+            return Err(AllocError);
+        }
+        self.files.note(name, Some(content))?;
+        Ok(true)
+    }
+
+    fn show(&mut self, alloc: Global, name: &str) -> Result<bool, AllocError> {
+        match Name::of(alloc, name.as_bytes()) {
+            Ok(name) => {
+                self.files.note(name, None)?;
+                Ok(true)
+            }
+            Err(_) => Ok(false),
+        }
+    }
+
+    fn add_variable(&mut self, alloc: Global, line: &str) -> Result<bool, AllocError> {
+        let (name, value) = first(line);
+        let name = String::from_str(alloc, name)?;
+        let value = String::from_str(alloc, value)?;
+        self.env.push((name, value))?;
+        Ok(true)
+    }
+
+    // A call of this object is to fail.
+    fn fail(&mut self, object: &str, line: &str) -> Result<bool, AllocError> {
+        let ("fails", word) = first(line) else {
+            return Ok(false);
+        };
+        let Ok(call) = word.parse::<u64>() else {
+            return Ok(false);
+        };
+        let noted = match object {
+            "site" => self.site.fail_at(call),
+            "runner" => self.runner.fail_at(call),
+            "sink" => self.sink.fail_at(call),
+            _ => return Ok(false),
+        };
+        match noted {
+            Ok(()) => Ok(true),
+            Err(Memory) => Err(AllocError),
+        }
+    }
+
+    // Makes a call with these words, and goes on with the files that it left.
+    fn run(&mut self, alloc: Global, line: &str) -> Result<String, AllocError> {
+        let words = words_of(alloc, line)?;
+        let site = mem::replace(&mut self.site, MemSite::new(alloc));
+        let before = self.sink.bytes().len();
+        let ended = call(
+            alloc,
+            &words,
+            &self.env,
+            site,
+            &mut self.runner,
+            &mut self.sink,
+        );
+        let printed = self.sink.bytes().get(before..).unwrap_or(&[]);
+        let mut text = shown_end(alloc, &ended, printed)?;
+        let counts = shown_counts(alloc, &ended, &self.runner, &self.sink)?;
+        text.push_str(&counts)?;
+        let files = self.files.shown(alloc, &ended.site)?;
+        text.push_str(&files)?;
+        self.site = ended.site;
+        Ok(text)
+    }
+}
+
+// The one call of what the table is about.
+fn call(
+    alloc: Global,
+    words: &[String],
+    env: &[(String, String)],
+    site: MemSite,
+    runner: &mut TableRunner<Blank>,
+    sink: &mut MemSink,
+) -> Ended<MemSite> {
+    makeflow_top(alloc, words, env, site, runner, sink)
+}
