@@ -1,5 +1,5 @@
 //! One body: the message that it is, what its view shows, and what is written of it.
-use crate::text::{shown_fault, shown_message};
+use crate::text::{add, shown_fault, shown_message};
 use std::alloc::{AllocError, Global};
 use wq_messages::{Ended, Head, View, read_message, write_message};
 
@@ -37,13 +37,13 @@ fn shown_view(alloc: Global, view: &View<'_>) -> Result<String, AllocError> {
             break;
         };
         let len = content.len();
-        text.push_str(format!(in alloc; " {len}")?.as_str())?;
+        add(&mut text, format!(in alloc; " {len}"))?;
     }
     let Ok(missing) = view.missing(alloc) else {
         return Err(AllocError);
     };
     let missing = missing.len();
-    text.push_str(format!(in alloc; ", missing {missing}")?.as_str())?;
+    add(&mut text, format!(in alloc; ", missing {missing}"))?;
     Ok(text)
 }
 

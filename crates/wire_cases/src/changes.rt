@@ -1,5 +1,6 @@
 //! Streams of which one byte has another value.
 use crate::streams::fed;
+use crate::text::add;
 use std::alloc::{AllocError, Global};
 use wq_frames::{FeedFault, Feeder, Heard};
 use wq_messages::MessageFault;
@@ -61,7 +62,7 @@ fn tally_of(alloc: Global, bytes: &[u8], at: usize) -> Result<Tally, AllocError>
 
 fn add_count(alloc: Global, text: &mut String, word: &str, count: u32) -> Result<(), AllocError> {
     if count > 0 {
-        text.push_str(format!(in alloc; " {word} {count}")?.as_str())?;
+        add(text, format!(in alloc; " {word} {count}"))?;
     }
     Ok(())
 }
@@ -86,7 +87,7 @@ pub fn shown_changes(alloc: Global, bytes: &[u8]) -> Result<String, AllocError> 
         if at > 0 {
             text.push_str("\n")?;
         }
-        text.push_str(format!(in alloc; "byte {at}:{counts}")?.as_str())?;
+        add(&mut text, format!(in alloc; "byte {at}:{counts}"))?;
     }
     Ok(text)
 }

@@ -1,12 +1,11 @@
 //! Frames, messages, a cache and a worker by a table of cases, one a line.
 //!
 //! `== TITLE` is printed as it stands. `body HEX` tells what a body says and is written as; `stream
-//! HEX | HEX | ..` what a feeder answers after each piece; `cuts HEX`, `pieces HEX` and `changes
-//! HEX` try each cut in two, each size of pieces and each other value of each byte. `room CAP`
-//! begins a cache of so many bytes and a worker with one of as many; the lines below it are calls
-//! of that cache (`put RUN FILE LEN BYTE`, `get`, `touch`, `holds`, `pin`, `unpin` and `unlink`
-//! with RUN FILE), or `hello`, `hears HEX` and `reports ATTEMPT success HEX ..` (or `status N`, or
-//! `none`) of that worker.
+//! HEX | HEX | ..` what a feeder answers after each piece; `changes HEX` tries each other value of
+//! each byte of a stream. `room CAP` begins a cache of so many bytes and a worker with one of as
+//! many; the lines below it are calls of that cache (`put RUN FILE LEN BYTE`, `get`, `touch`,
+//! `holds`, `pin`, `unpin` and `unlink` with RUN FILE), or `hello`, `hears HEX` and `reports ATTEMPT
+//! success HEX ..` (or `status N`, or `none`) of that worker.
 #![tactic(auto)]
 
 mod bodies;
@@ -19,7 +18,7 @@ mod workers;
 use crate::bodies::shown_body;
 use crate::changes::shown_changes;
 use crate::hex_words::bytes_of;
-use crate::streams::{shown_cuts, shown_pieces, shown_stream};
+use crate::streams::shown_stream;
 use crate::text::shown_message;
 use crate::workers::{Room, hears, reports, shown_call};
 use std::alloc::{AllocError, Global};
@@ -28,21 +27,15 @@ use std::io;
 fn of_pieces(alloc: Global, line: &str) -> Result<String, AllocError> {
     let mut pieces = Vec::new(alloc);
     for part in line.split('|') {
-        if let Some(piece) = bytes_of(alloc, part)? {
-            pieces.push(piece)?;
-        }
+        pieces.push(bytes_of(alloc, part)?)?;
     }
     shown_stream(alloc, pieces.as_slice())
 }
 
 fn of_bytes(alloc: Global, word: &str, digits: &str) -> Result<String, AllocError> {
-    let Some(bytes) = bytes_of(alloc, digits)? else {
-        return String::from_str(alloc, "no hex");
-    };
+    let bytes = bytes_of(alloc, digits)?;
     match word {
         "body" => shown_body(alloc, bytes.as_slice()),
-        "cuts" => shown_cuts(alloc, bytes.as_slice()),
-        "pieces" => shown_pieces(alloc, bytes.as_slice()),
         _ => shown_changes(alloc, bytes.as_slice()),
     }
 }
@@ -70,7 +63,7 @@ fn answer(alloc: Global, room: &mut Room, line: &str) -> Result<String, AllocErr
         "==" => String::from_str(alloc, line),
         "room" => begin(alloc, room, rest),
         "stream" => of_pieces(alloc, rest),
-        "body" | "cuts" | "pieces" | "changes" => of_bytes(alloc, word, rest),
+        "body" | "changes" => of_bytes(alloc, word, rest),
         "hello" => shown_message(alloc, &room.worker.hello()),
         "hears" => hears(alloc, &mut room.worker, rest),
         _ => of_words(alloc, room, line),

@@ -6,6 +6,11 @@ use flow_types::{
 use std::alloc::{AllocError, Global};
 use wq_messages::MessageFault;
 
+/// Adds a piece that was made.
+pub fn add(text: &mut String, piece: Result<String, AllocError>) -> Result<(), AllocError> {
+    text.push_str(piece?.as_str())
+}
+
 fn shown_amounts(alloc: Global, amounts: Amounts) -> Result<String, AllocError> {
     let Amounts {
         cores,
@@ -46,7 +51,7 @@ fn add_env(alloc: Global, text: &mut String, env: &[Pair]) -> Result<(), AllocEr
     for pair in env {
         let name = shown_content(alloc, pair.name.as_str().as_bytes())?;
         let value = shown_content(alloc, pair.value.as_str().as_bytes())?;
-        text.push_str(format!(in alloc; " {name}={value}")?.as_str())?;
+        add(text, format!(in alloc; " {name}={value}"))?;
     }
     Ok(())
 }
@@ -56,7 +61,7 @@ fn add_wants(alloc: Global, text: &mut String, wants: &[Want]) -> Result<(), All
     for want in wants {
         let bound = want.bound;
         let remote = shown_content(alloc, want.remote.as_bytes())?;
-        text.push_str(format!(in alloc; " {remote}:{bound}")?.as_str())?;
+        add(text, format!(in alloc; " {remote}:{bound}"))?;
     }
     Ok(())
 }
@@ -71,7 +76,7 @@ fn shown_task(alloc: Global, task: &Task) -> Result<String, AllocError> {
     for port in task.inputs.as_slice() {
         let file = port.file.0;
         let remote = shown_content(alloc, port.remote.as_bytes())?;
-        text.push_str(format!(in alloc; " {file}:{remote}")?.as_str())?;
+        add(&mut text, format!(in alloc; " {file}:{remote}"))?;
     }
     add_wants(alloc, &mut text, task.outputs.as_slice())?;
     Ok(text)
@@ -87,7 +92,7 @@ pub fn shown_start(alloc: Global, start: &Start) -> Result<String, AllocError> {
     for given in start.job.inputs.as_slice() {
         let remote = shown_content(alloc, given.remote.as_bytes())?;
         let content = shown_content(alloc, given.content.as_slice())?;
-        text.push_str(format!(in alloc; " {remote}={content}")?.as_str())?;
+        add(&mut text, format!(in alloc; " {remote}={content}"))?;
     }
     add_wants(alloc, &mut text, start.job.outputs.as_slice())?;
     Ok(text)
@@ -105,7 +110,7 @@ fn shown_contents(alloc: Global, contents: &[Bytes]) -> Result<String, AllocErro
     let mut text = String::from_str(alloc, "success")?;
     for content in contents {
         let content = shown_content(alloc, content.as_slice())?;
-        text.push_str(format!(in alloc; " {content}")?.as_str())?;
+        add(&mut text, format!(in alloc; " {content}"))?;
     }
     Ok(text)
 }
@@ -139,7 +144,7 @@ fn shown_missing(
     let mut text = format!(in alloc; "missing {attempt}")?;
     for file in files {
         let file = file.0;
-        text.push_str(format!(in alloc; " {file}")?.as_str())?;
+        add(&mut text, format!(in alloc; " {file}"))?;
     }
     Ok(text)
 }

@@ -117,9 +117,7 @@ fn shown_acts(alloc: Global, acts: &Acts) -> Result<String, AllocError> {
 
 /// What the worker does on the message that a body in hex spells.
 pub fn hears(alloc: Global, worker: &mut WorkerCore, digits: &str) -> Result<String, AllocError> {
-    let Some(body) = bytes_of(alloc, digits)? else {
-        return said(alloc, "no hex");
-    };
+    let body = bytes_of(alloc, digits)?;
     let Ok(view) = read_message(body.as_slice()) else {
         return said(alloc, "no message");
     };
@@ -136,8 +134,7 @@ pub fn hears(alloc: Global, worker: &mut WorkerCore, digits: &str) -> Result<Str
 fn contents_of(alloc: Global, words: &[&str]) -> Result<Rows<Bytes>, AllocError> {
     let mut contents = Vec::new(alloc);
     for word in words.iter().skip(3) {
-        let bytes = bytes_of(alloc, word)?.unwrap_or(Vec::new(alloc));
-        contents.push(Bytes::from_vec(bytes))?;
+        contents.push(Bytes::from_vec(bytes_of(alloc, word)?))?;
     }
     Ok(Rows::of(contents))
 }
