@@ -1,5 +1,5 @@
 -- A desk by its fields, and with one step more that logs nothing.
-use Rattle.std.proofs.Common.{◌≡◌, ◌≤◌, ◌+◌, ◌*◌, ℕ, List, [], ◌∷◌, ◌++◌, length, drop, Option, Some, refl, sym, subst}
+use Rattle.std.proofs.Common.{◌≡◌, ◌≤◌, ◌+◌, ◌*◌, ◌∙◌, ℕ, Bool, true, false, inl, List, [], ◌∷◌, ◌++◌, length, drop, Option, Some, refl, sym, ap, subst}
 use Rattle.flow_types.specs.declared.plan.Plan.{Plan}
 use Rattle.flow_types.specs.declared.numbers.Content.{Content}
 use Rattle.flow_types.specs.declared.records.Record.{Record}
@@ -14,7 +14,7 @@ use Rattle.txn_log.specs.Logs.{LogState}
 use Rattle.desk.specs.declared.answers.Trouble.{Trouble}
 use Rattle.desk.specs.declared.step.Step.{Step}
 use Rattle.desk.specs.Room.{HasPlaces, collected}
-use Rattle.desk.specs.State.{DeskState, IsDesk}
+use Rattle.desk.specs.State.{DeskState, IsDesk, Lacks, LacksFor, Spares}
 use Rattle.desk.specs.Woven.{AreWoven, moves_of}
 use Rattle.desk.proofs.Linked.{quiet_desk, quiet_move, quiet_view}
 use Rattle.desk.proofs.LinkRoom.{places_linked, runs_at}
@@ -78,3 +78,45 @@ module _ {S : Type 0} (fits : Plan → ℕ → Content → Option (List ℕ) →
         places_wider t.plan t.options (moves_of base ss H) (length ss) places places step_places step_places2 log log whole.3 still wide room,
         whole.4,
       )
+
+  -- and after a call that changed nothing but how much room there is
+  pub untouched : (t : TableState) (log log2 : LogState) (base faults : ℕ) (ss ss2 : List Step) (H H2 : List Record) (trouble : Trouble) (site site2 : S) (places places2 step_places step_places2 : ℕ)
+      → IsWhole t log base faults ss H trouble site places step_places → (log2 ≡ log) × (site2 ≡ site) → (H2 ≡ H) × (ss2 ≡ ss) → places ≤ places2 → step_places ≤ step_places2 → log.room ≤ log.room
+      → IsWhole t log2 base faults ss2 H2 trouble site2 places2 step_places2
+  untouched t log log2 base faults ss ss2 H H2 trouble site site2 places places2 step_places step_places2 whole still same wide more room =
+      subst (λ (s : S). IsWhole t log2 base faults ss2 H2 trouble s places2 step_places2) (sym still.1)
+      (subst (λ (g : LogState). IsWhole t g base faults ss2 H2 trouble site places2 step_places2) (sym still.0)
+      (subst (λ (l : List Step). IsWhole t log base faults l H2 trouble site places2 step_places2) (sym same.1)
+      (subst (λ (l : List Record). IsWhole t log base faults ss l trouble site places2 step_places2) (sym same.0) (
+        whole.0,
+        whole.1,
+        whole.2,
+        places_wider t.plan t.options (moves_of base ss H) (length ss) places places2 step_places step_places2 log log whole.3 wide more room,
+        whole.4,
+      ))))
+
+-- what the desk is after a call that logged nothing
+pub unlogged_view : {S : Type 0} (t : TableState) (log log2 : LogState) (base faults : ℕ) (ss ss2 : List Step) (H H2 : List Record) (trouble trouble2 : Trouble) (site site2 : S) (v : DeskState S)
+    → desk_of t log base faults ss H trouble site ≡ v → (H2 ≡ H) × (ss2 ≡ ss) → log2.name ≡ log.name → desk_of t log2 base faults ss2 H2 trouble2 site2 ≡ record v { trouble = trouble2; site = site2 }
+unlogged_view {S} t log log2 base faults ss ss2 H H2 trouble trouble2 site site2 v is same name =
+    ap (λ (l : List Step). desk_of t log2 base faults l H2 trouble2 site2) same.1
+    ∙ ap (λ (l : List Record). desk_of t log2 base faults ss l trouble2 site2) same.0
+    ∙ ap (λ (n : List ℕ). record (desk_of t log base faults ss H trouble2 site2) { log = n }) name
+    ∙ ap (λ (w : DeskState S). record w { trouble = trouble2; site = site2 }) is
+
+-- and after one that changed nothing
+pub untouched_view : {S : Type 0} (t : TableState) (log log2 : LogState) (base faults : ℕ) (ss ss2 : List Step) (H H2 : List Record) (trouble : Trouble) (site site2 : S) (v : DeskState S)
+    → desk_of t log base faults ss H trouble site ≡ v → (H2 ≡ H) × (ss2 ≡ ss) → (log2 ≡ log) × (site2 ≡ site) → desk_of t log2 base faults ss2 H2 trouble site2 ≡ v
+untouched_view {S} t log log2 base faults ss ss2 H H2 trouble site site2 v is same still =
+    ap (λ (s : S). desk_of t log2 base faults ss2 H2 trouble s) still.1
+    ∙ unlogged_view t log log2 base faults ss ss2 H H2 trouble trouble site site (desk_of t log base faults ss H trouble site) refl same (ap (λ (g : LogState). g.name) still.0)
+    ∙ is
+
+-- want of memory for a record
+pub lacks_for : {S : Type 0} (t : Bool) (d after : DeskState S) → Lacks d after → LacksFor t d after
+lacks_for true d after lacks = lacks
+lacks_for false d after lacks = inl lacks
+
+pub spares_for : {S : Type 0} (t : Bool) (d after : DeskState S) → (t ≡ true → ⊥) → Spares d after → LacksFor t d after
+spares_for true d after never spares = absurd (never refl)
+spares_for false d after never spares = spares

@@ -1,6 +1,6 @@
 //! The log of a run.
 ghost use Rattle.std.specs.Prelude.{◌≡◌, ◌≢◌, ◌≤◌, ◌<◌, ◌↔◌, ◌-◌, ◌^◌, ◌++◌, ◌∷◌, [], List};
-ghost use Rattle.std.specs.Prelude.{ℕ, length, Option, Some, None, OnOk, OnErr, IsErrOf};
+ghost use Rattle.std.specs.Prelude.{ℕ, length, Option, Some, None, OnOk, OnErr, IsErrOf, IsTrue};
 ghost use Rattle.flow_types.specs.declared.records.Record.{Record};
 ghost use Rattle.log_records.specs.Spelling.{spelling, ListsFew};
 ghost use Rattle.outside.specs.Disk.{LeavesOnly};
@@ -83,6 +83,13 @@ impl Log {
         ensures { result ≡ self.now.count }
     {
         self.count
+    }
+
+    /// Whether the log takes records still: it had no fault of the site, and memory wasn't wanting.
+    pub fn is_fine(&self) -> bool
+        ensures { IsTrue result ↔ IsFine self.now }
+    {
+        self.trouble.is_none()
     }
 
     /// The name of the log's file.

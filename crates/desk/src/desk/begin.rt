@@ -6,7 +6,7 @@ ghost use Rattle.outside.specs.Disk.{LeavesOnly};
 ghost use Rattle.txn_log.specs.Logs.{HasRoom, IsAt, most_records};
 ghost use Rattle.desk.specs.Begins.{Begins, MayBegin, site_in};
 ghost use Rattle.task_core.specs.Stands.{Stands};
-ghost use Rattle.desk.specs.Kept.{Fits, StaysBeside, KeepsEither};
+ghost use Rattle.desk.specs.Kept.{Fits, ReadsStay, StaysBeside, KeepsEither};
 ghost use Rattle.desk.specs.Room.{KeepsAmple, longest_closing};
 ghost use Rattle.desk.specs.State.{Takes};
 
@@ -51,6 +51,7 @@ impl<F: Commands, S: Site, T: Terms> Desk<F, S, T> {
             (KeepsEither (Fits T.trust F.gives T.sources) table.plan log.name history entry) }
         ensures others { S.tells → StaysBeside S.may_leave S.moment S.images_since
             (λ m. m ≢ log.name) site (site_in result) }
+        ensures reads { S.tells → ReadsStay S.files (λ m. m ≢ log.name) site (site_in result) }
         ensures ample { KeepsAmple (S.ample site) (S.ample (site_in result))
             (S.count (site_in result)) result }
     {
@@ -120,6 +121,7 @@ impl<F: Commands, S: Site, T: Terms> Desk<F, S, T> {
             (KeepsEither (Fits T.trust F.gives T.sources) table.plan log.name history entry) }
         ensures others { S.tells → StaysBeside S.may_leave S.moment S.images_since
             (λ m. m ≢ log.name) site (site_in result) }
+        ensures reads { S.tells → ReadsStay S.files (λ m. m ≢ log.name) site (site_in result) }
         ensures ample { KeepsAmple (S.ample site) (S.ample (site_in result))
             (S.count (site_in result)) result }
     {

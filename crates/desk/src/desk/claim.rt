@@ -1,5 +1,6 @@
 //! Claims, and what an attempt is to do.
-ghost use Rattle.std.specs.Prelude.{◌≡◌, ◌≢◌, ◌≤◌, ◌<◌, length, Some, IfOk, Ok, true, false};
+ghost use Rattle.std.specs.Prelude.{◌≡◌, ◌≢◌, ◌≤◌, ◌<◌, length, Some, IfOk, IsErrOf, Ok, true};
+ghost use Rattle.std.specs.Prelude.{false};
 ghost use Rattle.std.specs.Vec.{vec_capacity};
 ghost use Rattle.flow_types.specs.Plans.{is_empty, makes};
 ghost use Rattle.run_history.specs.History.{next_attempt, part};
@@ -8,8 +9,9 @@ ghost use Rattle.run_history.specs.Laws.{started_as};
 ghost use Rattle.run_history.specs.Links.{is_live, records_of};
 ghost use Rattle.outside.specs.Disk.{LeavesOnly};
 ghost use Rattle.task_core.specs.Surveys.{claimed};
+ghost use Rattle.desk.specs.declared.answers.ClaimRefused.TheVariants as refused;
 ghost use Rattle.desk.specs.Claims.{Claims, KeepsClaim, Starts};
-ghost use Rattle.desk.specs.Kept.{Fits, Keeps, StaysBeside, FilesHold, KeepsEither};
+ghost use Rattle.desk.specs.Kept.{Fits, Keeps, ReadsStay, StaysBeside, FilesHold, KeepsEither};
 ghost use Rattle.desk.specs.Room.{KeepsAmple};
 ghost use Rattle.desk.specs.Tasks.{task_of};
 ghost use Rattle.desk.specs.State.{IsFine};
@@ -32,6 +34,10 @@ impl<F: Commands, S: Site, T: Terms> Desk<F, S, T> {
         ensures files { S.tells → T.kept → IsFine self.now.trouble
             → FilesHold (Fits T.trust F.gives T.sources) self.now.plan (records_of self.now.moves)
             (S.may_leave self.now.site) }
+        ensures still { S.tells → T.kept → IsFine self.now.trouble
+            → LeavesOnly S.moment S.images_since self.now.site self.now.site
+            (Keeps (Fits T.trust F.gives T.sources) self.now.plan self.now.log
+            (records_of self.now.moves)) }
     {
         self.table.next_attempt()
     }
@@ -64,12 +70,15 @@ impl<F: Commands, S: Site, T: Terms> Desk<F, S, T> {
             (records_of self.old.moves) (started_as self.old.moves rule moment link)) }
         ensures others { S.tells → StaysBeside S.may_leave S.moment S.images_since
             (λ m. m ≢ self.old.log) self.old.site self.new.site }
+        ensures reads { S.tells → ReadsStay S.files
+            (λ m. m ≢ self.old.log) self.old.site self.new.site }
+        ensures spares { S.ample self.old.site → IsErrOf result refused.Memory
+            → self.new ≡ self.old }
         ensures ample { KeepsAmple (S.ample self.old.site) (S.ample self.new.site)
             (S.count self.new.site) result }
     {
         let number = self.next_number();
         let Ok(rows) = self.rows_for(rule) else {
-            self.want();
             return Err(ClaimRefused::Memory);
         };
         match self.record(Record::Started {
@@ -104,8 +113,9 @@ impl<F: Commands, S: Site, T: Terms> Desk<F, S, T> {
         self.table.choice(link)
     }
 
-    /// Starts the least rule that may run on the link and fits, or answers why there is none.
-    /// Condition: the link lives.
+    /// Starts the least rule that may run on the link and fits, or answers why there is none. Want
+    /// of memory for it alone doesn't end the desk's work, and nothing has changed. Condition: the
+    /// link lives.
     pub fn claim(&mut self, link: LinkNo, moment: u64) -> Result<Claim, ClaimRefused>
         requires lives { is_live self.old.options self.old.moves link.0 ≡ true }
         ensures reply { Claims S.count self.old link moment result self.new }
@@ -114,6 +124,10 @@ impl<F: Commands, S: Site, T: Terms> Desk<F, S, T> {
             (KeepsClaim (Fits T.trust F.gives T.sources) self.old link moment) }
         ensures others { S.tells → StaysBeside S.may_leave S.moment S.images_since
             (λ m. m ≢ self.old.log) self.old.site self.new.site }
+        ensures reads { S.tells → ReadsStay S.files
+            (λ m. m ≢ self.old.log) self.old.site self.new.site }
+        ensures spares { S.ample self.old.site → IsFine self.old.trouble
+            → IsErrOf result refused.Memory → self.new ≡ self.old }
         ensures ample { KeepsAmple (S.ample self.old.site) (S.ample self.new.site)
             (S.count self.new.site) result }
     {

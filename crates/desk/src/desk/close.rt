@@ -11,7 +11,8 @@ ghost use Rattle.run_history.specs.Links.{records_of};
 ghost use Rattle.run_history.specs.Storage.{has_failed};
 ghost use Rattle.outside.specs.Disk.{LeavesOnly};
 ghost use Rattle.file_store.specs.Outputs.{IsOther, Last, StayBeside, DifferByName};
-ghost use Rattle.desk.specs.Kept.{Fits, IsElse, Keeps, StaysBeside, FilesHold, KeepsEither, logged};
+ghost use Rattle.desk.specs.Kept.{Fits, IsElse, Keeps, ReadsStay, StaysBeside, FilesHold};
+ghost use Rattle.desk.specs.Kept.{KeepsEither, logged};
 ghost use Rattle.desk.specs.Room.{HasRows, KeepsAmple};
 ghost use Rattle.desk.specs.declared.answers.CloseRefused.TheVariants as refused;
 ghost use Rattle.desk.specs.State.{AreNamed, AreOutputs, CanLose, CanWrite, Checks, Closes, IsDue};
@@ -84,6 +85,8 @@ impl<F: Commands, S: Site, T: Terms> Desk<F, S, T> {
             (records_of self.old.moves)) }
         ensures others { S.tells → StaysBeside S.may_leave S.moment S.images_since
             (IsOther self.old.plan (makes self.old.plan rule.0)) self.old.site self.new.site }
+        ensures reads { S.tells → ReadsStay S.files
+            (IsOther self.old.plan (makes self.old.plan rule.0)) self.old.site self.new.site }
         ensures never { S.ample self.old.site → length outs.now ≤ vec_capacity rows
             → IsErrOf result refused.Memory → ⊥ }
         ensures ample { KeepsAmple (S.ample self.old.site) (S.ample self.new.site)
@@ -133,6 +136,9 @@ impl<F: Commands, S: Site, T: Terms> Desk<F, S, T> {
         ensures others { S.tells → StaysBeside S.may_leave S.moment S.images_since
             (IsElse self.old.plan self.old.log (makes self.old.plan attempt.rule.0)) self.old.site
             self.new.site }
+        ensures reads { S.tells → ReadsStay S.files
+            (IsElse self.old.plan self.old.log (makes self.old.plan attempt.rule.0))
+            self.old.site self.new.site }
         ensures never { S.ample self.old.site → IsFine self.old.trouble
             → HasRows self.old.plan attempt → IsErrOf result refused.Memory → ⊥ }
         ensures ample { KeepsAmple (S.ample self.old.site) (S.ample self.new.site)
@@ -188,6 +194,8 @@ impl<F: Commands, S: Site, T: Terms> Desk<F, S, T> {
             (records_of self.old.moves) (entries.Failed moment attempt.rule attempt.number why)) }
         ensures others { S.tells → StaysBeside S.may_leave S.moment S.images_since
             (λ m. m ≢ self.old.log) self.old.site self.new.site }
+        ensures reads { S.tells → ReadsStay S.files
+            (λ m. m ≢ self.old.log) self.old.site self.new.site }
         ensures never { S.ample self.old.site → IsFine self.old.trouble
             → IsErrOf result refused.Memory → ⊥ }
         ensures ample { KeepsAmple (S.ample self.old.site) (S.ample self.new.site)
@@ -220,6 +228,8 @@ impl<F: Commands, S: Site, T: Terms> Desk<F, S, T> {
             (KeepsEither (Fits T.trust F.gives T.sources) self.old.plan self.old.log
             (records_of self.old.moves) (entries.Lost moment attempt.rule attempt.number)) }
         ensures others { S.tells → StaysBeside S.may_leave S.moment S.images_since
+            (λ m. m ≢ self.old.log) self.old.site self.new.site }
+        ensures reads { S.tells → ReadsStay S.files
             (λ m. m ≢ self.old.log) self.old.site self.new.site }
         ensures never { S.ample self.old.site → IsFine self.old.trouble
             → IsErrOf result refused.Memory → ⊥ }

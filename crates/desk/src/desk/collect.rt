@@ -4,7 +4,8 @@ ghost use Rattle.flow_types.specs.declared.records.Record.TheVariants as entries
 ghost use Rattle.run_history.specs.Links.{records_of};
 ghost use Rattle.outside.specs.Disk.{LeavesOnly};
 ghost use Rattle.file_store.specs.Outputs.{file_name, IsOther};
-ghost use Rattle.desk.specs.Kept.{Fits, IsElse, Keeps, StaysBeside, FilesHold, KeepsEither};
+ghost use Rattle.desk.specs.Kept.{Fits, IsElse, Keeps, ReadsStay, StaysBeside, FilesHold};
+ghost use Rattle.desk.specs.Kept.{KeepsEither};
 ghost use Rattle.desk.specs.Room.{KeepsAmple};
 ghost use Rattle.desk.specs.declared.answers.CollectRefused.TheVariants as unmade;
 ghost use Rattle.task_core.specs.Collections.{collected_number, collection_of};
@@ -49,6 +50,8 @@ impl<F: Commands, S: Site, T: Terms> Desk<F, S, T> {
             (records_of self.old.moves)) }
         ensures others { S.tells → StaysBeside S.may_leave S.moment S.images_since
             (IsOther self.old.plan (file.0 ∷ [])) self.old.site self.new.site }
+        ensures reads { S.tells → ReadsStay S.files
+            (IsOther self.old.plan (file.0 ∷ [])) self.old.site self.new.site }
         ensures never { S.ample self.old.site → IsErrOf result unmade.Memory → ⊥ }
         ensures ample { KeepsAmple (S.ample self.old.site) (S.ample self.new.site)
             (S.count self.new.site) result }
@@ -83,6 +86,8 @@ impl<F: Commands, S: Site, T: Terms> Desk<F, S, T> {
             (records_of self.old.moves) (entries.Dropped moment file)) }
         ensures others { S.tells → StaysBeside S.may_leave S.moment S.images_since
             (IsElse self.old.plan self.old.log (file.0 ∷ [])) self.old.site self.new.site }
+        ensures reads { S.tells → ReadsStay S.files
+            (IsElse self.old.plan self.old.log (file.0 ∷ [])) self.old.site self.new.site }
         ensures never { S.ample self.old.site → IsErrOf result unmade.Memory → ⊥ }
         ensures ample { KeepsAmple (S.ample self.old.site) (S.ample self.new.site)
             (S.count self.new.site) result }
@@ -107,6 +112,8 @@ impl<F: Commands, S: Site, T: Terms> Desk<F, S, T> {
             → LeavesOnly S.moment S.images_since self.old.site self.new.site
             (KeepsCollection (Fits T.trust F.gives T.sources) self.old moment) }
         ensures others { S.tells → StaysBeside S.may_leave S.moment S.images_since
+            (IsUncollected self.old) self.old.site self.new.site }
+        ensures reads { S.tells → ReadsStay S.files
             (IsUncollected self.old) self.old.site self.new.site }
         ensures never { S.ample self.old.site → IsErrOf result unmade.Memory → ⊥ }
         ensures ample { KeepsAmple (S.ample self.old.site) (S.ample self.new.site)
@@ -133,6 +140,8 @@ impl<F: Commands, S: Site, T: Terms> Desk<F, S, T> {
             → LeavesOnly S.moment S.images_since self.old.site self.new.site
             (KeepsCollection (Fits T.trust F.gives T.sources) self.old moment) }
         ensures others { S.tells → StaysBeside S.may_leave S.moment S.images_since
+            (IsUncollected self.old) self.old.site self.new.site }
+        ensures reads { S.tells → ReadsStay S.files
             (IsUncollected self.old) self.old.site self.new.site }
         ensures never { S.ample self.old.site → IsFine self.old.trouble
             → IsErrOf result unmade.Memory → ⊥ }

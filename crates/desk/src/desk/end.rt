@@ -1,12 +1,13 @@
 //! Stops, and the end of a run.
-ghost use Rattle.std.specs.Prelude.{◌≡◌, ◌≢◌, IfSome, true, false, None, is_some};
+ghost use Rattle.std.specs.Prelude.{◌≡◌, ◌≢◌, IfSome, IsErrOf, true, false, None, is_some};
 ghost use Rattle.flow_types.specs.Plans.{is_empty};
 ghost use Rattle.run_history.specs.History.{part};
 ghost use Rattle.run_history.specs.Answers.{end_of, has_ended, stop_of};
 ghost use Rattle.run_history.specs.Links.{records_of};
 ghost use Rattle.outside.specs.Disk.{LeavesOnly};
+ghost use Rattle.desk.specs.declared.answers.EndRefused.TheVariants as refused;
 ghost use Rattle.desk.specs.Ends.{Answers, Ends, KeepsEnd};
-ghost use Rattle.desk.specs.Kept.{Fits, Keeps, StaysBeside, FilesHold};
+ghost use Rattle.desk.specs.Kept.{Fits, Keeps, ReadsStay, StaysBeside, FilesHold};
 ghost use Rattle.desk.specs.Room.{KeepsAmple};
 ghost use Rattle.desk.specs.State.{IsFine, has_room};
 
@@ -79,6 +80,10 @@ impl<F: Commands, S: Site, T: Terms> Desk<F, S, T> {
             (KeepsEnd (Fits T.trust F.gives T.sources) self.old moment) }
         ensures others { S.tells → StaysBeside S.may_leave S.moment S.images_since
             (λ m. m ≢ self.old.log) self.old.site self.new.site }
+        ensures reads { S.tells → ReadsStay S.files
+            (λ m. m ≢ self.old.log) self.old.site self.new.site }
+        ensures spares { S.ample self.old.site → IsErrOf result refused.Memory
+            → self.new ≡ self.old }
         ensures ample { KeepsAmple (S.ample self.old.site) (S.ample self.new.site)
             (S.count self.new.site) result }
     {
@@ -106,6 +111,10 @@ impl<F: Commands, S: Site, T: Terms> Desk<F, S, T> {
             (KeepsEnd (Fits T.trust F.gives T.sources) self.old moment) }
         ensures others { S.tells → StaysBeside S.may_leave S.moment S.images_since
             (λ m. m ≢ self.old.log) self.old.site self.new.site }
+        ensures reads { S.tells → ReadsStay S.files
+            (λ m. m ≢ self.old.log) self.old.site self.new.site }
+        ensures spares { S.ample self.old.site → IsFine self.old.trouble
+            → IsErrOf result refused.Memory → self.new ≡ self.old }
         ensures ample { KeepsAmple (S.ample self.old.site) (S.ample self.new.site)
             (S.count self.new.site) result }
     {

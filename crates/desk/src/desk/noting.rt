@@ -1,18 +1,20 @@
 //! What the calls of a desk share: one more record, and what is answered by a desk that works no
 //! more.
 ghost use Rattle.std.specs.Prelude.{◌≡◌, ◌≢◌, ◌≤◌, ◌++◌, ◌∷◌, [], length, IsErrOf, true, false};
+ghost use Rattle.run_history.specs.declared.moves.Move.TheVariants as moves;
 ghost use Rattle.run_history.specs.History.{is_cleaned};
 ghost use Rattle.run_history.specs.Legal.{is_allowed};
 ghost use Rattle.run_history.specs.Links.{records_of};
+ghost use Rattle.run_history.specs.Moves.{is_served};
 ghost use Rattle.rule_graph.specs.Spelling.{plan_digest};
 ghost use Rattle.log_records.specs.Spelling.{ListsFew, spelling};
 ghost use Rattle.outside.specs.Disk.{LeavesOnly};
+ghost use Rattle.desk.specs.Asked.{IsAskedFailure, IsAskedLoss, MayFail};
 ghost use Rattle.desk.specs.Claims.{Works};
 ghost use Rattle.desk.specs.Follows.{Follows, IsShaped};
-ghost use Rattle.desk.specs.Kept.{Fits, Keeps, StaysBeside, FilesHold, KeepsEither};
+ghost use Rattle.desk.specs.Kept.{Fits, Keeps, ReadsStay, StaysBeside, FilesHold, KeepsEither};
 ghost use Rattle.desk.specs.Room.{KeepsAmple, closes, longest_closing};
 ghost use Rattle.desk.specs.declared.answers.CloseRefused.TheVariants as refused;
-ghost use Rattle.desk.specs.declared.answers.Trouble.TheVariants as trouble;
 ghost use Rattle.desk.specs.State.{IsFine, Records, has_room};
 
 use super::Desk;
@@ -35,24 +37,17 @@ impl<F: Commands, S: Site, T: Terms> Desk<F, S, T> {
         }
     }
 
-    /// The desk works no more, since memory was wanting.
-    pub(super) fn want(&mut self)
-        requires { IsFine self.old.trouble }
-        ensures wants { self.new ≡ record self.old { trouble = trouble.Wants } }
-        ensures any_moment { S.tells → T.kept
-            → LeavesOnly S.moment S.images_since self.old.site self.new.site
-            (Keeps (Fits T.trust F.gives T.sources) self.old.plan self.old.log
-            (records_of self.old.moves)) }
-    {
-        self.trouble = Trouble::Wants;
-    }
-
-    /// Adds a record that may stand there, and whose files the site has.
+    /// Adds a record that may stand there, and whose files the site has. Where memory is wanting for
+    /// it before the log is touched, nothing has changed.
     pub(super) fn record(&mut self, entry: Record) -> Result<(), CloseRefused>
         requires few { ListsFew entry }
         requires fine { IsFine self.old.trouble }
         requires allowed { is_allowed self.old.plan (plan_digest self.old.plan)
             (records_of self.old.moves) entry ≡ true }
+        requires served { is_served self.old.plan self.old.options self.old.moves entry ≡ true }
+        requires failure { IsAskedFailure (MayFail T.trust F.gives F.may_fail T.sources)
+            self.old.plan entry }
+        requires loss { IsAskedLoss T.keen self.old.stop self.old.moves (moves.Logged entry) }
         requires goes_on { is_cleaned entry ≡ false }
         requires shaped { IsShaped self.old.plan entry }
         requires follows { Follows self.old.plan self.old.options self.old.stop self.old.moves
@@ -68,9 +63,14 @@ impl<F: Commands, S: Site, T: Terms> Desk<F, S, T> {
             (records_of self.old.moves) entry) }
         ensures others { S.tells → StaysBeside S.may_leave S.moment S.images_since
             (λ m. m ≢ self.old.log) self.old.site self.new.site }
+        ensures reads { S.tells → ReadsStay S.files
+            (λ m. m ≢ self.old.log) self.old.site self.new.site }
         ensures later { S.count self.old.site ≤ S.count self.new.site }
         ensures never { S.ample self.old.site → closes entry ≡ true
             → length (spelling entry) ≤ longest_closing → IsErrOf result refused.Memory → ⊥ }
+        ensures spared { S.ample self.old.site → closes entry ≡ false
+            → length (spelling entry) ≤ longest_closing → IsErrOf result refused.Memory
+            → self.new ≡ self.old }
         ensures ample { KeepsAmple (S.ample self.old.site) (S.ample self.new.site)
             (S.count self.new.site) result }
     {
@@ -94,6 +94,9 @@ impl<F: Commands, S: Site, T: Terms> Desk<F, S, T> {
                 Err(CloseRefused::Broken { before, after })
             }
             Err(Fault::Memory) => {
+                if self.log.is_fine() {
+                    return Err(CloseRefused::Memory);
+                }
                 self.trouble = Trouble::Wants;
                 Err(CloseRefused::Memory)
             }

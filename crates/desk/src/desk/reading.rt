@@ -1,5 +1,5 @@
 //! Which files are present, and what is in them.
-ghost use Rattle.std.specs.Prelude.{◌≡◌, ◌<◌, length, Some, IfOk, true};
+ghost use Rattle.std.specs.Prelude.{◌≡◌, ◌<◌, length, Some, IfOk, IsErrOf, true};
 ghost use Rattle.flow_types.specs.Serial.{serial};
 ghost use Rattle.run_history.specs.States.{file_state};
 ghost use Rattle.run_history.specs.Laws.{IsPresent};
@@ -7,13 +7,14 @@ ghost use Rattle.run_history.specs.Links.{records_of};
 ghost use Rattle.run_history.specs.Storage.{is_present};
 ghost use Rattle.outside.specs.Disk.{LeavesOnly};
 ghost use Rattle.file_store.specs.Outputs.{file_name};
+ghost use Rattle.desk.specs.declared.answers.InputRefused.TheVariants as refused;
 ghost use Rattle.desk.specs.Inputs.{IsWhole, Looks, Tells, content_in};
-ghost use Rattle.desk.specs.Kept.{Fits, Keeps, StaysBeside, logged};
+ghost use Rattle.desk.specs.Kept.{Fits, Keeps, ReadsStay, StaysBeside, logged};
 ghost use Rattle.desk.specs.Room.{KeepsAmple};
 ghost use Rattle.desk.specs.State.{IsFine};
 
 use super::Desk;
-use crate::inputs::{content_in, read_logged};
+use crate::inputs::{buffer_of, content_in, read_logged};
 use crate::{InputRefused, Terms, Trouble};
 use flow_types::{Bytes, Content, FileNo, Memory};
 use outside::{Commands, Fault, Site};
@@ -59,6 +60,9 @@ impl<F: Commands, S: Site, T: Terms> Desk<F, S, T> {
             (records_of self.old.moves)) }
         ensures others { S.tells → StaysBeside S.may_leave S.moment S.images_since
             (λ _. Unit {0}) self.old.site self.new.site }
+        ensures reads { S.tells → ReadsStay S.files (λ _. Unit {0}) self.old.site self.new.site }
+        ensures spares { S.ample self.old.site → IsFine self.old.trouble
+            → IsErrOf result refused.Memory → self.new ≡ self.old }
         ensures ample { KeepsAmple (S.ample self.old.site) (S.ample self.new.site)
             (S.count self.new.site) result }
     {
@@ -67,8 +71,11 @@ impl<F: Commands, S: Site, T: Terms> Desk<F, S, T> {
             Trouble::Broken { before, after } => return Err(InputRefused::Broken { before, after }),
             Trouble::Wants => return Err(InputRefused::Memory),
         }
+        let Ok(buffer) = buffer_of(alloc, logged.size) else {
+            return Err(InputRefused::Memory);
+        };
         let row = &self.table.plan().files.as_slice()[file.0 as usize];
-        match read_logged(alloc, &mut self.site, &row.name, logged) {
+        match read_logged(buffer, &mut self.site, &row.name, logged) {
             Ok(Ok(bytes)) => Ok(bytes),
             Ok(Err(found)) => Err(InputRefused::Damaged {
                 file,
@@ -88,7 +95,8 @@ impl<F: Commands, S: Site, T: Terms> Desk<F, S, T> {
         }
     }
 
-    /// The content of a file, as it was logged, or what stands in its place. Condition: the file is
+    /// The content of a file, as it was logged, or what stands in its place. Memory that is wanting
+    /// for it alone doesn't end the desk's work, and nothing has changed. Condition: the file is
     /// present.
     pub fn read_input(&mut self, alloc: Global, file: FileNo) -> Result<Bytes, InputRefused>
         requires present { is_present self.old.plan (records_of self.old.moves) file.0 ≡ true }
@@ -108,6 +116,9 @@ impl<F: Commands, S: Site, T: Terms> Desk<F, S, T> {
             (records_of self.old.moves)) }
         ensures others { S.tells → StaysBeside S.may_leave S.moment S.images_since
             (λ _. Unit {0}) self.old.site self.new.site }
+        ensures reads { S.tells → ReadsStay S.files (λ _. Unit {0}) self.old.site self.new.site }
+        ensures spares { S.ample self.old.site → IsFine self.old.trouble
+            → IsErrOf result refused.Memory → self.new ≡ self.old }
         ensures ample { KeepsAmple (S.ample self.old.site) (S.ample self.new.site)
             (S.count self.new.site) result }
     {
