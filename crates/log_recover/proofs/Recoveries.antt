@@ -1,7 +1,9 @@
 -- What is recovered of a file.
-use Rattle.std.proofs.Common.{Result, Ok, Err, ◌≡◌, ◌≤◌, ◌<◌, ℕ, List, [], ◌∷◌, length, Option, Some, None, inr, sym, subst, arith}
+use Rattle.std.proofs.Common.{Result, Ok, Err, OnOk, ◌≡◌, ◌≢◌, ◌≤◌, ◌<◌, ◌∙◌, ℕ, Bool, true, false, List, [], ◌∷◌, length, Option, Some, None, inr, refl, sym, subst, arith, true≢false}
 use Rattle.std.specs.Prelude.{option_map}
-use Rattle.outside.specs.Files.{content}
+use Rattle.std.specs.Str.{bytes_eq}
+use Rattle.std.proofs.lemmas.Slice.Eq.{bytes_eq-Decides}
+use Rattle.outside.specs.Files.{Files, content}
 use Rattle.outside.specs.Disk.{Outcomes}
 use Rattle.flow_types.specs.declared.records.Record.{Record}
 use Rattle.txn_log.specs.Logs.{LogState, IsLog}
@@ -48,3 +50,16 @@ stands_long name file p outcomes named spelled gate durable = record {
     each = λ left was. subst (λ (e : Option (List ℕ)). IsLogOf p.1 e) (sym (durable left (subst (λ (n : List ℕ). outcomes n left) named.same_name was))) spelled;
   };
 }
+
+-- reads under this name stay, and those under the others
+pub all_same : (old new : Files) (name : List ℕ) → new name ≡ old name → ((m : List ℕ) → m ≢ name → new m ≡ old m) → (m : List ℕ) → new m ≡ old m
+all_same old new name here others m = by_name (bytes_eq m name) refl
+  where
+    by_name : (t : Bool) → bytes_eq m name ≡ t → new m ≡ old m
+    by_name true same = subst (λ (n : List ℕ). new n ≡ old n) (sym ((bytes_eq-Decides m name).0 same)) here
+    by_name false other = others m (λ same. true≢false (sym ((bytes_eq-Decides m name).1 same) ∙ other))
+
+-- what is so is so at Ok
+pub always_ok : {T E A : Type 0} (result : Result T E) → A → OnOk result A
+always_ok (Ok x) a = a
+always_ok (Err e) a = tt

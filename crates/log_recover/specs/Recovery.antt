@@ -1,5 +1,5 @@
 -- What recovery answers.
-use Rattle.std.specs.Prelude.{Bool, true, false, ◌⊎◌, Option, Some, None, Result, Ok, Err, ◌≡◌, ◌≢◌, ◌≤◌, ◌<◌, ◌^◌, ℕ, List, ◌++◌, length, take, drop}
+use Rattle.std.specs.Prelude.{Bool, true, false, ◌⊎◌, Option, Some, None, Result, Ok, Err, ◌≡◌, ◌≢◌, ◌≤◌, ◌<◌, ◌-◌, ◌^◌, ℕ, List, ◌++◌, length, take, drop}
 use Rattle.std.specs.List.{AllByRecursion}
 use Rattle.flow_types.specs.declared.records.Record.{Record}
 use Rattle.log_records.specs.Spelling.{HasSpelling}
@@ -81,6 +81,19 @@ IsDamage (Err BadHeader) = Unit {0}
 IsDamage (Err (BadRecord at)) = Unit {0}
 IsDamage (Err Site) = ⊥
 IsDamage (Err Memory) = ⊥
+
+-- The answer is what the file holds: records, or what is wrong with its bytes.
+abbrev pub IsTold : Result (LogState × List Record) RecoverFault → Type 0
+IsTold (Ok p) = Unit {0}
+IsTold (Err BadHeader) = Unit {0}
+IsTold (Err (BadRecord at)) = Unit {0}
+IsTold (Err Site) = ⊥
+IsTold (Err Memory) = ⊥
+
+-- An ample site stays ample where the answer is what the file holds, and otherwise until its count is at its last value.
+pub record LeavesAmple (before after : Type 0) (now : ℕ) (result : Result (LogState × List Record) RecoverFault) : Type 0 where
+  pub stays : before → IsTold result → after
+  pub goes_on : before → now < 2 ^ 64 - 1 → after
 
 -- The log that is answered is the one under this name, has as many records as the list, and takes records.
 pub record IsNamed (name : List ℕ) (p : LogState × List Record) : Type 0 where

@@ -5,6 +5,7 @@ ghost use Rattle.outside.specs.Causes.{HasCause};
 ghost use Rattle.outside.specs.Disk.{LeavesOnly};
 ghost use Rattle.outside.specs.Files.{content};
 ghost use Rattle.txn_log.specs.Spells.{IsUnbegun, IsLogOf};
+ghost use Rattle.log_recover.specs.Quiet.{KeepsAmple};
 ghost use Rattle.log_recover.specs.Recovery.{IsUnbegunAt};
 
 use flow_types::Name;
@@ -29,6 +30,7 @@ fn clear<S: Site>(site: &mut S, name: &Name) -> Result<(), Fault>
     ensures any_moment { S.tells → LeavesOnly S.moment S.images_since site.old site.new
         (IsUnbegunAt name.now (S.may_leave site.old)) }
     ensures cause { HasCause (S.count site.old) (S.count site.new) result }
+    ensures ample { KeepsAmple (S.ample site.old) (S.ample site.new) (S.count site.new) result }
 {
     site.cut(name, 0)
 }
@@ -47,6 +49,7 @@ fn begin<S: Site>(site: &mut S, name: &Name) -> Result<(), Fault>
     ensures any_moment { S.tells → LeavesOnly S.moment S.images_since site.old site.new
         (IsUnbegunAt name.now (S.may_leave site.old)) }
     ensures cause { HasCause (S.count site.old) (S.count site.new) result }
+    ensures ample { KeepsAmple (S.ample site.old) (S.ample site.new) (S.count site.new) result }
 {
     write_synced(site, name, 0, &START)
 }
@@ -66,6 +69,7 @@ pub(crate) fn begin_anew<S: Site>(site: &mut S, name: &Name, size: Option<u64>) 
     ensures any_moment { S.tells → LeavesOnly S.moment S.images_since site.old site.new
         (IsUnbegunAt name.now (S.may_leave site.old)) }
     ensures cause { HasCause (S.count site.old) (S.count site.new) result }
+    ensures ample { KeepsAmple (S.ample site.old) (S.ample site.new) (S.count site.new) result }
 {
     if size.is_none() {
         return begin(site, name);

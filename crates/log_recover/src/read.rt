@@ -3,7 +3,7 @@ ghost use Rattle.std.specs.Prelude.{◌≡◌, ◌≤◌, ◌<◌, ◌+◌, ◌-
 ghost use Rattle.outside.specs.Causes.{HasCause};
 ghost use Rattle.outside.specs.Files.{content};
 ghost use Rattle.log_records.specs.Spelling.{most_spelled};
-ghost use Rattle.log_recover.specs.Quiet.{IsQuiet};
+ghost use Rattle.log_recover.specs.Quiet.{IsQuiet, KeepsAmple};
 ghost use Rattle.log_recover.specs.Steps.{Stands, IsHead, BeginsSo, EndsWithin, IsBody};
 ghost use Rattle.log_recover.specs.Windows.{Shows};
 ghost use Rattle.log_recover.specs.declared.step.Head.TheVariants.{Length};
@@ -45,6 +45,7 @@ fn body_at<S: Site>(
     ensures quiet { S.tells
         → IsQuiet S.files S.may_leave S.moment S.images_since site.old site.new }
     ensures cause { HasCause (S.count site.old) (S.count site.new) result }
+    ensures ample { KeepsAmple (S.ample site.old) (S.ample site.new) (S.count site.new) result }
 {
     window.reach(site, name, at, len)?;
     let body = window.view(at, len);
@@ -88,6 +89,7 @@ fn head_at<S: Site>(site: &mut S, name: &Name, window: &mut Window, at: u64) -> 
     ensures quiet { S.tells
         → IsQuiet S.files S.may_leave S.moment S.images_since site.old site.new }
     ensures cause { HasCause (S.count site.old) (S.count site.new) result }
+    ensures ample { KeepsAmple (S.ample site.old) (S.ample site.new) (S.count site.new) result }
 {
     window.reach(site, name, at, HEAD)?;
     Ok(head_of(window.view(at, HEAD)))
@@ -115,6 +117,7 @@ fn behind_gate<S: Site>(
     ensures quiet { S.tells
         → IsQuiet S.files S.may_leave S.moment S.images_since site.old site.new }
     ensures cause { HasCause (S.count site.old) (S.count site.new) result }
+    ensures ample { KeepsAmple (S.ample site.old) (S.ample site.new) (S.count site.new) result }
 {
     let whole = AROUND + len as u64;
     if len > MOST_SPELLED || size - at < whole {
@@ -146,6 +149,7 @@ pub(crate) fn entry_at<S: Site>(
     ensures quiet { S.tells
         → IsQuiet S.files S.may_leave S.moment S.images_since site.old site.new }
     ensures cause { HasCause (S.count site.old) (S.count site.new) result }
+    ensures ample { KeepsAmple (S.ample site.old) (S.ample site.new) (S.count site.new) result }
 {
     match head_at(site, name, window, at)? {
         Head::Shut => Ok(Step::Closed),

@@ -1,15 +1,16 @@
 //! Recovery of a log.
 ghost use Rattle.std.specs.Prelude.{◌≡◌, ◌≢◌, ◌≤◌, ◌<◌, List, ℕ, length, take};
-ghost use Rattle.std.specs.Prelude.{Option, Some, IfOk, IsErrOf, IsTrue, true, false};
+ghost use Rattle.std.specs.Prelude.{Option, Some, IfOk, OnOk, IsErrOf, IsTrue, true, false};
 ghost use Rattle.outside.specs.Causes.{HasCause};
 ghost use Rattle.outside.specs.Disk.{LeavesOnly};
 ghost use Rattle.outside.specs.Files.{content};
 ghost use Rattle.txn_log.specs.Logs.{IsLog};
-ghost use Rattle.txn_log.specs.Spells.{header, Spells};
+ghost use Rattle.txn_log.specs.Spells.{header, IsUnbegun, Spells};
 ghost use Rattle.flow_types.specs.declared.records.Record.{Record};
-ghost use Rattle.log_recover.specs.Quiet.{IsQuiet};
+ghost use Rattle.log_recover.specs.Quiet.{IsQuiet, KeepsAmple};
 ghost use Rattle.log_recover.specs.Recovery.{Resumes, Recovers, IsThese, IsKept};
 ghost use Rattle.log_recover.specs.Recovery.{IsDamage, IsNamed, IsRecovering, IsHeader};
+ghost use Rattle.log_recover.specs.Recovery.{LeavesAmple};
 
 use crate::begin::begin_anew;
 use crate::fault::RecoverFault;
@@ -36,6 +37,7 @@ fn has_header<S: Site>(site: &mut S, name: &Name) -> Result<bool, Fault>
     ensures quiet { S.tells
         → IsQuiet S.files S.may_leave S.moment S.images_since site.old site.new }
     ensures cause { HasCause (S.count site.old) (S.count site.new) result }
+    ensures ample { KeepsAmple (S.ample site.old) (S.ample site.new) (S.count site.new) result }
 {
     let mut head = [0u8; 8];
     let _count = read_at(site, name, 0, &mut head)?;
@@ -57,6 +59,7 @@ fn resume<S: Site>(
         → IsQuiet S.files S.may_leave S.moment S.images_since site.old site.new }
     ensures later { S.count site.old ≤ S.count site.new }
     ensures cause { IsErrOf result RecoverFault.Site → S.count site.old < S.count site.new }
+    ensures ample { LeavesAmple (S.ample site.old) (S.ample site.new) (S.count site.new) result }
 {
     if !has_header(site, &name)? {
         return Err(RecoverFault::BadHeader);
@@ -81,6 +84,8 @@ fn open_log<S: Site>(
     ensures stands { IfOk result (λ p. S.tells → IsLog p.0 p.1 (S.may_leave site.new)) }
     ensures unchanged { S.tells → IsDamage result
         → S.files site.new «name» ≡ S.files site.old «name» }
+    ensures same { OnOk result (S.tells → (IsUnbegun (S.files site.old «name») → ⊥)
+        → (m : List ℕ) → S.files site.new m ≡ S.files site.old m) }
     ensures any_moment { S.tells → LeavesOnly S.moment S.images_since site.old site.new
         (IsRecovering «name» (S.files site.old «name») (S.may_leave site.old)) }
     ensures others { S.tells → (m : List ℕ) → m ≢ «name»
@@ -89,6 +94,7 @@ fn open_log<S: Site>(
         → S.may_leave site.new m file → S.may_leave site.old m file }
     ensures later { S.count site.old ≤ S.count site.new }
     ensures cause { IsErrOf result RecoverFault.Site → S.count site.old < S.count site.new }
+    ensures ample { LeavesAmple (S.ample site.old) (S.ample site.new) (S.count site.new) result }
 {
     let size = settle(site, &name)?;
     match size {
@@ -117,6 +123,8 @@ pub fn recover<S: Site>(
     ensures stands { IfOk result (λ p. S.tells → IsLog p.0 p.1 (S.may_leave site.new)) }
     ensures unchanged { S.tells → IsDamage result
         → S.files site.new «name» ≡ S.files site.old «name» }
+    ensures same { OnOk result (S.tells → (IsUnbegun (S.files site.old «name») → ⊥)
+        → (m : List ℕ) → S.files site.new m ≡ S.files site.old m) }
     ensures any_moment { S.tells → LeavesOnly S.moment S.images_since site.old site.new
         (IsRecovering «name» (S.files site.old «name») (S.may_leave site.old)) }
     ensures kept { S.tells → (records : List Record)
@@ -129,6 +137,7 @@ pub fn recover<S: Site>(
         → S.may_leave site.new m file → S.may_leave site.old m file }
     ensures later { S.count site.old ≤ S.count site.new }
     ensures cause { IsErrOf result RecoverFault.Site → S.count site.old < S.count site.new }
+    ensures ample { LeavesAmple (S.ample site.old) (S.ample site.new) (S.count site.new) result }
 {
     open_log(alloc, site, name)
 }

@@ -4,7 +4,7 @@ ghost use Rattle.std.specs.Prelude.{ℕ, length, take, IfOk, OnOk, IsErrOf};
 ghost use Rattle.outside.specs.Causes.{HasCause};
 ghost use Rattle.outside.specs.Files.{content};
 ghost use Rattle.txn_log.specs.Spells.{header};
-ghost use Rattle.log_recover.specs.Quiet.{IsQuiet};
+ghost use Rattle.log_recover.specs.Quiet.{IsQuiet, KeepsAmple};
 ghost use Rattle.log_recover.specs.Recovery.{IsFound, IsNear};
 
 use crate::found::Found;
@@ -49,6 +49,7 @@ pub(crate) fn scan<S: Site>(
     ensures quiet { S.tells
         → IsQuiet S.files S.may_leave S.moment S.images_since site.old site.new }
     ensures cause { HasCause (S.count site.old) (S.count site.new) result }
+    ensures ample { KeepsAmple (S.ample site.old) (S.ample site.new) (S.count site.new) result }
 {
     let mut records = Rows::new(alloc);
     let mut window = Window::new(alloc);

@@ -2,6 +2,7 @@
 ghost use Rattle.std.specs.Prelude.{◌≡◌, ◌≢◌, List, ℕ, length, Option, IfOk, OnOk, option_map};
 ghost use Rattle.outside.specs.Causes.{HasCause};
 ghost use Rattle.outside.specs.Disk.{IsImage, Within, LeavesOnly};
+ghost use Rattle.log_recover.specs.Quiet.{KeepsAmple};
 
 use flow_types::Name;
 use outside::{Fault, Site};
@@ -19,6 +20,7 @@ pub(crate) fn settle<S: Site>(site: &mut S, name: &Name) -> Result<Option<u64>, 
     ensures any_moment { S.tells
         → LeavesOnly S.moment S.images_since site.old site.new (IsImage (S.may_leave site.old)) }
     ensures cause { HasCause (S.count site.old) (S.count site.new) result }
+    ensures ample { KeepsAmple (S.ample site.old) (S.ample site.new) (S.count site.new) result }
 {
     site.sync(name)?;
     site.size(name)

@@ -3,7 +3,7 @@ ghost use Rattle.std.specs.Prelude.{◌≡◌, ◌≤◌, List, ℕ, length, tak
 ghost use Rattle.std.specs.Prelude.{drop, IfOk, OnOk, IsErrOf, IsTrue};
 ghost use Rattle.outside.specs.Causes.{HasCause};
 ghost use Rattle.outside.specs.Files.{content, Reads};
-ghost use Rattle.log_recover.specs.Quiet.{IsQuiet};
+ghost use Rattle.log_recover.specs.Quiet.{IsQuiet, KeepsAmple};
 ghost use Rattle.log_recover.specs.Windows.{Shows, Covers, seen};
 
 use flow_types::Name;
@@ -26,6 +26,7 @@ pub(crate) fn read_at<S: Site>(
     ensures quiet { S.tells
         → IsQuiet S.files S.may_leave S.moment S.images_since site.old site.new }
     ensures cause { HasCause (S.count site.old) (S.count site.new) result }
+    ensures ample { KeepsAmple (S.ample site.old) (S.ample site.new) (S.count site.new) result }
 {
     site.read(name, at, into)
 }
@@ -95,6 +96,8 @@ impl Window {
         ensures quiet { S.tells
             → IsQuiet S.files S.may_leave S.moment S.images_since site.old site.new }
         ensures cause { HasCause (S.count site.old) (S.count site.new) result }
+        ensures ample { KeepsAmple (S.ample site.old) (S.ample site.new) (S.count site.new)
+            result }
     {
         if self.covers(at, len) {
             return Ok(());

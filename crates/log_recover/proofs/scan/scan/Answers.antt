@@ -20,6 +20,7 @@ loop-window-init g c = record {
   shows = λ told. c.new-window.ensures (content (g.S.Site.files c.args.site.now c.args.name.now));
   quiet = λ told. quiet_start g.S.Site.files g.S.Site.may_leave g.S.Site.moment g.S.Site.images_since c.args.site.now
       (λ image left. (g.met.S.Site g.world.𝓛 g.world.𝓜 g.world.𝓡 ((λ s x. x), (λ x. x), (λ x. x), λ x. x)).only_now told c.args.site.now image left);
+  ample = λ is. is;
   later = omega arith;
 }
 
@@ -53,5 +54,6 @@ loop-window-preserved g c =
       shows = λ told. subst (λ (f : Files). Shows c.entry_at.new.window (content (f c.args.name.now))) (c.loop-window.invariant.quiet told).same (step.shows told);
       quiet = λ told. quiet_joined g.S.Site.files g.S.Site.may_leave g.S.Site.moment g.S.Site.images_since c.args.site.now c.loop-window.site c.entry_at.new.site
           (c.loop-window.invariant.quiet told) (step.quiet told);
+      ample = λ is. step.ample.stays (c.loop-window.invariant.ample is);
       later = omega (arith, c.loop-window.invariant.later, step.cause.later);
     }

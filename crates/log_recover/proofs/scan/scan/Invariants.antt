@@ -14,6 +14,7 @@ invariant-loop-window g l = record {
   read : g.S.Site.tells → IsRead (content (g.S.Site.files l.fn.site l.name)) l.records l.at;
   shows : g.S.Site.tells → Shows l.window (content (g.S.Site.files l.fn.site l.name));
   quiet : g.S.Site.tells → IsQuiet g.S.Site.files g.S.Site.may_leave g.S.Site.moment g.S.Site.images_since l.fn.site l.site;
+  ample : g.S.Site.ample l.fn.site → g.S.Site.ample l.site;
   later : g.S.Site.count l.fn.site ≤ g.S.Site.count l.site;
 }
 
