@@ -1,5 +1,5 @@
 -- One output more.
-use Rattle.std.proofs.Common.{◌≡◌, ℕ, suc, ◌+◌, ◌<◌, ◌≤◌, List, [], ◌∷◌, ◌++◌, sym, ◌∙◌, ap, subst, take, length, get_or, add-one}
+use Rattle.std.proofs.Common.{◌≡◌, ℕ, ◌+◌, ◌<◌, ◌≤◌, List, [], ◌∷◌, ◌++◌, sym, ◌∙◌, ap, subst, take, length, get_or, add-one}
 use Rattle.std.proofs.Math.Seq.{take-suc}
 use Rattle.flow_types.specs.declared.job.Want.{Want}
 use Rattle.outside.specs.Jobs.{AllFit}
