@@ -1,11 +1,11 @@
 -- What a pin more or less, and a row that is unlinked, do to the counts.
-use Rattle.std.proofs.Common.{◌≡◌, ℕ, zero, suc, ◌+◌, ◌-◌, ◌≤◌, ◌<◌, Bool, true, false, cond, eqb, leb, ltb, List, Option, Some, None, refl, sym, ap, ◌∙◌, arith}
+use Rattle.std.proofs.Common.{◌≡◌, ℕ, zero, suc, ◌+◌, ◌-◌, ◌<◌, Bool, true, false, cond, eqb, leb, ltb, Option, Some, None, refl, ap, arith}
 use Rattle.std.specs.Prelude.{slice_get, remove, ◌&&◌}
 use Rattle.std.proofs.lemmas.Bool.{eqb-true, leb-true, lt-ltb, ne_eqb}
 use Rattle.indexmap.specs.IndexMap.{set_value_at}
 use Rattle.flow_types.specs.declared.messages.Key.{Key}
 use Rattle.worker_cache.specs.declared.held.Held.{Held}
-use Rattle.worker_cache.specs.Caches.{Rows, sum_of, bytes_in, is_pinned, pinned_in, bytes_of, all_pinned, changed_at, with_pin, less_pin, with_mark, released, dropped, most_pins, loose_bytes, freed_bytes, gone_bytes}
+use Rattle.worker_cache.specs.Caches.{Rows, bytes_in, pinned_in, bytes_of, all_pinned, changed_at, with_pin, less_pin, with_mark, released, dropped, most_pins, loose_bytes, freed_bytes, gone_bytes}
 use Rattle.worker_cache.proofs.Weights.{of_removed, of_set}
 
 -- the bytes that count where there are so many pins

@@ -1,12 +1,12 @@
 -- Where a key stands among distinct ones.
-use Rattle.std.proofs.Common.{◌≡◌, ℕ, zero, suc, ◌+◌, ◌<◌, Bool, true, false, not, cond, ltb, List, [], ◌∷◌, ◌++◌, length, Option, Some, None, ◌⊎◌, inl, inr, refl, sym, ap, subst, ◌∙◌, arith}
-use Rattle.std.specs.Prelude.{slice_get, remove, position, ◌&&◌, ◌==◌}
-use Rattle.std.specs.List.{AllByRecursion, IsDistinct, prefix_len, position_or_len}
+use Rattle.std.proofs.Common.{◌≡◌, ℕ, suc, ◌+◌, Bool, true, false, not, cond, ltb, [], ◌∷◌, length, Option, Some, None, ◌⊎◌, inl, inr, refl, sym, ap, subst, ◌∙◌, arith}
+use Rattle.std.specs.Prelude.{slice_get, remove, ◌&&◌, ◌==◌}
+use Rattle.std.specs.List.{AllByRecursion, IsDistinct, position_or_len}
 use Rattle.std.specs.Map.{keys_of}
 use Rattle.std.proofs.lemmas.Bool.{lt-ltb, le-ltb, ltb-true, ltb-false, eqb-true}
 use Rattle.flow_types.specs.declared.messages.Key.{Key}
 use Rattle.worker_cache.specs.declared.held.Held.{Held}
-use Rattle.worker_cache.specs.Caches.{Rows, same_key, place, row_at, is_pinned, pinned_in, kept_bytes, pinned_bytes, all_pinned}
+use Rattle.worker_cache.specs.Caches.{Rows, same_key, place, pinned_in, kept_bytes, pinned_bytes, all_pinned}
 
 -- no row has this key
 abbrev pub HasNone : Key → Rows → Type 0

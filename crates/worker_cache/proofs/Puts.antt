@@ -1,5 +1,5 @@
 -- What putting a content does to the counts, and where the content is found.
-use Rattle.std.proofs.Common.{◌≡◌, ℕ, zero, suc, ◌+◌, ◌-◌, ◌≤◌, ◌<◌, Bool, true, false, not, cond, eqb, ltb, List, [], ◌∷◌, ◌++◌, length, take, drop, Option, Some, None, ◌⊎◌, inl, inr, Result, Ok, Err, OnOk, OnErr, refl, sym, ap, subst, ◌∙◌, arith}
+use Rattle.std.proofs.Common.{◌≡◌, ℕ, zero, suc, ◌+◌, ◌-◌, ◌≤◌, Bool, true, false, not, cond, eqb, List, [], ◌∷◌, ◌++◌, length, drop, Option, Some, None, inl, inr, Result, Ok, Err, OnOk, OnErr, refl, sym, ap, ◌∙◌, arith}
 use Rattle.std.specs.Prelude.{slice_get, remove, insert, ◌&&◌, ◌==◌}
 use Rattle.std.specs.List.{IsDistinct}
 use Rattle.std.specs.Result.{is_err}
@@ -11,10 +11,10 @@ use Rattle.flow_types.specs.declared.messages.Key.{Key}
 use Rattle.worker_cache.specs.declared.held.Held.{Held}
 use Rattle.worker_cache.specs.declared.fault.PutRefused.TheVariants as refused
 use Rattle.worker_cache.specs.Answers.{Puts}
-use Rattle.worker_cache.specs.Caches.{Cached, Rows, same_key, place, row_at, sum_of, bytes_in, is_pinned, pinned_in, kept_bytes, pinned_bytes, bytes_of, all_pinned, is_full, new_row, renewed, renewed_at, without, row_for, placed, make_room, put_in, content_of, content_in, is_linked, if_linked, row_bytes, is_pinned_row}
+use Rattle.worker_cache.specs.Caches.{Cached, Rows, same_key, place, row_at, bytes_in, is_pinned, pinned_in, kept_bytes, pinned_bytes, bytes_of, all_pinned, is_full, new_row, renewed, renewed_at, without, row_for, placed, make_room, put_in, content_of, content_in, is_linked, if_linked, row_bytes, is_pinned_row}
 use Rattle.worker_cache.proofs.Weights.{of_joined, of_removed}
 use Rattle.worker_cache.proofs.Counts.{pinned_le, room_by, last_stays}
-use Rattle.worker_cache.proofs.Places.{HasNone, StandsAt, Stands, stands, here, there, kept_own, kept_all, next}
+use Rattle.worker_cache.proofs.Places.{HasNone, StandsAt, stands, here, there, kept_own, kept_all, next}
 
 -- ---- the row that is put
 

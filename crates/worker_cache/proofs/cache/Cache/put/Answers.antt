@@ -1,10 +1,9 @@
-use Rattle.std.proofs.Common.{◌≡◌, ◌≤◌, ◌+◌, ◌-◌, if◌then◌else◌, refl, ℕ, true, false, length, Ok, Err, List, sym, ap, subst, ◌∙◌, arith}
+use Rattle.std.proofs.Common.{◌≡◌, ◌+◌, ◌-◌, if◌then◌else◌, refl, ℕ, true, false, length, Ok, Err, List, sym, ap, subst, ◌∙◌, arith}
 use Rattle.std.proofs.lemmas.Bool.{lt-ltb, le-ltb}
-use Rattle.flow_types.specs.declared.messages.Key.{Key}
 use Rattle.worker_cache.specs.declared.fault.PutRefused.TheVariants as refused
 use Rattle.worker_cache.specs.Answers.{Puts}
-use Rattle.worker_cache.specs.Caches.{Cached, Rows, is_full, pinned_bytes, placed, put_in, bytes_of, all_pinned, content_of}
-use Rattle.worker_cache.proofs.Counts.{room_pins, room_fits}
+use Rattle.worker_cache.specs.Caches.{Cached, is_full, pinned_bytes, placed, put_in, bytes_of, all_pinned, content_of}
+use Rattle.worker_cache.proofs.Counts.{room_pins}
 use Rattle.worker_cache.proofs.Puts.{is_put, kept_is, total_is, pins_are, some_le, puts_full, puts_memory, puts_done, made_is, of_err, of_ok, found_put}
 use Rattle.worker_cache.proofs.cache.Cache.put.Goals as goal
 

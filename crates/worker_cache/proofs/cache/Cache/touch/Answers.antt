@@ -1,5 +1,4 @@
-use Rattle.std.proofs.Common.{◌≡◌, ◌≤◌, ◌-◌, ap, sym, refl, ◌∙◌, arith}
-use Rattle.std.specs.Prelude.{slice_get}
+use Rattle.std.proofs.Common.{◌-◌, ap, sym, ◌∙◌}
 use Rattle.worker_cache.specs.Caches.{bytes_in, pinned_in, bytes_of, all_pinned}
 use Rattle.worker_cache.proofs.Weights.{of_moved}
 use Rattle.worker_cache.proofs.cache.Cache.touch.Goals as goal

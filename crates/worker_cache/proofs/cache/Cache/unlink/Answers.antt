@@ -1,6 +1,6 @@
-use Rattle.std.proofs.Common.{◌≡◌, ◌≤◌, ap, sym, refl, ◌∙◌, arith}
+use Rattle.std.proofs.Common.{ap, sym, refl, ◌∙◌, arith}
 use Rattle.std.specs.Prelude.{slice_get}
-use Rattle.worker_cache.specs.Caches.{bytes_in, pinned_in, bytes_of, all_pinned}
+use Rattle.worker_cache.specs.Caches.{bytes_of, all_pinned}
 use Rattle.worker_cache.proofs.Pins.{leave_bytes, leave_pins}
 use Rattle.worker_cache.proofs.cache.Cache.unlink.Goals as goal
 
