@@ -1,5 +1,5 @@
 -- A front and the frame that it is.
-use Rattle.std.proofs.Common.{◌≡◌, ◌≤◌, ◌<◌, ◌+◌, ◌^◌, ℕ, Bool, true, false, cond, ltb, List, ◌++◌, length, take, drop, Ok, refl, sym, ap, ◌∙◌, subst, append_assoc, arith}
+use Rattle.std.proofs.Common.{◌≡◌, ◌≤◌, ◌<◌, ◌+◌, ◌^◌, ℕ, Bool, true, false, ltb, List, ◌++◌, length, take, drop, Ok, refl, sym, ap, ◌∙◌, subst, append_assoc, arith}
 use Rattle.std.proofs.lemmas.Bool.{ltb-false, le-ltb}
 use Rattle.std.proofs.lemmas.List.{take_at, drop_at, take-append-drop, length-append, length-take, length-drop}
 use Rattle.byteorder.specs.Numbers.{big_number-reads_back}
@@ -9,7 +9,7 @@ use Rattle.byte_fields.specs.Reading.{number_at}
 use Rattle.byte_fields.proofs.Fields.{u32_is_field}
 use Rattle.wq_messages.specs.Spelling.{most_body}
 use Rattle.byte_fields.proofs.Fields.{IsBytes-take, IsBytes-drop}
-use Rattle.wq_frames.specs.Frames.{Front, whole, too_long, part, front, front_by, frame}
+use Rattle.wq_frames.specs.Frames.{whole, front, front_by, frame}
 use Rattle.wq_frames.specs.Fronts.{FrontsAreFrames, FramesAreTaken}
 
 parts : (b1 b2 b3 : Bool) (n : ℕ) (behind body rest : List ℕ) → front_by b1 b2 b3 n behind ≡ whole body rest → (b1 ≡ false) × (b2 ≡ false) × (b3 ≡ false) × (take n behind ≡ body) × (drop n behind ≡ rest)

@@ -1,5 +1,5 @@
 -- Where a feeder waits.
-use Rattle.std.proofs.Common.{◌≡◌, ◌≤◌, ◌<◌, ◌+◌, ◌-◌, ℕ, Bool, true, false, cond, ltb, List, [], ◌++◌, length, take, drop, Ok, refl, sym, ap, ◌∙◌, append_assoc, ◌⊎◌, inl, inr, arith}
+use Rattle.std.proofs.Common.{◌≡◌, ◌≤◌, ◌<◌, ◌+◌, ◌-◌, ℕ, Bool, true, false, ltb, List, [], ◌++◌, length, drop, Ok, refl, sym, ap, ◌∙◌, append_assoc, ◌⊎◌, inl, inr, arith}
 use Rattle.std.proofs.lemmas.Bool.{cases_lt, ltb-true, ltb-false, lt-ltb, le-ltb}
 use Rattle.std.proofs.lemmas.List.{length-append, length-drop, append-nil, nil_from_length}
 use Rattle.byteorder.specs.Endian.{big_bytes, big_number}
@@ -9,7 +9,7 @@ use Rattle.byte_fields.specs.Reading.{number_at}
 use Rattle.byte_fields.proofs.Fields.{u32_is_field}
 use Rattle.byte_fields.proofs.Prompt.{IsBytes-append, zeros, length-zeros, IsBytes-zeros}
 use Rattle.wq_messages.specs.Spelling.{most_body}
-use Rattle.wq_frames.specs.Frames.{Front, whole, too_long, part, front, front_by}
+use Rattle.wq_frames.specs.Frames.{part, front, front_by}
 use Rattle.wq_frames.specs.Fronts.{IsBegun, HasNoLongLength, WaitsForTheRest}
 
 -- a whole head of some bytes is that of a frame whose body has that many bytes
