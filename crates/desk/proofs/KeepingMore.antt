@@ -1,11 +1,11 @@
 -- Images of a run that begins.
-use Rattle.std.proofs.Common.{◌≡◌, ◌≤◌, ◌⊎◌, ⊎_elim, inl, inr, ℕ, List, length, Option, Some, None, ap, subst, arith, length-append, [], ◌∷◌, ◌++◌}
+use Rattle.std.proofs.Common.{◌≡◌, ⊎_elim, ℕ, List, length, Option, Some, None, subst, arith, length-append, [], ◌∷◌, ◌++◌}
 use Rattle.std.specs.Prelude.{IfSome}
 use Rattle.flow_types.specs.declared.plan.Plan.{Plan}
 use Rattle.flow_types.specs.declared.records.Record.{Record}
 use Rattle.run_history.specs.declared.options.Options.{Options}
 use Rattle.outside.specs.Files.{Files}
-use Rattle.desk.specs.Begins.{Begins, KeepsOpening}
+use Rattle.desk.specs.Begins.{KeepsOpening}
 use Rattle.desk.specs.Examples.{KeepsMore}
 use Rattle.desk.specs.Kept.{Keeps, Test, WasKept}
 use Rattle.desk.specs.State.{DeskState}

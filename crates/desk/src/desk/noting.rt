@@ -37,8 +37,8 @@ impl<F: Commands, S: Site, T: Terms> Desk<F, S, T> {
         }
     }
 
-    /// Adds a record that may stand there, and whose files the site has. Where memory is wanting for
-    /// it before the log is touched, nothing has changed.
+    /// Adds a record that may stand there, and whose files the site has. Where memory is wanting
+    /// before the log is touched, nothing has changed.
     pub(super) fn record(&mut self, entry: Record) -> Result<(), CloseRefused>
         requires few { ListsFew entry }
         requires fine { IsFine self.old.trouble }

@@ -1,4 +1,4 @@
-use Rattle.std.proofs.Common.{◌≡◌, ℕ, List, Some, Result, Err, true, length, sym, subst, arith}
+use Rattle.std.proofs.Common.{◌≡◌, ℕ, List, Some, Result, Err, true, sym, subst, arith}
 use Rattle.run_history.specs.Legal.{first_illegal, is_legal}
 use Rattle.task_core.specs.States.{TableState}
 use Rattle.desk.specs.declared.answers.StartFault.{StartFault}
