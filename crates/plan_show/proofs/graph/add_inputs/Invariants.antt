@@ -1,0 +1,8 @@
+use Rattle.std.proofs.Common.{◌≡◌, ◌++◌, take, string_bytes}
+use Rattle.std.specs.List.{flat_map}
+use Rattle.plan_show.specs.Graph.{edge_line}
+use Rattle.plan_show.proofs.graph.add_inputs.Given as goal
+
+abbrev pub invariant-loop-port : goal.invariant-loop-port
+invariant-loop-port l =
+    string_bytes l.out ≡ string_bytes l.initial.out ++ flat_map (λ port. edge_line l.plan l.taker port.file.0) (take l.port-index l.port-items)

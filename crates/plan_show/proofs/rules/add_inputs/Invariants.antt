@@ -1,0 +1,7 @@
+use Rattle.std.proofs.Common.{◌≡◌, ◌++◌, take, string_bytes}
+use Rattle.std.specs.List.{flat_map}
+use Rattle.plan_show.specs.Rules.{input_line}
+use Rattle.plan_show.proofs.rules.add_inputs.Given as goal
+
+abbrev pub invariant-loop-port : goal.invariant-loop-port
+invariant-loop-port l = string_bytes l.out ≡ string_bytes l.initial.out ++ flat_map (input_line l.plan) (take l.port-index l.port-items)

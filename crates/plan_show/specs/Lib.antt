@@ -1,0 +1,5 @@
+pub mod Shown
+pub mod Rules
+pub mod Files
+pub mod Graph
+pub mod Examples
