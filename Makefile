@@ -1,12 +1,12 @@
 # make test: all checks. make demo: the example flow. make programs: the programs into bin/.
 # make install PREFIX=FOLDER: the programs into FOLDER/bin, their manual pages into
-# FOLDER/share/man/man1. The programs are those with a manual page; the other crates with a main
-# hold cases.
+# FOLDER/share/man/man1. The programs are those with a manual page: crates, and scripts in scripts/.
+# The other crates with a main hold cases.
 
 PREFIX ?= /usr/local
 PROGRAMS := $(patsubst man/%.1,%,$(wildcard man/*.1))
 BUILT := $(addprefix bin/,$(PROGRAMS))
-SOURCES := crates.txt $(shell find crates -name out -prune -o -type f -print)
+SOURCES := crates.txt $(shell find crates scripts -name out -prune -o -type f -print)
 
 .PHONY: test demo programs install
 
