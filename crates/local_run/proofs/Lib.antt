@@ -1,0 +1,11 @@
+pub mod Alone
+pub mod Going
+pub mod Closings
+pub mod Claimed
+pub mod Reading
+pub mod Tasks
+pub mod Outputs
+pub mod Results
+pub mod Started
+pub mod Fitting
+pub mod Joining

@@ -1,0 +1,63 @@
+use Rattle.std.proofs.Common.{◌≡◌, ◌⊎◌, ⊎_elim, inl, inr, List, length, sym, subst}
+use Rattle.flow_types.specs.Serial.{Contents, serial}
+use Rattle.file_store.specs.Outputs.{file_name}
+use Rattle.desk.specs.Kept.{WasKept}
+use Rattle.local_run.specs.Course.{TellsJobs}
+use Rattle.local_run.specs.Moments.{IsMoment}
+use Rattle.flow_types.specs.declared.records.Record.{Record}
+use Rattle.txn_log.specs.Spells.{Spells}
+use Rattle.local_run.specs.Runs.{BeginsWith, Held, IsCutRun, IsStanding, LosesNone, SerialFits, read_sources}
+use Rattle.local_run.proofs.Results.{causes_since, on_ok}
+use Rattle.local_run.proofs.Joining.{each_moment, goes_on_from, is_named, keeping, others_joined, reads_joined}
+use Rattle.local_run.proofs.resuming.resume.Goals as goal
+
+pub returns-in-Ok-clause-moments : goal.returns-in-Ok-clause-moments
+returns-in-Ok-clause-moments g c told H spelled resumable image left =
+    each_moment g.S.Site.may_leave g.S.Site.moment g.S.Site.images_since c.args.plan c.args.name c.in-Ok.log.name c.in-Ok.ensures.named.same_name c.in-Ok.history H (c.in-Ok.ensures.exact told H spelled) (g.S.Site.files c.args.site) c.args.site c.recover.new.site Held c.run.result.records (IsCutRun c.run.result.how) g.B.Born.born image (c.requires.later told)
+    (c.recover.ensures.any_moment told) (c.run.ensures.kept told (keeping g.S.Site.may_leave g.S.Site.moment g.S.Site.images_since c.args.plan c.args.name c.in-Ok.log.name c.in-Ok.ensures.named.same_name c.in-Ok.history H (c.in-Ok.ensures.exact told H spelled) (g.S.Site.files c.args.site) c.args.site c.recover.new.site Held c.requires.apart c.files_spell_one_list.ensures.one ((g.met.S.Site g.world.𝓛 g.world.𝓜 g.world.𝓡 ((λ s x. x), (λ x. x), (λ x. x), λ x. x)).reads_image told c.args.site c.args.name) (c.in-Ok.ensures.answer told) (c.in-Ok.ensures.stands told).at.each (c.recover.ensures.crash told) resumable) image left)
+
+pub returns-in-Ok-clause-contents : goal.returns-in-Ok-clause-contents
+returns-in-Ok-clause-contents g c told H spelled resumable tells image left =
+    let same : (read_sources c.args.plan (g.S.Site.files c.recover.new.site)) ≡ (read_sources c.args.plan (g.S.Site.files c.args.site)) = λ i f. (c.recover.ensures.others told (file_name c.args.plan f) (c.requires.apart f)) i in
+    each_moment g.S.Site.may_leave g.S.Site.moment g.S.Site.images_since c.args.plan c.args.name c.in-Ok.log.name c.in-Ok.ensures.named.same_name c.in-Ok.history H (c.in-Ok.ensures.exact told H spelled) (g.S.Site.files c.args.site) c.args.site c.recover.new.site (SerialFits g.F.Commands.gives (read_sources c.args.plan (g.S.Site.files c.args.site))) c.run.result.records (IsCutRun c.run.result.how) g.B.Born.born image (c.requires.later told)
+    (c.recover.ensures.any_moment told)
+    (subst (λ (s : Contents). g.S.Site.images_since c.recover.new.site g.B.Born.born image ⊎ WasKept (SerialFits g.F.Commands.gives s) c.args.plan c.in-Ok.log.name (length c.in-Ok.history) c.run.result.records (IsCutRun c.run.result.how) image) same
+    (c.run.ensures.serial told
+    (subst (λ (s : Contents). IsStanding g.F.Commands.gives s c.args.plan c.in-Ok.log.name c.in-Ok.history (g.S.Site.may_leave c.recover.new.site)) (sym same) (keeping g.S.Site.may_leave g.S.Site.moment g.S.Site.images_since c.args.plan c.args.name c.in-Ok.log.name c.in-Ok.ensures.named.same_name c.in-Ok.history H (c.in-Ok.ensures.exact told H spelled) (g.S.Site.files c.args.site) c.args.site c.recover.new.site (SerialFits g.F.Commands.gives (read_sources c.args.plan (g.S.Site.files c.args.site))) c.requires.apart c.files_spell_one_list.ensures.one ((g.met.S.Site g.world.𝓛 g.world.𝓜 g.world.𝓡 ((λ s x. x), (λ x. x), (λ x. x), λ x. x)).reads_image told c.args.site c.args.name) (c.in-Ok.ensures.answer told) (c.in-Ok.ensures.stands told).at.each (c.recover.ensures.crash told) resumable))
+    (subst (λ (s : Contents). TellsJobs c.args.plan (g.R.Runner.tells c.args.runner.now) (serial c.args.plan g.F.Commands.gives s)) (sym same) tells) image left))
+
+pub returns-in-Ok-clause-now : goal.returns-in-Ok-clause-now
+returns-in-Ok-clause-now g c told H spelled resumable whole image now =
+    is_named g.S.Site.may_leave g.S.Site.moment g.S.Site.images_since c.args.plan c.args.name c.in-Ok.log.name c.in-Ok.ensures.named.same_name c.in-Ok.history H (c.in-Ok.ensures.exact told H spelled) (g.S.Site.files c.args.site) c.args.site c.recover.new.site Held c.run.result.records image (c.run.ensures.now told (keeping g.S.Site.may_leave g.S.Site.moment g.S.Site.images_since c.args.plan c.args.name c.in-Ok.log.name c.in-Ok.ensures.named.same_name c.in-Ok.history H (c.in-Ok.ensures.exact told H spelled) (g.S.Site.files c.args.site) c.args.site c.recover.new.site Held c.requires.apart c.files_spell_one_list.ensures.one ((g.met.S.Site g.world.𝓛 g.world.𝓜 g.world.𝓡 ((λ s x. x), (λ x. x), (λ x. x), λ x. x)).reads_image told c.args.site c.args.name) (c.in-Ok.ensures.answer told) (c.in-Ok.ensures.stands told).at.each (c.recover.ensures.crash told) resumable) whole image now)
+
+pub returns-in-Ok-clause-resumable : goal.returns-in-Ok-clause-resumable
+returns-in-Ok-clause-resumable g c told H spelled some image left =
+    ⊎_elim (λ (was : g.S.Site.images_since c.args.site g.B.Born.born image). inl was)
+    (λ (at : IsMoment Held c.args.plan c.args.name (g.S.Site.files c.args.site) (g.S.Site.may_leave c.args.site) H c.run.result.records (IsCutRun c.run.result.how) image).
+    inr (goes_on_from Held c.args.plan c.args.name (g.S.Site.files c.args.site) (g.S.Site.may_leave c.args.site) H c.run.result.records (IsCutRun c.run.result.how) image some at))
+    (each_moment g.S.Site.may_leave g.S.Site.moment g.S.Site.images_since c.args.plan c.args.name c.in-Ok.log.name c.in-Ok.ensures.named.same_name c.in-Ok.history H (c.in-Ok.ensures.exact told H spelled) (g.S.Site.files c.args.site) c.args.site c.recover.new.site Held c.run.result.records (IsCutRun c.run.result.how) g.B.Born.born image (c.requires.later told)
+    (c.recover.ensures.any_moment told) (c.run.ensures.kept told (keeping g.S.Site.may_leave g.S.Site.moment g.S.Site.images_since c.args.plan c.args.name c.in-Ok.log.name c.in-Ok.ensures.named.same_name c.in-Ok.history H (c.in-Ok.ensures.exact told H spelled) (g.S.Site.files c.args.site) c.args.site c.recover.new.site Held c.requires.apart c.files_spell_one_list.ensures.one ((g.met.S.Site g.world.𝓛 g.world.𝓜 g.world.𝓡 ((λ s x. x), (λ x. x), (λ x. x), λ x. x)).reads_image told c.args.site c.args.name) (c.in-Ok.ensures.answer told) (c.in-Ok.ensures.stands told).at.each (c.recover.ensures.crash told) (inr some)) image left))
+
+pub returns-in-Ok-clause-causes : goal.returns-in-Ok-clause-causes
+returns-in-Ok-clause-causes g c =
+    causes_since (g.S.Site.count c.args.site) (g.S.Site.count c.recover.new.site) (g.S.Site.count c.run.result.site) (g.R.Runner.count c.args.runner.now) (g.R.Runner.count c.run.new.runner) c.run.result.how
+    c.recover.ensures.later c.run.ensures.causes
+
+pub returns-in-Ok-clause-grows : goal.returns-in-Ok-clause-grows
+returns-in-Ok-clause-grows g c told H spelled = subst (λ (G : List Record). BeginsWith G c.run.result.records) (c.in-Ok.ensures.exact told H spelled) c.run.ensures.grows
+
+pub returns-in-Ok-clause-lost : goal.returns-in-Ok-clause-lost
+returns-in-Ok-clause-lost g c =
+    on_ok c.run.result.how (LosesNone c.in-Ok.history c.run.result.records)
+    (g.S.Site.tells → (H : List Record) → Spells H (g.S.Site.files c.args.site c.args.name) → LosesNone H c.run.result.records)
+    (λ loses told H spelled. subst (λ (G : List Record). LosesNone G c.run.result.records) (c.in-Ok.ensures.exact told H spelled) loses) c.run.ensures.lost
+
+pub returns-in-Ok-clause-others : goal.returns-in-Ok-clause-others
+returns-in-Ok-clause-others g c told =
+    others_joined g.S.Site.files g.S.Site.may_leave g.S.Site.moment g.S.Site.images_since c.args.plan c.args.name c.in-Ok.log.name c.in-Ok.ensures.named.same_name c.args.site c.recover.new.site c.run.result.site
+    (c.recover.ensures.crash told) (c.recover.ensures.any_moment told) (c.run.ensures.others told)
+
+pub returns-in-Ok-clause-reads : goal.returns-in-Ok-clause-reads
+returns-in-Ok-clause-reads g c told =
+    reads_joined g.S.Site.files g.S.Site.may_leave g.S.Site.moment g.S.Site.images_since c.args.plan c.args.name c.in-Ok.log.name c.in-Ok.ensures.named.same_name c.args.site c.recover.new.site c.run.result.site c.run.result.how
+    (c.recover.ensures.others told) (c.run.ensures.reads told)

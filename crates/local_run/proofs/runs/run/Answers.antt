@@ -1,0 +1,62 @@
+use Rattle.std.proofs.Common.{length, refl}
+use Rattle.flow_types.specs.Serial.{serial}
+use Rattle.desk.specs.Kept.{Fits}
+use Rattle.local_run.specs.Course.{TellsJobs}
+use Rattle.local_run.specs.Runs.{Held, IsCutRun, IsKeeping, IsStanding, SerialFits, read_sources}
+use Rattle.local_run.proofs.Results.{closed_admitted, idle_spent}
+use Rattle.local_run.proofs.Fitting.{adds_always, keeps_fits, standing_keeps, trusted_keeps, was_fits}
+use Rattle.local_run.proofs.runs.run.Goals as goal
+
+pub run_by-requires-clause-before : goal.run_by-requires-clause-before
+run_by-requires-clause-before g c κs within told kept image was = was
+
+pub run_by-requires-clause-kept : goal.run_by-requires-clause-kept
+run_by-requires-clause-kept g c κs within told kept image is =
+    trusted_keeps (g.S.Site.tells
+    × IsKeeping c.args.plan c.args.log.name c.args.history (g.S.Site.may_leave c.args.site)
+    × IsStanding g.F.Commands.gives (read_sources c.args.plan (g.S.Site.files c.args.site)) c.args.plan c.args.log.name c.args.history (g.S.Site.may_leave c.args.site)
+    × TellsJobs c.args.plan (g.R.Runner.tells c.args.runner.now) (serial c.args.plan g.F.Commands.gives (read_sources c.args.plan (g.S.Site.files c.args.site)))) g.F.Commands.gives (read_sources c.args.plan (g.S.Site.files c.args.site)) c.args.plan c.args.log.name c.args.history (g.S.Site.may_leave c.args.site) (λ trusted. trusted.2) kept image is
+
+pub run_by-requires-clause-sources : goal.run_by-requires-clause-sources
+run_by-requires-clause-sources g c κs within told kept trusted empty f is = refl
+
+pub run_by-requires-clause-base : goal.run_by-requires-clause-base
+run_by-requires-clause-base g c κs within trusted = (trusted.0, trusted.1, trusted.3)
+
+pub returns-clause-kept : goal.returns-clause-kept
+returns-clause-kept g c told keeping image left =
+    was_fits (Fits (g.S.Site.tells
+    × IsKeeping c.args.plan c.args.log.name c.args.history (g.S.Site.may_leave c.args.site)
+    × IsStanding g.F.Commands.gives (read_sources c.args.plan (g.S.Site.files c.args.site)) c.args.plan c.args.log.name c.args.history (g.S.Site.may_leave c.args.site)
+    × TellsJobs c.args.plan (g.R.Runner.tells c.args.runner.now) (serial c.args.plan g.F.Commands.gives (read_sources c.args.plan (g.S.Site.files c.args.site)))) g.F.Commands.gives (read_sources c.args.plan (g.S.Site.files c.args.site))) Held c.args.plan c.args.log.name (λ f content file fit. fit.0) (g.S.Site.images_since c.args.site g.B.Born.born image) (length c.args.history) c.run_by.result.records (IsCutRun c.run_by.result.how) image
+    (c.run_by.ensures.kept told keeping image left)
+
+pub returns-clause-now : goal.returns-clause-now
+returns-clause-now g c told keeping whole image now =
+    keeps_fits (Fits (g.S.Site.tells
+    × IsKeeping c.args.plan c.args.log.name c.args.history (g.S.Site.may_leave c.args.site)
+    × IsStanding g.F.Commands.gives (read_sources c.args.plan (g.S.Site.files c.args.site)) c.args.plan c.args.log.name c.args.history (g.S.Site.may_leave c.args.site)
+    × TellsJobs c.args.plan (g.R.Runner.tells c.args.runner.now) (serial c.args.plan g.F.Commands.gives (read_sources c.args.plan (g.S.Site.files c.args.site)))) g.F.Commands.gives (read_sources c.args.plan (g.S.Site.files c.args.site))) Held c.args.plan c.args.log.name (λ f content file fit. fit.0) c.run_by.result.records image (c.run_by.ensures.now told keeping whole image now)
+
+pub returns-clause-serial : goal.returns-clause-serial
+returns-clause-serial g c told standing tells image left =
+    let keeping = standing_keeps g.F.Commands.gives (read_sources c.args.plan (g.S.Site.files c.args.site)) c.args.plan c.args.log.name c.args.history (g.S.Site.may_leave c.args.site) standing in
+    was_fits (Fits (g.S.Site.tells
+    × IsKeeping c.args.plan c.args.log.name c.args.history (g.S.Site.may_leave c.args.site)
+    × IsStanding g.F.Commands.gives (read_sources c.args.plan (g.S.Site.files c.args.site)) c.args.plan c.args.log.name c.args.history (g.S.Site.may_leave c.args.site)
+    × TellsJobs c.args.plan (g.R.Runner.tells c.args.runner.now) (serial c.args.plan g.F.Commands.gives (read_sources c.args.plan (g.S.Site.files c.args.site)))) g.F.Commands.gives (read_sources c.args.plan (g.S.Site.files c.args.site))) (SerialFits g.F.Commands.gives (read_sources c.args.plan (g.S.Site.files c.args.site))) c.args.plan c.args.log.name (λ f content file fit. (fit.0, fit.1 (told, keeping, standing, tells))) (g.S.Site.images_since c.args.site g.B.Born.born image)
+    (length c.args.history) c.run_by.result.records (IsCutRun c.run_by.result.how) image (c.run_by.ensures.kept told keeping image left)
+
+pub returns-clause-more : goal.returns-clause-more
+returns-clause-more g c told standing tells =
+    adds_always (g.S.Site.tells
+    × IsKeeping c.args.plan c.args.log.name c.args.history (g.S.Site.may_leave c.args.site)
+    × IsStanding g.F.Commands.gives (read_sources c.args.plan (g.S.Site.files c.args.site)) c.args.plan c.args.log.name c.args.history (g.S.Site.may_leave c.args.site)
+    × TellsJobs c.args.plan (g.R.Runner.tells c.args.runner.now) (serial c.args.plan g.F.Commands.gives (read_sources c.args.plan (g.S.Site.files c.args.site)))) g.F.Commands.gives g.F.Commands.may_fail (read_sources c.args.plan (g.S.Site.files c.args.site)) c.args.plan c.args.history c.run_by.result.records (told, standing_keeps g.F.Commands.gives (read_sources c.args.plan (g.S.Site.files c.args.site)) c.args.plan c.args.log.name c.args.history (g.S.Site.may_leave c.args.site) standing, standing, tells) c.run_by.ensures.more
+
+pub returns-clause-grows : goal.returns-clause-grows
+returns-clause-grows g c = (c.run_by.ensures.more.more, c.run_by.ensures.more.are)
+
+pub returns-clause-spent : goal.returns-clause-spent
+returns-clause-spent g c closed =
+    idle_spent c.args.plan c.run_by.result.records (c.run_by.ensures.legal (closed_admitted c.run_by.result.how closed)) (c.run_by.ensures.idle closed)

@@ -1,0 +1,120 @@
+use Rattle.std.proofs.Common.{◌≡◌, ◌≢◌, ◌∙◌, ◌≤◌, ℕ, List, length, subst, sym}
+use Rattle.std.specs.Prelude.{IfOk, None}
+use Rattle.flow_types.specs.declared.records.Record.{Record}
+use Rattle.run_history.specs.declared.options.Options.{Options}
+use Rattle.run_history.specs.Answers.{before_end, end_over}
+use Rattle.run_history.specs.Links.{records_of}
+use Rattle.desk.proofs.Others.{then_stays}
+use Rattle.flow_types.specs.declared.plan.Plan.{Plan}
+use Rattle.flow_types.specs.Plans.{IsValid}
+use Rattle.flow_types.specs.Serial.{serial}
+use Rattle.run_history.specs.Storage.{running_rules}
+use Rattle.desk.specs.Kept.{Fits, IsLegal}
+use Rattle.local_run.specs.Course.{IsUnmade, LeavesAlone, TellsJobs}
+use Rattle.local_run.specs.Runs.{HasCauses, IsCutRun, LosesNone}
+use Rattle.local_run.proofs.Alone.{beside_less}
+use Rattle.local_run.proofs.Results.{closed_whole, on_ok}
+use Rattle.local_run.proofs.Started.{adds_more, adds_nothing, begun, begun_kept, begun_loses, begun_now, refused_causes, refused_kept, refused_legal, refused_now}
+use Rattle.local_run.proofs.runs.run_by.Goals as goal
+
+pub run_desk-requires-clause-valid : goal.run_desk-requires-clause-valid
+run_desk-requires-clause-valid g c κs within = subst IsValid (sym (begun g.S.Site.count c.args.plan c.args.options c.args.log.name c.args.history c.now.result g.S.Site.tells (g.S.Site.files c.args.site) c.args.site g.F.Commands.may_fail (serial c.args.plan g.F.Commands.gives g.T.Terms.sources) c.in-Ok.desk c.in-Ok.ensures.reply).plan) c.requires.valid
+
+pub run_desk-requires-clause-fine : goal.run_desk-requires-clause-fine
+run_desk-requires-clause-fine g c κs within = (begun g.S.Site.count c.args.plan c.args.options c.args.log.name c.args.history c.now.result g.S.Site.tells (g.S.Site.files c.args.site) c.args.site g.F.Commands.may_fail (serial c.args.plan g.F.Commands.gives g.T.Terms.sources) c.in-Ok.desk c.in-Ok.ensures.reply).fine
+
+pub run_desk-requires-clause-idle : goal.run_desk-requires-clause-idle
+run_desk-requires-clause-idle g c κs within = (begun g.S.Site.count c.args.plan c.args.options c.args.log.name c.args.history c.now.result g.S.Site.tells (g.S.Site.files c.args.site) c.args.site g.F.Commands.may_fail (serial c.args.plan g.F.Commands.gives g.T.Terms.sources) c.in-Ok.desk c.in-Ok.ensures.reply).idle
+
+pub run_desk-requires-clause-base : goal.run_desk-requires-clause-base
+run_desk-requires-clause-base g c κs within trusted =
+    let base = c.requires.base trusted in
+    (base.0, base.1, subst (λ (P : Plan). TellsJobs P (g.R.Runner.tells c.args.runner.now) (serial P g.F.Commands.gives g.T.Terms.sources)) (sym (begun g.S.Site.count c.args.plan c.args.options c.args.log.name c.args.history c.now.result g.S.Site.tells (g.S.Site.files c.args.site) c.args.site g.F.Commands.may_fail (serial c.args.plan g.F.Commands.gives g.T.Terms.sources) c.in-Ok.desk c.in-Ok.ensures.reply).plan) base.2)
+
+pub returns-in-Ok-clause-more : goal.returns-in-Ok-clause-more
+returns-in-Ok-clause-more g c = adds_more (g.S.Site.count c.args.site) g.T.Terms.trust g.F.Commands.gives g.F.Commands.may_fail g.T.Terms.sources c.args.plan c.args.options c.args.log.name c.args.history c.run_desk.result.records c.in-Ok.desk (begun g.S.Site.count c.args.plan c.args.options c.args.log.name c.args.history c.now.result g.S.Site.tells (g.S.Site.files c.args.site) c.args.site g.F.Commands.may_fail (serial c.args.plan g.F.Commands.gives g.T.Terms.sources) c.in-Ok.desk c.in-Ok.ensures.reply) c.run_desk.ensures.more
+
+pub returns-in-Ok-clause-kept : goal.returns-in-Ok-clause-kept
+returns-in-Ok-clause-kept g c told kept image left =
+    begun_kept (Fits g.T.Terms.trust g.F.Commands.gives g.T.Terms.sources) c.args.plan c.args.options c.args.log.name c.args.history c.run_desk.result.records (g.S.Site.count c.args.site) g.F.Commands.may_fail (serial c.args.plan g.F.Commands.gives g.T.Terms.sources) (g.T.Terms.before image) (IsCutRun c.run_desk.result.how) c.in-Ok.desk image (begun g.S.Site.count c.args.plan c.args.options c.args.log.name c.args.history c.now.result g.S.Site.tells (g.S.Site.files c.args.site) c.args.site g.F.Commands.may_fail (serial c.args.plan g.F.Commands.gives g.T.Terms.sources) c.in-Ok.desk c.in-Ok.ensures.reply)
+    (c.run_desk.ensures.kept told kept image left)
+
+pub returns-in-Ok-clause-now : goal.returns-in-Ok-clause-now
+returns-in-Ok-clause-now g c told kept whole image now =
+    begun_now (Fits g.T.Terms.trust g.F.Commands.gives g.T.Terms.sources) c.args.plan c.args.options c.args.log.name c.args.history c.run_desk.result.records (g.S.Site.count c.args.site) g.F.Commands.may_fail (serial c.args.plan g.F.Commands.gives g.T.Terms.sources) c.in-Ok.desk image (begun g.S.Site.count c.args.plan c.args.options c.args.log.name c.args.history c.now.result g.S.Site.tells (g.S.Site.files c.args.site) c.args.site g.F.Commands.may_fail (serial c.args.plan g.F.Commands.gives g.T.Terms.sources) c.in-Ok.desk c.in-Ok.ensures.reply)
+    (c.run_desk.ensures.now told kept whole image now)
+
+pub returns-in-Err-clause-more : goal.returns-in-Err-clause-more
+returns-in-Err-clause-more g c = adds_nothing g.T.Terms.trust g.F.Commands.gives g.F.Commands.may_fail g.T.Terms.sources c.args.plan c.args.history c.in-Err.refused.history c.in-Err.ensures.reply.0
+
+pub returns-in-Err-clause-kept : goal.returns-in-Err-clause-kept
+returns-in-Err-clause-kept g c told kept image left =
+    refused_kept g.S.Site.may_leave g.S.Site.moment g.S.Site.images_since (Fits g.T.Terms.trust g.F.Commands.gives g.T.Terms.sources) c.args.plan c.args.log.name c.args.history c.in-Err.refused.history c.args.site c.in-Err.refused.site c.in-Err.refused.why
+    c.args.options c.now.result g.S.Site.tells (g.S.Site.files c.args.site) g.T.Terms.before g.T.Terms.born image c.in-Err.ensures.reply.0 (c.requires.later told kept)
+    (c.requires.before told kept) (c.requires.kept told kept) (c.in-Err.ensures.any_moment told kept) (c.in-Err.ensures.quiet told) left
+
+pub returns-in-Err-clause-now : goal.returns-in-Err-clause-now
+returns-in-Err-clause-now g c told kept whole image now =
+    refused_now g.S.Site.may_leave g.S.Site.moment g.S.Site.images_since (Fits g.T.Terms.trust g.F.Commands.gives g.T.Terms.sources) c.args.plan c.args.log.name c.args.history c.in-Err.refused.history c.args.site c.in-Err.refused.site c.in-Err.refused.why
+    image c.in-Err.ensures.reply.0 (c.requires.kept told kept) (c.in-Err.ensures.quiet told) whole now
+
+pub returns-in-Ok-clause-legal : goal.returns-in-Ok-clause-legal
+returns-in-Ok-clause-legal g c admitted = subst (λ (P : Plan). IsLegal P c.run_desk.result.records) (begun g.S.Site.count c.args.plan c.args.options c.args.log.name c.args.history c.now.result g.S.Site.tells (g.S.Site.files c.args.site) c.args.site g.F.Commands.may_fail (serial c.args.plan g.F.Commands.gives g.T.Terms.sources) c.in-Ok.desk c.in-Ok.ensures.reply).plan c.run_desk.ensures.legal
+
+pub returns-in-Ok-clause-idle : goal.returns-in-Ok-clause-idle
+returns-in-Ok-clause-idle g c closed =
+    subst (λ (P : Plan). length (running_rules P c.run_desk.result.records) ≤ 0) (begun g.S.Site.count c.args.plan c.args.options c.args.log.name c.args.history c.now.result g.S.Site.tells (g.S.Site.files c.args.site) c.args.site g.F.Commands.may_fail (serial c.args.plan g.F.Commands.gives g.T.Terms.sources) c.in-Ok.desk c.in-Ok.ensures.reply).plan (c.run_desk.ensures.idle (closed_whole c.run_desk.result.how closed))
+
+pub returns-in-Ok-clause-lost : goal.returns-in-Ok-clause-lost
+returns-in-Ok-clause-lost g c =
+    on_ok c.run_desk.result.how (LosesNone (records_of c.in-Ok.desk.moves) c.run_desk.result.records) (LosesNone c.args.history c.run_desk.result.records)
+    (begun_loses (g.S.Site.count c.args.site) c.args.plan c.args.options c.args.log.name c.args.history c.run_desk.result.records g.F.Commands.may_fail (serial c.args.plan g.F.Commands.gives g.T.Terms.sources) c.in-Ok.desk
+    (begun g.S.Site.count c.args.plan c.args.options c.args.log.name c.args.history c.now.result g.S.Site.tells (g.S.Site.files c.args.site) c.args.site g.F.Commands.may_fail (serial c.args.plan g.F.Commands.gives g.T.Terms.sources) c.in-Ok.desk c.in-Ok.ensures.reply))
+    c.run_desk.ensures.lost
+
+pub returns-in-Ok-clause-ends : goal.returns-in-Ok-clause-ends
+returns-in-Ok-clause-ends g c =
+    subst (λ (P : Plan). IfOk c.run_desk.result.how (λ check. check ≡ end_over P c.args.options (before_end c.run_desk.result.records) None)) (begun g.S.Site.count c.args.plan c.args.options c.args.log.name c.args.history c.now.result g.S.Site.tells (g.S.Site.files c.args.site) c.args.site g.F.Commands.may_fail (serial c.args.plan g.F.Commands.gives g.T.Terms.sources) c.in-Ok.desk c.in-Ok.ensures.reply).plan
+    (subst (λ (O : Options). IfOk c.run_desk.result.how (λ check. check ≡ end_over c.in-Ok.desk.plan O (before_end c.run_desk.result.records) None)) (begun g.S.Site.count c.args.plan c.args.options c.args.log.name c.args.history c.now.result g.S.Site.tells (g.S.Site.files c.args.site) c.args.site g.F.Commands.may_fail (serial c.args.plan g.F.Commands.gives g.T.Terms.sources) c.in-Ok.desk c.in-Ok.ensures.reply).options c.run_desk.ensures.ends)
+
+pub returns-in-Ok-clause-others : goal.returns-in-Ok-clause-others
+returns-in-Ok-clause-others g c told =
+    let ran : LeavesAlone g.S.Site.files g.S.Site.may_leave g.S.Site.moment g.S.Site.images_since (IsUnmade c.args.plan c.args.log.name) c.in-Ok.desk.site c.run_desk.result.site =
+    subst (λ (P : Plan). LeavesAlone g.S.Site.files g.S.Site.may_leave g.S.Site.moment g.S.Site.images_since (IsUnmade P c.args.log.name) c.in-Ok.desk.site c.run_desk.result.site) (begun g.S.Site.count c.args.plan c.args.options c.args.log.name c.args.history c.now.result g.S.Site.tells (g.S.Site.files c.args.site) c.args.site g.F.Commands.may_fail (serial c.args.plan g.F.Commands.gives g.T.Terms.sources) c.in-Ok.desk c.in-Ok.ensures.reply).plan
+    (subst (λ (n : List ℕ). LeavesAlone g.S.Site.files g.S.Site.may_leave g.S.Site.moment g.S.Site.images_since (IsUnmade c.in-Ok.desk.plan n) c.in-Ok.desk.site c.run_desk.result.site) (begun g.S.Site.count c.args.plan c.args.options c.args.log.name c.args.history c.now.result g.S.Site.tells (g.S.Site.files c.args.site) c.args.site g.F.Commands.may_fail (serial c.args.plan g.F.Commands.gives g.T.Terms.sources) c.in-Ok.desk c.in-Ok.ensures.reply).log_is (c.run_desk.ensures.others told)) in
+    then_stays g.S.Site.may_leave g.S.Site.moment g.S.Site.images_since (IsUnmade c.args.plan c.args.log.name) c.args.site c.in-Ok.desk.site c.run_desk.result.site
+    (beside_less g.S.Site.files g.S.Site.may_leave g.S.Site.moment g.S.Site.images_since (λ m. m ≢ c.args.log.name) (IsUnmade c.args.plan c.args.log.name) c.args.site c.in-Ok.desk.site (λ m other. other.0) (c.in-Ok.ensures.others told)) ran.crash
+
+pub returns-in-Ok-clause-reads : goal.returns-in-Ok-clause-reads
+returns-in-Ok-clause-reads g c told m spared =
+    let ran : LeavesAlone g.S.Site.files g.S.Site.may_leave g.S.Site.moment g.S.Site.images_since (IsUnmade c.args.plan c.args.log.name) c.in-Ok.desk.site c.run_desk.result.site =
+    subst (λ (P : Plan). LeavesAlone g.S.Site.files g.S.Site.may_leave g.S.Site.moment g.S.Site.images_since (IsUnmade P c.args.log.name) c.in-Ok.desk.site c.run_desk.result.site) (begun g.S.Site.count c.args.plan c.args.options c.args.log.name c.args.history c.now.result g.S.Site.tells (g.S.Site.files c.args.site) c.args.site g.F.Commands.may_fail (serial c.args.plan g.F.Commands.gives g.T.Terms.sources) c.in-Ok.desk c.in-Ok.ensures.reply).plan
+    (subst (λ (n : List ℕ). LeavesAlone g.S.Site.files g.S.Site.may_leave g.S.Site.moment g.S.Site.images_since (IsUnmade c.in-Ok.desk.plan n) c.in-Ok.desk.site c.run_desk.result.site) (begun g.S.Site.count c.args.plan c.args.options c.args.log.name c.args.history c.now.result g.S.Site.tells (g.S.Site.files c.args.site) c.args.site g.F.Commands.may_fail (serial c.args.plan g.F.Commands.gives g.T.Terms.sources) c.in-Ok.desk c.in-Ok.ensures.reply).log_is (c.run_desk.ensures.others told)) in
+    ran.reads m spared.0 ∙ c.in-Ok.ensures.reads told m (spared.0.0, λ cut. absurd cut)
+
+pub returns-in-Err-clause-legal : goal.returns-in-Err-clause-legal
+returns-in-Err-clause-legal g c admitted =
+    subst (λ (G : List Record). IsLegal c.args.plan G) (sym c.in-Err.ensures.reply.0)
+    (refused_legal g.S.Site.count c.args.plan c.args.options c.args.history g.S.Site.tells (g.S.Site.files c.args.site) c.args.site c.in-Err.refused.site c.in-Err.refused.why c.in-Err.ensures.reply.1 admitted)
+
+pub returns-in-Err-clause-idle : goal.returns-in-Err-clause-idle
+returns-in-Err-clause-idle g c closed = absurd closed
+
+pub returns-in-Err-clause-others : goal.returns-in-Err-clause-others
+returns-in-Err-clause-others g c told =
+    beside_less g.S.Site.files g.S.Site.may_leave g.S.Site.moment g.S.Site.images_since (λ m. m ≢ c.args.log.name) (IsUnmade c.args.plan c.args.log.name) c.args.site c.in-Err.refused.site (λ m other. other.0) (c.in-Err.ensures.others told)
+
+pub returns-in-Err-clause-reads : goal.returns-in-Err-clause-reads
+returns-in-Err-clause-reads g c told m spared = c.in-Err.ensures.reads told m (spared.0.0, spared.1)
+
+pub returns-in-Ok-clause-causes : goal.returns-in-Ok-clause-causes
+returns-in-Ok-clause-causes g c =
+    subst (λ (n : ℕ). HasCauses n (g.S.Site.count c.run_desk.result.site) (g.R.Runner.count c.args.runner.now) (g.R.Runner.count c.run_desk.new.runner) c.run_desk.result.how) (begun g.S.Site.count c.args.plan c.args.options c.args.log.name c.args.history c.now.result g.S.Site.tells (g.S.Site.files c.args.site) c.args.site g.F.Commands.may_fail (serial c.args.plan g.F.Commands.gives g.T.Terms.sources) c.in-Ok.desk c.in-Ok.ensures.reply).faults c.run_desk.ensures.causes
+
+pub returns-in-Err-clause-causes : goal.returns-in-Err-clause-causes
+returns-in-Err-clause-causes g c =
+    refused_causes g.S.Site.count c.args.plan c.args.options c.args.history g.S.Site.tells (g.S.Site.files c.args.site) c.args.site c.in-Err.refused.site (g.R.Runner.count c.args.runner.now) (g.R.Runner.count c.args.runner.now)
+    c.in-Err.refused.why c.in-Err.ensures.reply.1
+
+pub run_desk-requires-clause-unset : goal.run_desk-requires-clause-unset
+run_desk-requires-clause-unset g c κs within = (begun g.S.Site.count c.args.plan c.args.options c.args.log.name c.args.history c.now.result g.S.Site.tells (g.S.Site.files c.args.site) c.args.site g.F.Commands.may_fail (serial c.args.plan g.F.Commands.gives g.T.Terms.sources) c.in-Ok.desk c.in-Ok.ensures.reply).unset

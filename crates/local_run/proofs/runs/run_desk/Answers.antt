@@ -1,0 +1,62 @@
+use Rattle.std.proofs.Common.{◌≡◌, ◌≤◌, ℕ, List, subst, sym}
+use Rattle.run_history.specs.declared.answers.Check.{Check}
+use Rattle.std.specs.Prelude.{◌⊎◌, IfOk, None, OnOk, Result, length}
+use Rattle.flow_types.specs.declared.records.Record.{Record}
+use Rattle.run_history.specs.Answers.{before_end, end_over}
+use Rattle.run_history.specs.Links.{records_of}
+use Rattle.outside.specs.Disk.{IsImage}
+use Rattle.flow_types.specs.declared.plan.Plan.{Plan}
+use Rattle.run_history.specs.Storage.{running_rules}
+use Rattle.desk.specs.Kept.{Fits, IsLegal, WasKept}
+use Rattle.local_run.specs.declared.ended.Stopped.{Stopped}
+use Rattle.local_run.specs.Course.{IsUnmade, LeavesAlone}
+use Rattle.local_run.specs.Runs.{HasCauses, IsCutRun, LosesNone, ended_by}
+use Rattle.local_run.proofs.Results.{adds_records, causes_run, ends_run, fine_run, is_kept, loses_none, was_kept}
+use Rattle.local_run.proofs.runs.run_desk.Goals as goal
+
+pub returns-clause-more : goal.returns-clause-more
+returns-clause-more g c = adds_records g.T.Terms.trust g.F.Commands.gives g.F.Commands.may_fail g.T.Terms.sources g.S.Site.tells g.S.Site.files g.S.Site.may_leave g.S.Site.moment g.S.Site.images_since c.args.desk c.work.new.desk c.into_parts-site.result.1 c.into_parts-site.ensures.records c.work.ensures.goes
+
+pub returns-clause-kept : goal.returns-clause-kept
+returns-clause-kept g c told kept image left =
+    subst (λ (how : Result Check Stopped). g.T.Terms.before image ⊎ WasKept (Fits g.T.Terms.trust g.F.Commands.gives g.T.Terms.sources) c.args.desk.plan c.args.desk.log c.args.desk.base c.into_parts-site.result.1 (IsCutRun how) image) (sym c.ended_by-how.ensures)
+    (was_kept (Fits g.T.Terms.trust g.F.Commands.gives g.T.Terms.sources) c.args.desk c.work.new.desk c.into_parts-site.result.1 g.T.Terms.trust g.F.Commands.gives g.F.Commands.may_fail g.T.Terms.sources g.S.Site.tells g.S.Site.files g.S.Site.may_leave g.S.Site.moment g.S.Site.images_since (g.T.Terms.before image) (g.R.Runner.count c.args.runner.now) (g.R.Runner.count c.work.new.runner) c.work.result image
+    c.into_parts-site.ensures.records c.work.ensures.goes c.work.ensures.halts c.work.ensures.closed
+    (c.works-works.ensures.kept told kept image (subst (λ (s : g.row.S.Denot). g.S.Site.images_since s g.T.Terms.born image) c.into_parts-site.ensures.site left)))
+
+pub returns-clause-now : goal.returns-clause-now
+returns-clause-now g c told kept whole image now =
+    is_kept (Fits g.T.Terms.trust g.F.Commands.gives g.T.Terms.sources) c.args.desk c.work.new.desk c.into_parts-site.result.1 g.T.Terms.trust g.F.Commands.gives g.F.Commands.may_fail g.T.Terms.sources g.S.Site.tells g.S.Site.files g.S.Site.may_leave g.S.Site.moment g.S.Site.images_since image c.into_parts-site.ensures.records c.work.ensures.goes
+    (c.works-works.ensures.now told kept
+    (fine_run c.args.desk c.work.new.desk (g.R.Runner.count c.args.runner.now) (g.R.Runner.count c.work.new.runner) c.work.result c.work.ensures.halts c.work.ensures.closed (subst (λ (how : Result Check Stopped). IsCutRun how → ⊥) c.ended_by-how.ensures whole))
+    image (subst (λ (s : g.row.S.Denot). IsImage (g.S.Site.may_leave s) image) c.into_parts-site.ensures.site now))
+
+pub returns-clause-legal : goal.returns-clause-legal
+returns-clause-legal g c = subst (λ (P : Plan). IsLegal P c.into_parts-site.result.1) c.work.ensures.goes.plan (subst (IsLegal c.work.new.desk.plan) (sym c.into_parts-site.ensures.records) c.into_parts-site.ensures.legal)
+
+pub returns-clause-idle : goal.returns-clause-idle
+returns-clause-idle g c whole =
+    subst (λ (P : Plan). length (running_rules P c.into_parts-site.result.1) ≤ 0) c.work.ensures.goes.plan
+    (subst (λ (G : List Record). length (running_rules c.work.new.desk.plan G) ≤ 0) (sym c.into_parts-site.ensures.records)
+    (c.work.ensures.idle (fine_run c.args.desk c.work.new.desk (g.R.Runner.count c.args.runner.now) (g.R.Runner.count c.work.new.runner) c.work.result c.work.ensures.halts c.work.ensures.closed (subst (λ (how : Result Check Stopped). IsCutRun how → ⊥) c.ended_by-how.ensures whole))))
+
+pub returns-clause-causes : goal.returns-clause-causes
+returns-clause-causes g c =
+    subst (λ (how : Result Check Stopped). HasCauses c.args.desk.faults (g.S.Site.count c.into_parts-site.result.0) (g.R.Runner.count c.args.runner.now) (g.R.Runner.count c.work.new.runner) how) (sym c.ended_by-how.ensures)
+    (subst (λ (s : g.row.S.Denot). HasCauses c.args.desk.faults (g.S.Site.count s) (g.R.Runner.count c.args.runner.now) (g.R.Runner.count c.work.new.runner) (ended_by c.work.result)) (sym c.into_parts-site.ensures.site)
+    (subst (λ (n : ℕ). HasCauses n (g.S.Site.count c.work.new.desk.site) (g.R.Runner.count c.args.runner.now) (g.R.Runner.count c.work.new.runner) (ended_by c.work.result)) c.work.ensures.goes.faults
+    (causes_run c.work.new.desk.faults (g.S.Site.count c.work.new.desk.site) (g.R.Runner.count c.args.runner.now) (g.R.Runner.count c.work.new.runner) c.work.new.desk.trouble c.work.result c.work.ensures.halts c.works-works.ensures.counts)))
+
+pub returns-clause-lost : goal.returns-clause-lost
+returns-clause-lost g c =
+    subst (λ (how : Result Check Stopped). OnOk how (LosesNone (records_of c.args.desk.moves) c.into_parts-site.result.1)) (sym c.ended_by-how.ensures)
+    (loses_none g.T.Terms.trust g.F.Commands.gives g.F.Commands.may_fail g.T.Terms.sources g.S.Site.tells g.S.Site.files g.S.Site.may_leave g.S.Site.moment g.S.Site.images_since c.args.desk c.work.new.desk c.into_parts-site.result.1 c.work.result c.requires.unset c.into_parts-site.ensures.records c.work.ensures.goes c.work.ensures.closed)
+
+pub returns-clause-ends : goal.returns-clause-ends
+returns-clause-ends g c =
+    subst (λ (how : Result Check Stopped). IfOk how (λ check. check ≡ end_over c.args.desk.plan c.args.desk.options (before_end c.into_parts-site.result.1) None)) (sym c.ended_by-how.ensures)
+    (ends_run g.T.Terms.trust g.F.Commands.gives g.F.Commands.may_fail g.T.Terms.sources g.S.Site.tells g.S.Site.files g.S.Site.may_leave g.S.Site.moment g.S.Site.images_since c.args.desk c.work.new.desk c.into_parts-site.result.1 c.work.result c.requires.unset c.into_parts-site.ensures.records c.work.ensures.goes c.work.ensures.closed c.work.ensures.ends)
+
+pub returns-clause-others : goal.returns-clause-others
+returns-clause-others g c told =
+    subst (λ (s : g.row.S.Denot). LeavesAlone g.S.Site.files g.S.Site.may_leave g.S.Site.moment g.S.Site.images_since (IsUnmade c.args.desk.plan c.args.desk.log) c.args.desk.site s) (sym c.into_parts-site.ensures.site) (c.work.ensures.goes.others told)

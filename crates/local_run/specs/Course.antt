@@ -1,0 +1,96 @@
+-- What a run adds to a desk.
+use Rattle.std.specs.Prelude.{◌≡◌, ◌≢◌, ◌<◌, ◌⊎◌, ℕ, true, false, List, ◌++◌, Some, None, Result, Ok, Err, All, map, slice_get, is_some}
+use Rattle.std.specs.List.{list_any}
+use Rattle.flow_types.specs.declared.plan.Plan.{Plan}
+use Rattle.flow_types.specs.declared.plan.Rule.{Rule}
+use Rattle.flow_types.specs.declared.job.Job.{Job}
+use Rattle.flow_types.specs.declared.job.Failure.{Failure}
+use Rattle.flow_types.specs.declared.records.Record.{Record}
+use Rattle.flow_types.specs.declared.records.Record.TheVariants as records
+use Rattle.flow_types.specs.Plans.{maker_of}
+use Rattle.flow_types.specs.Serial.{Contents, Function, job_of, serial}
+use Rattle.run_history.specs.declared.answers.Nothing.{Nothing}
+use Rattle.run_history.specs.Answers.{claim_of}
+use Rattle.run_history.specs.declared.moves.Move.TheVariants as moves
+use Rattle.desk.specs.declared.answers.Trouble.{Trouble}
+use Rattle.desk.specs.declared.answers.Trouble.TheVariants as trouble
+use Rattle.outside.specs.Disk.{Outcomes}
+use Rattle.outside.specs.Files.{Files}
+use Rattle.file_store.specs.Outputs.{file_name}
+use Rattle.desk.specs.Kept.{ReadsStay, StaysBeside}
+use Rattle.desk.specs.State.{DeskState, IsFine}
+use Rattle.local_run.specs.Losses.{is_lost}
+use Rattle.local_run.specs.declared.halt.Halt.{Halt}
+use Rattle.local_run.specs.declared.halt.Halt.TheVariants as halts
+
+-- A record of a failure has one that the rule's job may fail with, over these contents.
+abbrev pub FailsHonestly : Plan → (Job → Failure → Type 0) → Contents → Record → Type 0
+FailsHonestly P may_fail contents (records.Failed moment rule attempt why) = (row : Rule) → slice_get P.rules rule.0 ≡ Some row → may_fail (job_of P row contents) why
+FailsHonestly P may_fail contents _ = Unit {0}
+
+-- The job of each rule over these contents ends as the commands say.
+abbrev pub TellsJobs : Plan → (Job → Type 0) → Contents → Type 0
+TellsJobs P tells contents = (r : ℕ) (row : Rule) → slice_get P.rules r ≡ Some row → tells (job_of P row contents)
+
+-- The name is neither the log's nor that of a file that a rule makes.
+abbrev pub IsUnmade : Plan → List ℕ → List ℕ → Type 0
+IsUnmade P log m = (m ≢ log) × ((f : ℕ) → is_some (maker_of P f) ≡ true → m ≢ file_name P f)
+
+-- Under each of these names a crash leaves, at any moment and behind it, only what it might have left before, and a read gives what it gave.
+pub record LeavesAlone {S : Type 0} (files : S → Files) (may_leave : S → Outcomes) (moment : S → ℕ) (images_since : S → ℕ → Files → Type 0) (beside : List ℕ → Type 0) (old new : S) : Type 0 where
+  pub crash : StaysBeside may_leave moment images_since beside old new
+  pub reads : ReadsStay files beside old new
+
+-- The desk is that of the same start, and these records were added. Where there is trust each failure among them is one that the rule's job over the serial run's contents may fail with. Where no stop is set none was set before, and no attempt was given up. Files that no rule makes stay.
+pub record GoesOn {S : Type 0} (trust : Type 0) (gives : Function) (may_fail : Job → Failure → Type 0) (sources : Contents) (tells : Type 0) (files : S → Files) (may_leave : S → Outcomes) (moment : S → ℕ)
+    (images_since : S → ℕ → Files → Type 0) (d after : DeskState S) : Type 0 where
+  pub more : List Record
+  pub moves : after.moves ≡ d.moves ++ map moves.Logged more
+  pub plan : after.plan ≡ d.plan
+  pub options : after.options ≡ d.options
+  pub log : after.log ≡ d.log
+  pub base : after.base ≡ d.base
+  pub faults : after.faults ≡ d.faults
+  pub honest : trust → All (FailsHonestly d.plan may_fail (serial d.plan gives sources)) more
+  pub stops : after.stop ≡ None → d.stop ≡ None
+  pub lost : after.stop ≡ None → list_any is_lost more ≡ false
+  pub others : tells → LeavesAlone files may_leave moment images_since (IsUnmade d.plan d.log) d.site after.site
+
+-- its site failed
+abbrev pub IsBroken : Trouble → Type 0
+IsBroken trouble.Fine = ⊥
+IsBroken (trouble.Broken before after) = Unit {0}
+IsBroken trouble.Wants = ⊥
+
+-- Why a run stopped, by what the desk and the count of its runner's faults are then.
+abbrev pub IsHalt : Trouble → ℕ → ℕ → Halt → Type 0
+IsHalt after before now (halts.Damaged file logged found) = IsFine after
+IsHalt after before now halts.Runner = IsFine after × (before < now)
+IsHalt after before now halts.Site = IsBroken after
+IsHalt after before now halts.Memory = Unit {0}
+
+-- An attempt is given up for this cause, or the site fails or memory is wanting in that.
+abbrev pub GivesUp : Halt → Trouble → Trouble → Halt → Type 0
+GivesUp why before after result = ((result ≡ why) × IsFine before × IsFine after) ⊎ ((result ≡ halts.Site) × IsBroken after) ⊎ (result ≡ halts.Memory)
+
+-- The desk works on and no stop was set, or the run stopped; it stopped on a desk that doesn't work only where the site failed or memory was wanting.
+abbrev pub Closed : {S A : Type 0} → DeskState S → DeskState S → Result A Halt → Type 0
+Closed d after (Ok done) = IsFine after.trouble × (after.stop ≡ d.stop)
+Closed d after (Err halt) = Unit {0}
+
+-- Why a run stopped, where it did.
+abbrev pub HaltsBy : {A : Type 0} → Trouble → ℕ → ℕ → Result A Halt → Type 0
+HaltsBy after before now (Ok done) = Unit {0}
+HaltsBy after before now (Err halt) = IsHalt after before now halt
+
+-- The same of a call that neither reads an input nor runs a command.
+abbrev pub FailsBy : {A : Type 0} → Trouble → Result A Halt → Type 0
+FailsBy after (Ok done) = Unit {0}
+FailsBy after (Err (halts.Damaged file logged found)) = ⊥
+FailsBy after (Err halts.Runner) = ⊥
+FailsBy after (Err halts.Site) = IsBroken after
+FailsBy after (Err halts.Memory) = Unit {0}
+
+-- A claim for the local place gives no rule.
+abbrev pub HasNothing : {S : Type 0} → DeskState S → Type 0
+HasNothing d = (why : Nothing) × (claim_of d.plan d.options d.moves d.stop 0 ≡ Err why)

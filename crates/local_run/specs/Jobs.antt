@@ -1,0 +1,28 @@
+-- Jobs over a desk.
+use Rattle.std.specs.Prelude.{◌≡◌, [], unwrap_or, Result, Ok, Err}
+use Rattle.flow_types.specs.declared.plan.Port.{Port}
+use Rattle.flow_types.specs.declared.job.Given.{Given}
+use Rattle.flow_types.specs.Serial.{Contents}
+use Rattle.desk.specs.declared.answers.Trouble.TheVariants as trouble
+use Rattle.desk.specs.declared.answers.InputRefused.{InputRefused}
+use Rattle.desk.specs.declared.answers.InputRefused.TheVariants as refused
+use Rattle.desk.specs.State.{DeskState}
+use Rattle.local_run.specs.declared.halt.Halt.{Halt}
+use Rattle.local_run.specs.declared.halt.Halt.TheVariants as halts
+
+-- what is given at a port, over these contents
+abbrev pub given_at : Contents → Port → Given
+given_at contents port = record { remote = port.remote; content = unwrap_or (contents port.file.0) [] }
+
+-- The reading of files leaves the desk as it was, but where its site failed or memory was wanting.
+abbrev pub ReadsOver : {S A : Type 0} → DeskState S → Result A InputRefused → DeskState S → Type 0
+ReadsOver d (Ok inputs) after = after ≡ record d { site = after.site }
+ReadsOver d (Err (refused.Damaged file logged found)) after = after ≡ record d { site = after.site }
+ReadsOver d (Err (refused.Broken before now)) after = after ≡ record d { trouble = trouble.Broken before now; site = after.site }
+ReadsOver d (Err refused.Memory) after = after ≡ record d { trouble = after.trouble; site = after.site }
+
+-- why a run stops whose input isn't read
+abbrev pub halt_by : InputRefused → Halt
+halt_by (refused.Damaged file logged found) = halts.Damaged file logged found
+halt_by (refused.Broken before now) = halts.Site
+halt_by refused.Memory = halts.Memory

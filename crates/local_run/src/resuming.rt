@@ -1,0 +1,99 @@
+//! A run that goes on where the log ends.
+ghost use Rattle.std.specs.Prelude.{◌≡◌, ◌≢◌, ◌≤◌, ◌⊎◌, ℕ, List, IfOk, OnOk, None};
+ghost use Rattle.flow_types.specs.declared.records.Record.{Record as RecordValue};
+ghost use Rattle.flow_types.specs.Plans.{IsValid};
+ghost use Rattle.flow_types.specs.Serial.{serial};
+ghost use Rattle.run_history.specs.declared.options.Mode.TheVariants.{Never};
+ghost use Rattle.run_history.specs.Answers.{before_end, end_over};
+ghost use Rattle.run_history.specs.History.{since_opening};
+ghost use Rattle.run_history.specs.Spent.{SpentOnce};
+ghost use Rattle.outside.specs.Disk.{IsImage};
+ghost use Rattle.outside.specs.Files.{Files};
+ghost use Rattle.txn_log.specs.Spells.{Spells};
+ghost use Rattle.file_store.specs.Outputs.{file_name};
+ghost use Rattle.desk.specs.Kept.{IsLegal, Keeps, ReadsStay, StaysBeside};
+ghost use Rattle.local_run.specs.Course.{IsUnmade, TellsJobs};
+ghost use Rattle.local_run.specs.Moments.{IsMoment, IsResumable, KeepsSome};
+ghost use Rattle.local_run.specs.Runs.{BeginsWith, HasCauses, Held, IsAdmitted, IsClosedRun};
+ghost use Rattle.local_run.specs.Runs.{IsCutRun, IsSparedName, LosesNone, SerialFits};
+ghost use Rattle.local_run.specs.Runs.{read_sources};
+
+use crate::ended::RunEnded;
+use crate::runs::run;
+use crate::{Born, Clock};
+use flow_types::{Name, Plan};
+use log_recover::{RecoverFault, files_spell_one_list, recover};
+use outside::{Commands, Runner, Site};
+use run_history::Options;
+use std::alloc::Global;
+
+/// Reads the log under this name, and runs the plan over it.
+///
+/// From the entry on a crash leaves what it might have left before the log was read, or the records
+/// that stood then and some that the run added, with their files.
+pub fn resume<F: Commands, S: Site, R: Runner<F>, C: Clock, B: Born>(
+    alloc: Global,
+    plan: Plan,
+    site: S,
+    name: Name,
+    options: Options,
+    runner: &mut R,
+    clock: &C,
+) -> Result<RunEnded<S>, RecoverFault>
+    requires valid { IsValid plan }
+    requires mode { options.mode ≡ Never }
+    requires limit { options.limit ≡ None }
+    requires apart { (f : ℕ) → file_name plan f ≢ «name» }
+    requires later { S.tells → B.born ≤ S.moment site }
+    ensures causes { IfOk result (λ ended. HasCauses (S.count site) (S.count ended.site)
+        (R.count runner.old) (R.count runner.new) ended.how) }
+    ensures grows { IfOk result (λ ended. S.tells → (H : List RecordValue)
+        → Spells H (S.files site «name») → BeginsWith H ended.records) }
+    ensures legal { IfOk result (λ ended. IsAdmitted ended.how → IsLegal plan ended.records) }
+    ensures spent { IfOk result (λ ended. IsClosedRun ended.how
+        → SpentOnce (since_opening ended.records)) }
+    ensures lost { IfOk result (λ ended. OnOk ended.how (S.tells → (H : List RecordValue)
+        → Spells H (S.files site «name») → LosesNone H ended.records)) }
+    ensures ends { IfOk result (λ ended. IfOk ended.how (λ check. check
+        ≡ end_over plan options (before_end ended.records) None)) }
+    ensures others { IfOk result (λ ended. S.tells → StaysBeside S.may_leave S.moment
+        S.images_since (IsUnmade plan «name») site ended.site) }
+    ensures reads { IfOk result (λ ended. S.tells
+        → ReadsStay S.files (IsSparedName plan «name» ended.how) site ended.site) }
+    ensures moments { IfOk result (λ ended. S.tells → (H : List RecordValue)
+        → Spells H (S.files site «name»)
+        → IsResumable Held plan «name» H (S.may_leave site)
+        → (image : Files) → S.images_since ended.site B.born image
+        → S.images_since site B.born image
+        ⊎ IsMoment Held plan «name» (S.files site) (S.may_leave site) H
+        ended.records (IsCutRun ended.how) image) }
+    ensures resumable { IfOk result (λ ended. S.tells → (H : List RecordValue)
+        → Spells H (S.files site «name»)
+        → ((image : Files) → IsImage (S.may_leave site) image
+        → KeepsSome Held plan «name» image)
+        → (image : Files) → S.images_since ended.site B.born image
+        → S.images_since site B.born image ⊎ KeepsSome Held plan «name» image) }
+    ensures contents { IfOk result (λ ended. S.tells → (H : List RecordValue)
+        → Spells H (S.files site «name»)
+        → let sources = read_sources plan (S.files site) in
+        IsResumable (SerialFits F.gives sources) plan «name» H (S.may_leave site)
+        → TellsJobs plan (R.tells runner.old) (serial plan F.gives sources)
+        → (image : Files) → S.images_since ended.site B.born image
+        → S.images_since site B.born image
+        ⊎ IsMoment (SerialFits F.gives sources) plan «name» (S.files site)
+        (S.may_leave site) H ended.records (IsCutRun ended.how) image) }
+    ensures now { IfOk result (λ ended. S.tells → (H : List RecordValue)
+        → Spells H (S.files site «name»)
+        → IsResumable Held plan «name» H (S.may_leave site) → (IsCutRun ended.how → ⊥)
+        → (image : Files) → IsImage (S.may_leave ended.site) image
+        → Keeps Held plan «name» ended.records image) }
+{
+    files_spell_one_list();
+    let mut site = site;
+    match recover(alloc, &mut site, name) {
+        Ok((log, history)) => Ok(run::<F, S, R, C, B>(
+            alloc, plan, site, log, history, options, runner, clock,
+        )),
+        Err(why) => Err(why),
+    }
+}

@@ -1,0 +1,200 @@
+//! A run over a log, from its start to its end.
+ghost use Rattle.std.specs.Prelude.{◌≡◌, ◌≢◌, ◌≤◌, ◌⊎◌, ℕ, List, length, IfOk, OnOk, None, true};
+ghost use Rattle.flow_types.specs.Plans.{IsValid, is_empty, is_source};
+ghost use Rattle.flow_types.specs.Serial.{serial};
+ghost use Rattle.run_history.specs.declared.options.Mode.TheVariants.{Never};
+ghost use Rattle.run_history.specs.Answers.{before_end, end_over};
+ghost use Rattle.run_history.specs.History.{part, since_opening};
+ghost use Rattle.run_history.specs.Links.{records_of};
+ghost use Rattle.run_history.specs.Spent.{SpentOnce};
+ghost use Rattle.run_history.specs.Storage.{running_rules};
+ghost use Rattle.outside.specs.Disk.{IsImage};
+ghost use Rattle.outside.specs.Files.{Files};
+ghost use Rattle.txn_log.specs.Logs.{IsAt};
+ghost use Rattle.file_store.specs.Outputs.{file_name};
+ghost use Rattle.desk.specs.Kept.{Fits, IsLegal, Keeps, ReadsStay, StaysBeside, WasKept};
+ghost use Rattle.desk.specs.State.{IsFine, Takes};
+ghost use Rattle.local_run.specs.Course.{IsUnmade, LeavesAlone, TellsJobs};
+ghost use Rattle.local_run.specs.Runs.{Adds, BeginsWith, HasCauses, Held, IsAdmitted, IsClosedRun};
+ghost use Rattle.local_run.specs.Runs.{IsCutRun, IsKeeping, IsSparedName, IsStanding, LosesNone};
+ghost use Rattle.local_run.specs.Runs.{SerialFits, ended_by, read_sources};
+
+use crate::course::work;
+use crate::ended::{RunEnded, Stopped};
+use crate::{Born, Clock, Halt};
+use desk::{Desk, StartRefused, Terms};
+use flow_types::{Plan, Record, Rows};
+use outside::{Commands, Runner, Site};
+use run_history::{Check, Options};
+use std::alloc::Global;
+use std::marker::Brand;
+use txn_log::Log;
+
+fn ended_by(done: Result<Check, Halt>) -> Result<Check, Stopped>
+    ensures { result ≡ ended_by done }
+{
+    match done {
+        Ok(check) => Ok(check),
+        Err(halt) => Err(Stopped::Halted(halt)),
+    }
+}
+
+/// The run of a desk that was just started.
+fn run_desk<F: Commands, S: Site, R: Runner<F>, C: Clock, T: Terms>(
+    alloc: Global,
+    desk: Desk<F, S, T>,
+    runner: &mut R,
+    clock: &C,
+) -> RunEnded<S>
+    requires valid { IsValid desk.plan }
+    requires fine { IsFine desk.trouble }
+    requires unset { desk.stop ≡ None }
+    requires idle { length (running_rules desk.plan (records_of desk.moves)) ≤ 0 }
+    requires base { T.trust → S.tells × T.kept
+        × TellsJobs desk.plan (R.tells runner.old) (serial desk.plan F.gives T.sources) }
+    ensures more { Adds T.trust F.gives F.may_fail T.sources desk.plan (records_of desk.moves)
+        result.records }
+    ensures legal { IsLegal desk.plan result.records }
+    ensures causes { HasCauses desk.faults (S.count result.site) (R.count runner.old)
+        (R.count runner.new) result.how }
+    ensures idle { (IsCutRun result.how → ⊥)
+        → length (running_rules desk.plan result.records) ≤ 0 }
+    ensures lost { OnOk result.how (LosesNone (records_of desk.moves) result.records) }
+    ensures ends { IfOk result.how (λ check. check
+        ≡ end_over desk.plan desk.options (before_end result.records) None) }
+    ensures others { S.tells → LeavesAlone S.files S.may_leave S.moment S.images_since
+        (IsUnmade desk.plan desk.log) desk.site result.site }
+    ensures kept { S.tells → T.kept → (image : Files)
+        → S.images_since result.site T.born image
+        → T.before image ⊎ WasKept (Fits T.trust F.gives T.sources) desk.plan desk.log desk.base
+        result.records (IsCutRun result.how) image }
+    ensures now { S.tells → T.kept → (IsCutRun result.how → ⊥)
+        → (image : Files) → IsImage (S.may_leave result.site) image
+        → Keeps (Fits T.trust F.gives T.sources) desk.plan desk.log result.records image }
+{
+    let mut desk = desk;
+    let how = ended_by(work(alloc, &mut desk, runner, clock));
+    let _works = desk.works();
+    let (site, records) = desk.into_parts();
+    RunEnded { site, records, how }
+}
+
+/// The run over a log, by what the caller states.
+fn run_by<F: Commands, S: Site, R: Runner<F>, C: Clock, T: Terms>(
+    alloc: Global,
+    plan: Plan,
+    site: S,
+    log: Log,
+    history: Rows<Record>,
+    options: Options,
+    runner: &mut R,
+    clock: &C,
+) -> RunEnded<S>
+    requires valid { IsValid plan }
+    requires mode { options.mode ≡ Never }
+    requires limit { options.limit ≡ None }
+    requires takes { Takes log history }
+    requires gate { S.tells → IsAt history log.gate (S.may_leave site log.name) }
+    requires apart { (f : ℕ) → file_name plan f ≢ log.name }
+    requires later { S.tells → T.kept → T.born ≤ S.moment site }
+    requires before { S.tells → T.kept → (image : Files) → S.images_since site T.born image
+        → T.before image }
+    requires kept { S.tells → T.kept → (image : Files) → IsImage (S.may_leave site) image
+        → Keeps (Fits T.trust F.gives T.sources) plan log.name history image }
+    requires sources { S.tells → T.kept → T.trust → is_empty (part history) ≡ true
+        → (f : ℕ) → is_source plan f ≡ true → S.files site (file_name plan f) ≡ T.sources f }
+    requires base { T.trust → S.tells × T.kept
+        × TellsJobs plan (R.tells runner.old) (serial plan F.gives T.sources) }
+    ensures more { Adds T.trust F.gives F.may_fail T.sources plan history result.records }
+    ensures causes { HasCauses (S.count site) (S.count result.site) (R.count runner.old)
+        (R.count runner.new) result.how }
+    ensures legal { IsAdmitted result.how → IsLegal plan result.records }
+    ensures idle { IsClosedRun result.how
+        → length (running_rules plan result.records) ≤ 0 }
+    ensures lost { OnOk result.how (LosesNone history result.records) }
+    ensures ends { IfOk result.how (λ check. check
+        ≡ end_over plan options (before_end result.records) None) }
+    ensures others { S.tells → StaysBeside S.may_leave S.moment S.images_since
+        (IsUnmade plan log.name) site result.site }
+    ensures reads { S.tells
+        → ReadsStay S.files (IsSparedName plan log.name result.how) site result.site }
+    ensures kept { S.tells → T.kept → (image : Files)
+        → S.images_since result.site T.born image
+        → T.before image ⊎ WasKept (Fits T.trust F.gives T.sources) plan log.name (length history)
+        result.records (IsCutRun result.how) image }
+    ensures now { S.tells → T.kept → (IsCutRun result.how → ⊥)
+        → (image : Files) → IsImage (S.may_leave result.site) image
+        → Keeps (Fits T.trust F.gives T.sources) plan log.name result.records image }
+{
+    match Desk::<F, S, T>::start(alloc, plan, site, log, history, options, clock.now()) {
+        Ok(desk) => run_desk(alloc, desk, runner, clock),
+        Err(refused) => {
+            let StartRefused { why, site, history } = refused;
+            RunEnded {
+                site,
+                records: history,
+                how: Err(Stopped::Refused(why)),
+            }
+        }
+    }
+}
+
+/// Runs a plan over a log that was just read, on this machine.
+///
+/// At any moment of the call a crash leaves the records of the log, or these and some that the run
+/// added, each present file with what was logged, and where the commands are functions of their
+/// inputs, what the serial run makes. Where neither the site failed nor memory was wanting, a
+/// refusal leaves the history.
+pub fn run<F: Commands, S: Site, R: Runner<F>, C: Clock, B: Born>(
+    alloc: Global,
+    plan: Plan,
+    site: S,
+    log: Log,
+    history: Rows<Record>,
+    options: Options,
+    runner: &mut R,
+    clock: &C,
+) -> RunEnded<S>
+    requires valid { IsValid plan }
+    requires mode { options.mode ≡ Never }
+    requires limit { options.limit ≡ None }
+    requires takes { Takes log history }
+    requires gate { S.tells → IsAt history log.gate (S.may_leave site log.name) }
+    requires apart { (f : ℕ) → file_name plan f ≢ log.name }
+    requires later { S.tells → B.born ≤ S.moment site }
+    ensures causes { HasCauses (S.count site) (S.count result.site) (R.count runner.old)
+        (R.count runner.new) result.how }
+    ensures grows { BeginsWith history result.records }
+    ensures legal { IsAdmitted result.how → IsLegal plan result.records }
+    ensures idle { IsClosedRun result.how
+        → length (running_rules plan result.records) ≤ 0 }
+    ensures spent { IsClosedRun result.how → SpentOnce (since_opening result.records) }
+    ensures lost { OnOk result.how (LosesNone history result.records) }
+    ensures ends { IfOk result.how (λ check. check
+        ≡ end_over plan options (before_end result.records) None) }
+    ensures others { S.tells → StaysBeside S.may_leave S.moment S.images_since
+        (IsUnmade plan log.name) site result.site }
+    ensures reads { S.tells
+        → ReadsStay S.files (IsSparedName plan log.name result.how) site result.site }
+    ensures kept { S.tells → IsKeeping plan log.name history (S.may_leave site)
+        → (image : Files) → S.images_since result.site B.born image
+        → S.images_since site B.born image ⊎ WasKept Held plan log.name (length history)
+        result.records (IsCutRun result.how) image }
+    ensures now { S.tells → IsKeeping plan log.name history (S.may_leave site)
+        → (IsCutRun result.how → ⊥) → (image : Files) → IsImage (S.may_leave result.site) image
+        → Keeps Held plan log.name result.records image }
+    ensures serial { S.tells
+        → let sources = read_sources plan (S.files site) in
+        IsStanding F.gives sources plan log.name history (S.may_leave site)
+        → TellsJobs plan (R.tells runner.old) (serial plan F.gives sources)
+        → (image : Files) → S.images_since result.site B.born image
+        → S.images_since site B.born image ⊎ WasKept (SerialFits F.gives sources) plan log.name
+        (length history) result.records (IsCutRun result.how) image }
+    ensures more { S.tells
+        → let sources = read_sources plan (S.files site) in
+        IsStanding F.gives sources plan log.name history (S.may_leave site)
+        → TellsJobs plan (R.tells runner.old) (serial plan F.gives sources)
+        → Adds (Unit {0}) F.gives F.may_fail sources plan history result.records }
+{
+    run_by::<F, S, R, C, Brand>(alloc, plan, site, log, history, options, runner, clock)
+}
