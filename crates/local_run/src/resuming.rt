@@ -1,5 +1,6 @@
 //! A run that goes on where the log ends.
-ghost use Rattle.std.specs.Prelude.{◌≡◌, ◌≢◌, ◌≤◌, ◌⊎◌, ℕ, List, IfOk, OnOk, None};
+ghost use Rattle.std.specs.Prelude.{◌≡◌, ◌≢◌, ◌≤◌, ◌⊎◌, ℕ, List, IfErr, IfOk, OnOk};
+ghost use Rattle.std.specs.Prelude.{◌<◌, None};
 ghost use Rattle.flow_types.specs.declared.records.Record.{Record as RecordValue};
 ghost use Rattle.flow_types.specs.Plans.{IsValid};
 ghost use Rattle.flow_types.specs.Serial.{serial};
@@ -7,22 +8,24 @@ ghost use Rattle.run_history.specs.declared.options.Mode.TheVariants.{Never};
 ghost use Rattle.run_history.specs.Answers.{before_end, end_over};
 ghost use Rattle.run_history.specs.History.{since_opening};
 ghost use Rattle.run_history.specs.Spent.{SpentOnce};
-ghost use Rattle.outside.specs.Disk.{IsImage};
+ghost use Rattle.outside.specs.Disk.{IsImage, LeavesOnly};
 ghost use Rattle.outside.specs.Files.{Files};
 ghost use Rattle.txn_log.specs.Spells.{Spells};
 ghost use Rattle.file_store.specs.Outputs.{file_name};
 ghost use Rattle.desk.specs.Kept.{IsLegal, Keeps, ReadsStay, StaysBeside};
+ghost use Rattle.log_recover.specs.declared.fault.RecoverFault.TheVariants as faults;
+ghost use Rattle.log_recover.specs.Recovery.{IsRecovering};
 ghost use Rattle.local_run.specs.Course.{IsUnmade, TellsJobs};
-ghost use Rattle.local_run.specs.Moments.{IsMoment, IsResumable, KeepsSome};
+ghost use Rattle.local_run.specs.Moments.{IsMoment, IsResumable, IsUnread, KeepsSome};
 ghost use Rattle.local_run.specs.Runs.{BeginsWith, HasCauses, Held, IsAdmitted, IsClosedRun};
 ghost use Rattle.local_run.specs.Runs.{IsCutRun, IsSparedName, LosesNone, SerialFits};
 ghost use Rattle.local_run.specs.Runs.{read_sources};
 
-use crate::ended::RunEnded;
+use crate::ended::{ResumeRefused, RunEnded};
 use crate::runs::run;
 use crate::{Born, Clock};
 use flow_types::{Name, Plan};
-use log_recover::{RecoverFault, files_spell_one_list, recover};
+use log_recover::{files_spell_one_list, recover};
 use outside::{Commands, Runner, Site};
 use run_history::Options;
 use std::alloc::Global;
@@ -39,12 +42,19 @@ pub fn resume<F: Commands, S: Site, R: Runner<F>, C: Clock, B: Born>(
     options: Options,
     runner: &mut R,
     clock: &C,
-) -> Result<RunEnded<S>, RecoverFault>
+) -> Result<RunEnded<S>, ResumeRefused<S>>
     requires valid { IsValid plan }
     requires mode { options.mode ≡ Never }
     requires limit { options.limit ≡ None }
     requires apart { (f : ℕ) → file_name plan f ≢ «name» }
     requires later { S.tells → B.born ≤ S.moment site }
+    ensures damaged { IfErr result (λ refused. S.tells
+        → IsUnread (S.files site «name») refused.why) }
+    ensures site { IfErr result (λ refused. refused.why ≡ faults.Site
+        → S.count site < S.count refused.site) }
+    ensures unread { IfErr result (λ refused. S.tells
+        → LeavesOnly S.moment S.images_since site refused.site
+        (IsRecovering «name» (S.files site «name») (S.may_leave site))) }
     ensures causes { IfOk result (λ ended. HasCauses (S.count site) (S.count ended.site)
         (R.count runner.old) (R.count runner.new) ended.how) }
     ensures grows { IfOk result (λ ended. S.tells → (H : List RecordValue)
@@ -94,6 +104,6 @@ pub fn resume<F: Commands, S: Site, R: Runner<F>, C: Clock, B: Born>(
         Ok((log, history)) => Ok(run::<F, S, R, C, B>(
             alloc, plan, site, log, history, options, runner, clock,
         )),
-        Err(why) => Err(why),
+        Err(why) => Err(ResumeRefused { why, site }),
     }
 }

@@ -61,3 +61,6 @@ pub returns-in-Ok-clause-reads : goal.returns-in-Ok-clause-reads
 returns-in-Ok-clause-reads g c told =
     reads_joined g.S.Site.files g.S.Site.may_leave g.S.Site.moment g.S.Site.images_since c.args.plan c.args.name c.in-Ok.log.name c.in-Ok.ensures.named.same_name c.args.site c.recover.new.site c.run.result.site c.run.result.how
     (c.recover.ensures.others told) (c.run.ensures.reads told)
+
+pub returns-in-Err-clause-damaged : goal.returns-in-Err-clause-damaged
+returns-in-Err-clause-damaged g c told = c.in-Err.ensures.answer told
