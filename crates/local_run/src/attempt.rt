@@ -12,10 +12,10 @@ ghost use Rattle.local_run.specs.Jobs.{halt_by};
 
 use crate::closing::{fail, finish, give_up};
 use crate::job::job_for;
-use crate::{Clock, Halt};
+use crate::Halt;
 use desk::{Attempt, Desk, InputRefused, Terms};
 use flow_types::Outcome;
-use outside::{Commands, Fault, Runner, Site};
+use outside::{Clock, Commands, Fault, Runner, Site};
 use std::alloc::Global;
 
 fn halt_by(why: InputRefused) -> Halt

@@ -9,10 +9,10 @@ ghost use Rattle.run_history.specs.Storage.{running_rules};
 ghost use Rattle.desk.specs.State.{AreOutputs, IsDue, IsFine, runs_with};
 ghost use Rattle.local_run.specs.Course.{Closed, FailsBy, GivesUp, GoesOn};
 
-use crate::{Clock, Halt};
+use crate::Halt;
 use desk::{Attempt, CloseRefused, Desk, Terms};
 use flow_types::{Bytes, Failure, Rows};
-use outside::{Commands, Site};
+use outside::{Clock, Commands, Site};
 use run_history::Stop;
 
 /// Stops the run and gives the attempt up, for this cause. Where the site fails or memory is

@@ -10,10 +10,10 @@ ghost use Rattle.desk.specs.State.{IsFine};
 ghost use Rattle.local_run.specs.Course.{GoesOn, HasNothing, TellsJobs, Closed, HaltsBy};
 
 use crate::attempt::run_attempt;
-use crate::{Clock, Halt};
+use crate::Halt;
 use desk::{Claim, ClaimRefused, Desk, EndRefused, Terms};
 use flow_types::LinkNo;
-use outside::{Commands, Runner, Site};
+use outside::{Clock, Commands, Runner, Site};
 use run_history::Check;
 use std::alloc::Global;
 

@@ -23,10 +23,10 @@ ghost use Rattle.local_run.specs.Runs.{read_sources};
 
 use crate::ended::{ResumeRefused, RunEnded};
 use crate::runs::run;
-use crate::{Born, Clock};
+use crate::Born;
 use flow_types::{Name, Plan};
 use log_recover::{files_spell_one_list, recover};
-use outside::{Commands, Runner, Site};
+use outside::{Clock, Commands, Runner, Site};
 use run_history::Options;
 use std::alloc::Global;
 

@@ -21,10 +21,10 @@ ghost use Rattle.local_run.specs.Runs.{SerialFits, ended_by, read_sources};
 
 use crate::course::work;
 use crate::ended::{RunEnded, Stopped};
-use crate::{Born, Clock, Halt};
+use crate::{Born, Halt};
 use desk::{Desk, StartRefused, Terms};
 use flow_types::{Plan, Record, Rows};
-use outside::{Commands, Runner, Site};
+use outside::{Clock, Commands, Runner, Site};
 use run_history::{Check, Options};
 use std::alloc::Global;
 use std::marker::Brand;

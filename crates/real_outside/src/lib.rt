@@ -1,4 +1,4 @@
-//! The outside of this machine: the current folder, a shell, and standard output.
+//! The outside of this machine: the current folder, a shell, a clock, and standard output.
 //!
 //! Each object tells nothing of content, and counts each call that the system refused.
 #![tactic(auto)]
@@ -12,8 +12,10 @@ mod outputs;
 mod programs;
 mod shell_runner;
 mod stdout_sink;
+mod system_clock;
 
 pub use commands::System;
 pub use folder_site::FolderSite;
 pub use shell_runner::ShellRunner;
 pub use stdout_sink::StdoutSink;
+pub use system_clock::SystemClock;
