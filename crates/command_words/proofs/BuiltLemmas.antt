@@ -6,10 +6,10 @@ use Rattle.std.specs.Str.{bytes_eq}
 use Rattle.std.proofs.lemmas.Bool.{or_parts}
 use Rattle.clap.specs.Walk.{Row, Text, first_of}
 use Rattle.flow_types.specs.Names.{name_of}
-use Rattle.command_words.specs.Unbuilt.{IsBuilt, IsFile, asks_collection, asks_generated, asks_log, asks_unbuilt, asks_workers}
-use Rattle.command_words.specs.Choices.{flow_from, flow_in, language_in, limits_in, mode_in, mode_named, service_in, transport_in, transport_named, work_in}
+use Rattle.command_words.specs.Unbuilt.{IsBuilt, IsFile, asks_collection, asks_generated, asks_unbuilt, asks_workers}
+use Rattle.command_words.specs.Choices.{flow_from, flow_in, language_in, limits_in, mode_in, mode_named, service_in, transport_in, transport_named}
 use Rattle.command_words.specs.Numbers.{number_in}
-use Rattle.command_words.specs.Values.{flag, has_value, is_given, number, optional_number}
+use Rattle.command_words.specs.Values.{has_value, is_given, number, optional_number}
 use Rattle.command_words.specs.declared.options.Flow.{Flow}
 use Rattle.command_words.specs.declared.options.Flow.TheVariants.{File}
 use Rattle.command_words.specs.declared.options.Language.{Language}
@@ -20,21 +20,11 @@ use Rattle.command_words.specs.declared.options.Mode.TheVariants.{Never, RefCoun
 use Rattle.command_words.specs.declared.options.Service.{Service}
 use Rattle.command_words.specs.declared.options.Transport.{Transport}
 use Rattle.command_words.specs.declared.options.Transport.TheVariants.{Local, WorkQueue}
-use Rattle.command_words.specs.declared.options.Work.{Work}
-use Rattle.command_words.specs.declared.options.Work.TheVariants.{Run, Clean, PrintLog}
 
 -- a choice that there is follows from the one before it
 chosen : {A B : Type 0} (P : B → Type 0) (o : Option A) (next : A → Option B) (b : B) → ((a : A) → o ≡ Some a → next a ≡ Some b → P b) → option_and_then next o ≡ Some b → P b
 chosen P None next b goes e = absurd (let wrong : None ≡ Some b = e in let bad : ⊥ = cc in bad)
 chosen P (Some a) next b goes e = goes a refl e
-
-number-default : (rows : List Row) (option : Text) (least most default n : ℕ) → number rows option least most default ≡ Some n → is_given rows option ≡ false → n ≡ default
-unfolding number is_given
-number-default rows option least most default n e none = by_value (first_of option rows) e none
-  where
-    by_value : (v : Option Text) → option_map_or (number_in least most) v (Some default) ≡ Some n → is_some v ≡ false → n ≡ default
-    by_value None e none = cc
-    by_value (Some text) e none = cc
 
 optional-none : (rows : List Row) (option : Text) (least most : ℕ) (n : Option ℕ) → optional_number rows option least most ≡ Some n → is_given rows option ≡ false → n ≡ None
 unfolding optional_number is_given
@@ -80,14 +70,6 @@ mode-never rows m e no_count no_demand = by_value (first_of (codes "g") rows) e 
     by_value None e no_count no_demand = cc
     by_value (Some text) e no_count no_demand = by_test (bytes_eq (codes "none") text) (bytes_eq (codes "ref_cnt") text) (bytes_eq (codes "on_demand") text) e no_count no_demand
 
-pub limits-retries : (rows : List Row) (l : Limits) → limits_in rows ≡ Some l → is_given rows (codes "r") ≡ false → l.retries ≡ 0
-unfolding limits_in
-limits-retries rows l e none =
-    chosen (λ l. l.retries ≡ 0) (number rows (codes "r") 0 1000 0) _ l
-    (λ r is rest. chosen (λ l. l.retries ≡ 0) (optional_number rows (codes "storage-limit") 0 1152921504606846976) _ l
-    (λ s _ rest. chosen (λ l. l.retries ≡ 0) (number rows (codes "idle-limit") 1 1000000000 1000000000) _ l
-    (λ i _ whole. let default = number-default rows (codes "r") 0 1000 0 r is none in cc) rest) rest) e
-
 pub limits-storage : (rows : List Row) (l : Limits) → limits_in rows ≡ Some l → is_given rows (codes "storage-limit") ≡ false → l.storage ≡ None
 unfolding limits_in
 limits-storage rows l e none =
@@ -95,15 +77,6 @@ limits-storage rows l e none =
     (λ r _ rest. chosen (λ l. l.storage ≡ None) (optional_number rows (codes "storage-limit") 0 1152921504606846976) _ l
     (λ s is rest. chosen (λ l. l.storage ≡ None) (number rows (codes "idle-limit") 1 1000000000 1000000000) _ l
     (λ i _ whole. let default = optional-none rows (codes "storage-limit") 0 1152921504606846976 s is none in cc) rest) rest) e
-
-pub work-run : (rows : List Row) (w : Work) → work_in rows ≡ Some w → flag rows (codes "c") ≡ false → flag rows (codes "print-log") ≡ false → w ≡ Run
-unfolding work_in
-work-run rows w e no_clean no_print = by_flags (flag rows (codes "c")) (flag rows (codes "print-log")) e no_clean no_print
-  where
-    by_flags : (a b : Bool) → (if a then (if b then None else Some Clean) else (if b then Some PrintLog else Some Run)) ≡ Some w → a ≡ false → b ≡ false → w ≡ Run
-    by_flags true b e no_clean no_print = absurd cc
-    by_flags false true e no_clean no_print = absurd cc
-    by_flags false false e no_clean no_print = cc
 
 of_file : (file : Option Text) (language : Language) (flow : Flow) → flow_from file None language ≡ Some flow → IsFile flow
 of_file None language flow e = absurd cc
@@ -123,21 +96,15 @@ flow-file rows flow e no_generated =
 
 -- options by which none is given that isn't built are of what is built
 pub options-built : (rows : List Row) (o : Options) → service_in rows ≡ Some o.service → limits_in rows ≡ Some o.limits → mode_in rows ≡ Some o.mode
-    → work_in rows ≡ Some o.work → flow_in rows ≡ Some o.flow → asks_unbuilt rows ≡ false → IsBuilt o
-unfolding asks_unbuilt asks_log asks_collection
-options-built rows o service limits mode work flow none =
+    → flow_in rows ≡ Some o.flow → asks_unbuilt rows ≡ false → IsBuilt o
+unfolding asks_unbuilt asks_collection
+options-built rows o service limits mode flow none =
     let workers = or_parts _ _ none in
     let generated = or_parts _ _ workers.0 in
-    let collection = or_parts _ _ generated.0 in
-    let print = or_parts _ _ collection.0 in
-    let clean = or_parts _ _ print.0 in
-    let retries = or_parts _ _ clean.0 in
-    let storage = or_parts _ _ collection.1 in
+    let storage = or_parts _ _ generated.0 in
     let modes = or_parts _ _ storage.0 in
     record {
       flow = flow-file rows o.flow flow generated.1;
-      work = work-run rows o.work work clean.1 print.1;
-      retries = limits-retries rows o.limits limits retries.0;
       mode = mode-never rows o.mode mode modes.0 modes.1;
       storage = limits-storage rows o.limits limits storage.1;
       transport = service-local rows o.service service workers.1;

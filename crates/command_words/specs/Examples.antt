@@ -56,15 +56,15 @@ NoCommandLines =
     × (is_command_line (codes "-c" ∷ codes "--print-log" ∷ codes "flow" ∷ []) ≡ false)
     × (is_command_line (codes "--help" ∷ []) ≡ false)
 
--- what isn't built yet goes by what is given: a default that is given counts for `-r`, and not for `-g` and `-T`
+-- what isn't built yet goes by what is given: a default that is given doesn't count, nor does what goes by the log
 abbrev pub UnbuiltCommandLines : Type 0
 UnbuiltCommandLines =
     (unbuilt (codes "-j2" ∷ codes "flow" ∷ []) ≡ Some false)
     × (unbuilt (codes "-g" ∷ codes "none" ∷ codes "-T" ∷ codes "local" ∷ codes "flow" ∷ []) ≡ Some false)
-    × (unbuilt (codes "-r" ∷ codes "0" ∷ codes "flow" ∷ []) ≡ Some true)
+    × (unbuilt (codes "-r" ∷ codes "2" ∷ codes "-l" ∷ codes "log" ∷ codes "-c" ∷ codes "flow" ∷ []) ≡ Some false)
+    × (unbuilt (codes "--jx" ∷ codes "--print-log" ∷ codes "flow" ∷ []) ≡ Some false)
     × (unbuilt (codes "-g" ∷ codes "on_demand" ∷ codes "flow" ∷ []) ≡ Some true)
-    × (unbuilt (codes "--jx" ∷ codes "flow" ∷ []) ≡ Some false)
-    × (unbuilt (codes "--jx" ∷ codes "-c" ∷ codes "flow" ∷ []) ≡ Some true)
+    × (unbuilt (codes "--storage-limit" ∷ codes "0" ∷ codes "-c" ∷ codes "flow" ∷ []) ≡ Some true)
 
 -- command lines of the worker and the foreman
 abbrev pub PeerCommandLines : Type 0

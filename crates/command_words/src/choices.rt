@@ -122,7 +122,7 @@ pub fn work_in(matches: &ArgMatches<'_>) -> Option<Work>
     }
 }
 
-/// `--jx`.
+/// The language of the flow's text, by `--jx`.
 #[tactic(auto, unfolding(crate::specs::Choices::language_in))]
 pub fn language_in(matches: &ArgMatches<'_>) -> Language
     ensures { result ≡ language_in (rows_in matches.now) }

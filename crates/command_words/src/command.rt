@@ -52,8 +52,8 @@ fn with_letter_flag<'a>(
     )
 }
 
-// Adds `--name`.
-fn with_long_flag<'a>(
+/// Adds `--name`.
+pub fn with_long_flag<'a>(
     alloc: Global,
     command: Command<'a>,
     name: &'a str,
@@ -63,8 +63,8 @@ fn with_long_flag<'a>(
     command.arg(Arg::new(alloc, name).long(name).action(ArgAction::SetTrue))
 }
 
-// Adds a word by its place.
-fn with_place<'a>(
+/// Adds a word by its place behind the program's name.
+pub fn with_place<'a>(
     alloc: Global,
     command: Command<'a>,
     name: &'a str,

@@ -13,7 +13,8 @@ use clap::ArgMatches;
 use flow_types::{Name, NameFault};
 use std::alloc::Global;
 
-fn name_of(alloc: Global, text: &[u8]) -> Result<Name, WordsFault>
+/// The name that a text writes: Usage where it is none.
+pub fn name_of(alloc: Global, text: &[u8]) -> Result<Name, WordsFault>
     ensures ok { IfOk result (λ name. name_of text.now ≡ Some name) }
     ensures usage { IsErrOf result WordsFault.Usage → name_of text.now ≡ None }
 {

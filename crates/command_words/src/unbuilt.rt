@@ -1,21 +1,11 @@
 // Options that aren't built yet.
 ghost use Rattle.std.specs.Prelude.{◌≡◌};
 ghost use Rattle.command_words.specs.Found.{rows_in};
-ghost use Rattle.command_words.specs.Unbuilt.{asks_log, asks_collection, asks_generated};
-ghost use Rattle.command_words.specs.Unbuilt.{asks_workers, asks_unbuilt};
+ghost use Rattle.command_words.specs.Unbuilt.{asks_collection, asks_generated, asks_workers};
+ghost use Rattle.command_words.specs.Unbuilt.{asks_unbuilt};
 
-use crate::values::{flag, has_value, is_given};
+use crate::values::{has_value, is_given};
 use clap::ArgMatches;
-
-#[tactic(auto, unfolding(crate::specs::Unbuilt::asks_log))]
-fn asks_log(matches: &ArgMatches<'_>) -> bool
-    ensures { result ≡ asks_log (rows_in matches.now) }
-{
-    if is_given(matches, "r") || is_given(matches, "l") {
-        return true;
-    }
-    flag(matches, "c") || flag(matches, "print-log")
-}
 
 #[tactic(auto, unfolding(crate::specs::Unbuilt::asks_collection))]
 fn asks_collection(matches: &ArgMatches<'_>) -> bool
@@ -46,8 +36,5 @@ fn asks_workers(matches: &ArgMatches<'_>) -> bool
 pub fn asks_unbuilt(matches: &ArgMatches<'_>) -> bool
     ensures { result ≡ asks_unbuilt (rows_in matches.now) }
 {
-    if asks_log(matches) || asks_collection(matches) {
-        return true;
-    }
-    asks_generated(matches) || asks_workers(matches)
+    asks_collection(matches) || asks_generated(matches) || asks_workers(matches)
 }

@@ -7,7 +7,7 @@ ghost use Rattle.command_words.specs.Values.{flag, has_value, is_given, number, 
 use crate::numbers::number_in;
 use clap::ArgMatches;
 
-/// The value of an argument, where there is one.
+/// The value of an argument, where there is one; of several the first.
 pub fn value_of<'a>(matches: &ArgMatches<'a>, name: &str) -> Option<&'a str>
     ensures { option_map (λ s. s.now) result ≡ first_of name.now (rows_in matches.now) }
 {
@@ -36,7 +36,7 @@ pub fn has_value(matches: &ArgMatches<'_>, option: &str, value: &str) -> bool
     }
 }
 
-/// Whether a flag is given.
+/// Whether a flag is given: its value is then `true`.
 #[tactic(auto, unfolding(crate::specs::Values::flag))]
 pub fn flag(matches: &ArgMatches<'_>, name: &str) -> bool
     ensures { result ≡ flag (rows_in matches.now) name.now }

@@ -56,7 +56,8 @@ fn options_in(alloc: Global, matches: &ArgMatches<'_>) -> Result<Options, WordsF
     })
 }
 
-/// What the parser finds in the words.
+/// What the parser finds in the words, of which the first is the program's name: Usage only
+/// where the command doesn't take them.
 pub fn parse<'a>(command: Command<'a>, words: &'a [String]) -> Result<ArgMatches<'a>, WordsFault>
     requires { is_plain (app_of command) ≡ true }
     ensures taken { IfOk result (λ _.
