@@ -20,7 +20,7 @@ use Rattle.jx_flow.specs.declared.fault.JxFlowFault.{JxFlowFault}
 use Rattle.jx_flow.specs.declared.fault.JxFlowFault.TheVariants as jx
 use Rattle.report.specs.declared.cause.FlowFault.TheVariants.{Make, Jx, Graph}
 use Rattle.report.specs.declared.cause.Cause.{Cause}
-use Rattle.report.specs.declared.cause.Cause.TheVariants.{Complete, CommandFailed, Usage, FlowMissing, FlowRefused, Unbuilt, NeedsTooMuch, SourceMissing, SourceTooLarge, InputsTooLarge, SiteFault, RunnerFault, SinkFault, Memory}
+use Rattle.report.specs.declared.cause.Cause.TheVariants.{Complete, Cleaned, Printed, CommandFailed, Usage, FlowMissing, FlowRefused, LogNameTaken, Unbuilt, NeedsTooMuch, LogDamaged, OtherFlow, NotLegal, StoredAboveLimit, SourceMissing, SourceTooLarge, SourceChanged, FileDamaged, SiteFault, RunnerFault, SinkFault, InputsTooLarge, Memory, LogFull}
 use Rattle.report.specs.Causes.{kind_of, is_printed}
 
 -- the plan's name of a file; no bytes where the plan has no such file
@@ -131,28 +131,46 @@ fault_text (Graph fault) = graph_text fault
 abbrev pub needs_text : ℕ → ℕ → ℕ → List ℕ
 needs_text rule need total = codes "rule " ++ decimal rule ++ (codes " needs " ++ decimal need ++ (codes ", there is " ++ decimal total))
 
+-- how much the made files have together
+abbrev pub stored_text : ℕ → ℕ → List ℕ
+stored_text stored limit = codes "stored " ++ decimal stored ++ (codes " is above the limit " ++ decimal limit)
+
 -- how much the inputs of a rule have together
 abbrev pub inputs_text : ℕ → ℕ → List ℕ
 inputs_text rule total = codes "inputs of rule " ++ decimal rule ++ (codes " too large: " ++ decimal total)
+
+-- what is said of a file that no rule makes
+abbrev pub source_text : Plan → ℕ → List ℕ → List ℕ
+source_text plan file what = codes "source " ++ file_name plan file ++ what
 
 -- what is said of a cause
 abbrev pub text_of : Plan → Cause → List ℕ
 text_of plan (Complete rules collected) =
     codes "complete, " ++ decimal rules ++ (codes " rules, " ++ decimal collected ++ codes " files collected")
+text_of plan (Cleaned removed) = codes "cleaned, " ++ decimal removed ++ codes " files removed"
+text_of plan (Printed lines) = []
 text_of plan (CommandFailed rule why) = rule_text plan rule.0 why
 text_of plan Usage = codes "usage: makeflow [options] FILE"
 text_of plan (FlowMissing name) = codes "no flow file " ++ name
-text_of plan (Unbuilt line) = codes "line " ++ decimal line ++ codes ": not built yet"
 text_of plan (FlowRefused flow fault) = flow ++ codes ": " ++ fault_text fault
+text_of plan (LogNameTaken file) = codes "the log's name is in the flow"
+text_of plan (Unbuilt line) = codes "line " ++ decimal line ++ codes ": not built yet"
 text_of plan (NeedsTooMuch rule need total) = needs_text rule.0 need total
-text_of plan (SourceTooLarge file size) = codes "source " ++ file_name plan file.0 ++ codes " too large"
-text_of plan (InputsTooLarge rule total) = inputs_text rule.0 total
-text_of plan (SourceMissing file) = codes "source " ++ file_name plan file.0 ++ codes " missing"
+text_of plan (LogDamaged at) = codes "log damaged at " ++ decimal at
+text_of plan (OtherFlow logged found) = codes "the log is of another flow"
+text_of plan (NotLegal at) = codes "log record " ++ decimal at ++ codes " is not allowed"
+text_of plan (StoredAboveLimit stored limit) = stored_text stored limit
+text_of plan (SourceMissing file) = source_text plan file.0 (codes " missing")
+text_of plan (SourceTooLarge file size) = source_text plan file.0 (codes " too large")
+text_of plan (SourceChanged file logged found) = source_text plan file.0 (codes " changed")
+text_of plan (FileDamaged file logged found) = codes "file " ++ file_name plan file.0 ++ codes " damaged"
 text_of plan (SiteFault before after) = codes "folder fault"
 text_of plan (RunnerFault before after) = codes "runner fault"
 text_of plan (SinkFault before after) = []
+text_of plan (InputsTooLarge rule total) = inputs_text rule.0 total
 text_of plan Memory = codes "out of memory"
+text_of plan (LogFull records) = codes "log full"
 
--- the printed line of a cause, with its newline
+-- the printed line of a cause, with its newline; no bytes where none is printed
 abbrev pub line_of : Plan → Cause → List ℕ
 line_of plan cause = if is_printed (kind_of cause) then codes "makeflow: " ++ text_of plan cause ++ codes "\n" else []

@@ -1,11 +1,19 @@
 //! Worked printed lines, each proved by computing. Nothing calls these functions.
-ghost use Rattle.std.specs.Prelude.{◌≡◌, [], ◌∷◌, codes, pos, negsuc, Some, None};
+ghost use Rattle.std.specs.Prelude.{◌≡◌, ℕ, List, [], ◌∷◌, codes, pos, negsuc, Some, None};
 ghost use Rattle.flow_types.specs.declared.job.Failure.TheVariants.{Status, MissingOutput, TooLong};
+ghost use Rattle.flow_types.specs.declared.numbers.Content.{Content};
+ghost use Rattle.flow_types.specs.declared.numbers.Digest.{Digest};
 ghost use Rattle.mf_text.specs.declared.fault.MakeFault.TheVariants.{NotUtf8, UnknownName};
 ghost use Rattle.mf_text.specs.declared.fault.MakeFault.TheVariants.{NoColon, TooLarge};
 ghost use Rattle.rule_graph.specs.declared.faults.GraphFault.TheVariants.{BadName, NestedName};
 ghost use Rattle.rule_graph.specs.declared.faults.GraphFault.TheVariants.{TwoMakers, Cycle};
-ghost use Rattle.report.specs.declared.cause.Cause.TheVariants.{Complete, Usage, FlowMissing};
+ghost use Rattle.run_history.specs.declared.states.Found.{Found};
+ghost use Rattle.report.specs.declared.cause.Cause.TheVariants.{Complete, Cleaned, Printed};
+ghost use Rattle.report.specs.declared.cause.Cause.TheVariants.{Usage, FlowMissing, LogFull};
+ghost use Rattle.report.specs.declared.cause.Cause.TheVariants.{LogNameTaken, LogDamaged};
+ghost use Rattle.report.specs.declared.cause.Cause.TheVariants.{OtherFlow, NotLegal};
+ghost use Rattle.report.specs.declared.cause.Cause.TheVariants.{StoredAboveLimit};
+ghost use Rattle.report.specs.declared.cause.Cause.TheVariants.{SourceChanged, FileDamaged};
 ghost use Rattle.report.specs.declared.cause.Cause.TheVariants.{Unbuilt, NeedsTooMuch};
 ghost use Rattle.report.specs.declared.cause.Cause.TheVariants.{SourceTooLarge, InputsTooLarge};
 ghost use Rattle.report.specs.declared.cause.Cause.TheVariants.{SiteFault, RunnerFault};
@@ -46,6 +54,30 @@ pub fn lines_of_refusals()
     ensures source { line_of one_rule (source_missing 0) ≡ codes "makeflow: source in missing\n" }
     ensures large_source { line_of one_rule (SourceTooLarge (record { 0 = 0 }) 67108865)
         ≡ codes "makeflow: source in too large\n" }
+{}
+
+/// What is printed where the log is refused, or what it says of a file, and of work on the log.
+/// Digests and contents aren't printed.
+pub fn lines_of_logs()
+    ensures taken { (file : List ℕ) → line_of one_rule (LogNameTaken file)
+        ≡ codes "makeflow: the log's name is in the flow\n" }
+    ensures damaged { line_of one_rule (LogDamaged 141) ≡ codes "makeflow: log damaged at 141\n" }
+    ensures other_flow { (logged found : Digest) → line_of one_rule (OtherFlow logged found)
+        ≡ codes "makeflow: the log is of another flow\n" }
+    ensures not_legal { line_of one_rule (NotLegal 3)
+        ≡ codes "makeflow: log record 3 is not allowed\n" }
+    ensures stored { line_of one_rule (StoredAboveLimit 120 100)
+        ≡ codes "makeflow: stored 120 is above the limit 100\n" }
+    ensures source { (logged : Content) (found : Found)
+        → line_of one_rule (SourceChanged (record { 0 = 0 }) logged found)
+        ≡ codes "makeflow: source in changed\n" }
+    ensures made { (logged : Content) (found : Found)
+        → line_of one_rule (FileDamaged (record { 0 = 1 }) logged found)
+        ≡ codes "makeflow: file out damaged\n" }
+    ensures full { (records : ℕ) → line_of one_rule (LogFull records)
+        ≡ codes "makeflow: log full\n" }
+    ensures cleaned { line_of one_rule (Cleaned 1) ≡ codes "makeflow: cleaned, 1 files removed\n" }
+    ensures printed { (lines : ℕ) → line_of one_rule (Printed lines) ≡ [] }
 {}
 
 /// What is printed where the text of a flow is refused.

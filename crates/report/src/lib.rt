@@ -9,5 +9,6 @@ mod text;
 
 pub use cause::{Cause, FlowFault, Kind};
 pub use examples::{
-    lines_of_a_run, lines_of_faults, lines_of_jx, lines_of_refusals, lines_of_rules, lines_of_texts,
+    lines_of_a_run, lines_of_faults, lines_of_jx, lines_of_logs, lines_of_refusals, lines_of_rules,
+    lines_of_texts,
 };

@@ -1,8 +1,9 @@
 //! What a line says of each cause.
-ghost use Rattle.std.specs.Prelude.{◌≡◌, ◌++◌, IfOk};
+ghost use Rattle.std.specs.Prelude.{◌≡◌, ◌++◌, IfOk, codes};
+ghost use Rattle.std.specs.Fmt.{decimal};
 ghost use Rattle.report.specs.Lines.{failure_text, file_name, output_name, output_name_in};
 ghost use Rattle.report.specs.Lines.{rule_text, text_of, fault_text, needs_text, inputs_text};
-ghost use Rattle.std.specs.Prelude.{codes};
+ghost use Rattle.report.specs.Lines.{source_text, stored_text};
 
 use crate::cause::{Cause, FlowFault};
 use crate::flow_text::{graph_text, make_text};
@@ -15,37 +16,64 @@ pub(crate) fn text_of(alloc: Global, plan: &Plan, cause: &Cause) -> Result<Vec<u
     ensures { IfOk result (λ text. text.items ≡ text_of plan.now cause.now) }
 {
     match cause {
-        Cause::Complete { rules, collected } => {
-            let text = format!(in alloc; "complete, {rules} rules, {collected} files collected")?;
-            Ok(text.into_bytes())
-        }
+        Cause::Complete { rules, collected } => complete_text(alloc, *rules, *collected),
+        Cause::Cleaned { removed } => numbered(alloc, b"cleaned, ", *removed, b" files removed"),
+        Cause::Printed { .. } | Cause::SinkFault { .. } => Ok(Vec::new(alloc)),
         Cause::CommandFailed { rule, why } => rule_text(alloc, plan, *rule, *why),
         Cause::Usage => Vec::from_slice(alloc, b"usage: makeflow [options] FILE"),
         Cause::FlowMissing { name } => around(alloc, b"no flow file ", name.as_bytes(), b""),
-        Cause::Unbuilt { line } => {
-            let text = format!(in alloc; "line {line}: not built yet")?;
-            Ok(text.into_bytes())
-        }
-        Cause::SourceMissing { file } => around(
-            alloc,
-            b"source ",
-            file_name(plan, *file),
-            b" missing",
-        ),
         Cause::FlowRefused { flow, fault } => refusal_text(alloc, flow, fault),
+        Cause::LogNameTaken { .. } => Vec::from_slice(alloc, b"the log's name is in the flow"),
+        Cause::Unbuilt { line } => numbered(alloc, b"line ", *line, b": not built yet"),
         Cause::NeedsTooMuch { rule, need, total } => needs_text(alloc, *rule, *need, *total),
-        Cause::SourceTooLarge { file, .. } => around(
-            alloc,
-            b"source ",
-            file_name(plan, *file),
-            b" too large",
-        ),
-        Cause::InputsTooLarge { rule, total } => inputs_text(alloc, *rule, *total),
+        Cause::LogDamaged { at } => damage_text(alloc, *at),
+        Cause::OtherFlow { .. } => Vec::from_slice(alloc, b"the log is of another flow"),
+        Cause::NotLegal { at } => numbered(alloc, b"log record ", *at, b" is not allowed"),
+        Cause::StoredAboveLimit { stored, limit } => stored_text(alloc, *stored, *limit),
+        Cause::SourceMissing { file } => source_text(alloc, plan, *file, b" missing"),
+        Cause::SourceTooLarge { file, .. } => source_text(alloc, plan, *file, b" too large"),
+        Cause::SourceChanged { file, .. } => source_text(alloc, plan, *file, b" changed"),
+        Cause::FileDamaged { file, .. } => {
+            around(alloc, b"file ", file_name(plan, *file), b" damaged")
+        }
         Cause::SiteFault { .. } => Vec::from_slice(alloc, b"folder fault"),
         Cause::RunnerFault { .. } => Vec::from_slice(alloc, b"runner fault"),
-        Cause::SinkFault { .. } => Ok(Vec::new(alloc)),
+        Cause::InputsTooLarge { rule, total } => inputs_text(alloc, *rule, *total),
         Cause::Memory => Vec::from_slice(alloc, b"out of memory"),
+        Cause::LogFull { .. } => Vec::from_slice(alloc, b"log full"),
     }
+}
+
+// How much of a run is done.
+fn complete_text(alloc: Global, rules: u32, collected: u32) -> Result<Vec<u8>, AllocError>
+    ensures { IfOk result (λ text. text.items ≡ codes "complete, " ++ decimal rules
+        ++ (codes " rules, " ++ decimal collected ++ codes " files collected")) }
+{
+    let text = format!(in alloc; "complete, {rules} rules, {collected} files collected")?;
+    Ok(text.into_bytes())
+}
+
+// Where the log is damaged.
+fn damage_text(alloc: Global, at: u64) -> Result<Vec<u8>, AllocError>
+    ensures { IfOk result (λ text. text.items ≡ codes "log damaged at " ++ decimal at) }
+{
+    let text = format!(in alloc; "log damaged at {at}")?;
+    Ok(text.into_bytes())
+}
+
+// How much the made files have together.
+fn stored_text(alloc: Global, stored: u64, limit: u64) -> Result<Vec<u8>, AllocError>
+    ensures { IfOk result (λ text. text.items ≡ stored_text stored limit) }
+{
+    let text = format!(in alloc; "stored {stored} is above the limit {limit}")?;
+    Ok(text.into_bytes())
+}
+
+// What is said of a file that no rule makes.
+fn source_text(alloc: Global, plan: &Plan, file: FileNo, what: &[u8]) -> Result<Vec<u8>, AllocError>
+    ensures { IfOk result (λ text. text.items ≡ source_text plan.now file.0 what.now) }
+{
+    around(alloc, b"source ", file_name(plan, file), what)
 }
 
 // What a rule needs more than there is.
@@ -119,6 +147,14 @@ fn failure_text(
             )
         }
     }
+}
+
+// A number between two texts.
+fn numbered(alloc: Global, before: &[u8], number: u32, after: &[u8]) -> Result<Vec<u8>, AllocError>
+    ensures { IfOk result (λ text. text.items ≡ before.now ++ decimal number ++ after.now) }
+{
+    let digits = format!(in alloc; "{number}")?;
+    around(alloc, before, digits.as_bytes(), after)
 }
 
 // A name between two texts.
