@@ -8,8 +8,9 @@ use Rattle.flow_types.specs.declared.plan.Plan.{Plan}
 use Rattle.flow_types.specs.declared.records.Record.{Record}
 use Rattle.flow_types.specs.Plans.{rule_numbers}
 use Rattle.run_history.specs.declared.states.RuleState.{RuleState}
+use Rattle.run_history.specs.declared.states.RuleState.TheVariants as rule
 use Rattle.run_history.specs.States.{rule_state}
-use Rattle.run_history.specs.Storage.{is_complete, is_complete_state, is_failed_state, is_running, is_running_state, is_waiting, is_waiting_state}
+use Rattle.run_history.specs.Storage.{has_failed, is_complete, is_complete_state, is_failed_state, is_running, is_running_state, is_waiting, is_waiting_state}
 use Rattle.log_text.specs.declared.tally.Row.{Row}
 use Rattle.log_text.specs.declared.tally.Tally.{Tally}
 use Rattle.log_text.specs.Lines.{counts_of, field}
@@ -46,3 +47,25 @@ counts-told P H t is told =
     ∙ ap (λ n. field (count_by (is_waiting H) (rule_numbers P)) ++ field n ++ field t.counts.complete ++ field t.counts.failed ++ field 0 ++ decimal (length P.rules)) (is.running ∙ sym (told_count is_running_state P H t is told))
     ∙ ap (λ n. field (count_by (is_waiting H) (rule_numbers P)) ++ field (count_by (is_running H) (rule_numbers P)) ++ field n ++ field t.counts.failed ++ field 0 ++ decimal (length P.rules)) (is.complete ∙ sym (told_count is_complete_state P H t is told))
     ∙ ap (λ n. field (count_by (is_waiting H) (rule_numbers P)) ++ field (count_by (is_running H) (rule_numbers P)) ++ field (count_by (is_complete H) (rule_numbers P)) ++ field n ++ field 0 ++ decimal (length P.rules)) (is.failed ∙ sym (told_count is_failed_state P H t is told))
+
+-- each of these rules is in one state
+pub states-add : (H : List Record) (rs : List ℕ) → count_by (is_waiting H) rs + count_by (is_running H) rs + count_by (is_complete H) rs + count_by (has_failed H) rs ≡ length rs
+states-add H [] = refl
+states-add H (r ∷ rs) =
+    let here = one_state (rule_state H r) in
+    let rest = states-add H rs in
+    omega (
+      arith,
+      here,
+      rest,
+      sum_by-cons (λ q. bit (is_waiting H q)) r rs,
+      sum_by-cons (λ q. bit (is_running H q)) r rs,
+      sum_by-cons (λ q. bit (is_complete H q)) r rs,
+      sum_by-cons (λ q. bit (has_failed H q)) r rs,
+    )
+  where
+    one_state : (state : RuleState) → bit (is_waiting_state state) + bit (is_running_state state) + bit (is_complete_state state) + bit (is_failed_state state) ≡ 1
+    one_state rule.Waiting = refl
+    one_state (rule.Running attempt) = refl
+    one_state rule.Complete = refl
+    one_state rule.Failed = refl
