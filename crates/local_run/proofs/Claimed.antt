@@ -123,7 +123,7 @@ module _ {S : Type 0} (trust : Type 0) (gives : Function) (may_fail : Job → Fa
   pub taken_goes : (count : S → ℕ) (d after : DeskState S) (attempt : Attempt) (link : LinkNo) (time : ℕ) → Alone d after.site → Claims count d link time (Ok (claims.Taken attempt)) after → Goes d after
   taken_goes count d after attempt link time others h =
       subst (λ (a : DeskState S). Alone d a.site → Goes d a) (sym h.2.5)
-      (adds trust gives may_fail sources tells files may_leave moment images_since d (started_as d.moves attempt.rule time link) d.stop after.site (λ trusted. tt) (λ none. none) (λ none. refl)) others
+      (adds trust gives may_fail sources tells files may_leave moment images_since d (started_as d.moves attempt.rule time link) d.stop after.site (λ trusted. tt) (λ none. none) (λ none. refl) refl) others
 
   -- a claim that takes no rule
   pub untaken_goes : (count : S → ℕ) (d after : DeskState S) (link : LinkNo) (time : ℕ) (why : Nothing) → Alone d after.site → Claims count d link time (Ok (claims.Nothing why)) after → Goes d after

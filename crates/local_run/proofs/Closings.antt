@@ -39,7 +39,7 @@ use Rattle.outside.specs.Files.{Files}
 use Rattle.desk.specs.State.{Breaks, Closes, DeskState, IsFine, Lacks, Spares, runs_with}
 use Rattle.desk.proofs.Presents.{runs_from}
 use Rattle.desk.proofs.Running.{closing, ended_runs, no_outs}
-use Rattle.local_run.specs.Course.{FailsHonestly, GoesOn, IsBroken, IsUnmade, LeavesAlone}
+use Rattle.local_run.specs.Course.{FailsHonestly, GoesOn, IsBroken, IsUnmade, LeavesAlone, begins_anew}
 use Rattle.local_run.specs.Losses.{is_lost}
 use Rattle.local_run.proofs.Going.{adds, stays}
 
@@ -72,21 +72,21 @@ module _ {S : Type 0} (trust : Type 0) (gives : Function) (may_fail : Job → Fa
       (stays trust gives may_fail sources tells files may_leave moment images_since d d.stop d.trouble d.site (λ none. none)) others) h
 
   by_answer : (count : S → ℕ) (d : DeskState S) (k : Option Stop) (rule : RuleNo) (number : AttemptNo) (link : LinkNo) (x : Record) (r : Result (Unit {0}) CloseRefused) (after : DeskState S)
-      → (trust → FailsHonestly d.plan may_fail (serial d.plan gives sources) x) → (k ≡ None → d.stop ≡ None) → (k ≡ None → is_lost x ≡ false) → Alone d after.site
+      → (trust → FailsHonestly d.plan may_fail (serial d.plan gives sources) x) → (k ≡ None → d.stop ≡ None) → (k ≡ None → is_lost x ≡ false) → begins_anew x ≡ false → Alone d after.site
       → Closes count (record d { stop = k }) rule number link x r after → Goes d after
-  by_answer count d k rule number link x (Ok done) after honest first held others h =
-      subst (λ (a : DeskState S). Alone d a.site → Goes d a) (sym h.2) (adds trust gives may_fail sources tells files may_leave moment images_since d x k after.site honest first held) others
-  by_answer count d k rule number link x (Err (refused.Stale named state)) after honest first held others h =
+  by_answer count d k rule number link x (Ok done) after honest first held plain others h =
+      subst (λ (a : DeskState S). Alone d a.site → Goes d a) (sym h.2) (adds trust gives may_fail sources tells files may_leave moment images_since d x k after.site honest first held plain) others
+  by_answer count d k rule number link x (Err (refused.Stale named state)) after honest first held plain others h =
       subst (λ (a : DeskState S). Alone d a.site → Goes d a) (sym h.4) (stays trust gives may_fail sources tells files may_leave moment images_since d k d.trouble d.site first) others
-  by_answer count d k rule number link x (Err (refused.Broken before now)) after honest first held others h = breaks_goes count d k before now after first others h
-  by_answer count d k rule number link x (Err refused.Memory) after honest first held others h = lacks_goes d k after first others h
+  by_answer count d k rule number link x (Err (refused.Broken before now)) after honest first held plain others h = breaks_goes count d k before now after first others h
+  by_answer count d k rule number link x (Err refused.Memory) after honest first held plain others h = lacks_goes d k after first others h
 
   -- a closing call, after a stop may have been set
   pub closes_goes : (count : S → ℕ) (d mid : DeskState S) (k : Option Stop) (rule : RuleNo) (number : AttemptNo) (link : LinkNo) (x : Record) (r : Result (Unit {0}) CloseRefused) (after : DeskState S)
-      → mid ≡ record d { stop = k } → (trust → FailsHonestly d.plan may_fail (serial d.plan gives sources) x) → (k ≡ None → d.stop ≡ None) → (k ≡ None → is_lost x ≡ false) → Alone mid after.site
+      → mid ≡ record d { stop = k } → (trust → FailsHonestly d.plan may_fail (serial d.plan gives sources) x) → (k ≡ None → d.stop ≡ None) → (k ≡ None → is_lost x ≡ false) → begins_anew x ≡ false → Alone mid after.site
       → Closes count mid rule number link x r after → Goes d after
-  closes_goes count d mid k rule number link x r after same honest first held others h =
-      subst (λ (m : DeskState S). Alone m after.site → Closes count m rule number link x r after → Goes d after) (sym same) (by_answer count d k rule number link x r after honest first held) others h
+  closes_goes count d mid k rule number link x r after same honest first held plain others h =
+      subst (λ (m : DeskState S). Alone m after.site → Closes count m rule number link x r after → Goes d after) (sym same) (by_answer count d k rule number link x r after honest first held plain) others h
 
 -- a stop at once is set always
 pub halts_now : (P : Plan) (O : Options) (M : List Move) (stop : Option Stop) → stop_of P O M stop stops.Halt ≡ None → ⊥
@@ -139,28 +139,6 @@ lost_closes moment rule attempt = record { stays = refl; opens = refl; outs = No
 
 -- ---- the end of a run
 
-module _ {S : Type 0} (trust : Type 0) (gives : Function) (may_fail : Job → Failure → Type 0) (sources : Contents) (tells : Type 0) (files : S → Files) (may_leave : S → Outcomes) (moment : S → ℕ)
-    (images_since : S → ℕ → Files → Type 0) where
-  abbrev pub GoesThen : DeskState S → DeskState S → Type 0
-  GoesThen d after = GoesOn trust gives may_fail sources tells files may_leave moment images_since d after
-
-  abbrev pub AloneThen : DeskState S → S → Type 0
-  AloneThen d s = tells → LeavesAlone files may_leave moment images_since (IsUnmade d.plan d.log) d.site s
-
-  by_kind : (d : DeskState S) (moment : ℕ) (kind : Option EndKind) (after : DeskState S) → AloneThen d after.site → EndsBy kind d moment after → GoesThen d after
-  by_kind d time None after others h =
-      subst (λ (a : DeskState S). AloneThen d a.site → GoesThen d a) (sym h) (stays trust gives may_fail sources tells files may_leave moment images_since d d.stop d.trouble d.site (λ none. none)) others
-  by_kind d time (Some kind) after others h =
-      subst (λ (a : DeskState S). AloneThen d a.site → GoesThen d a) (sym h)
-      (adds trust gives may_fail sources tells files may_leave moment images_since d (records.Ended time kind) d.stop after.site (λ trusted. tt) (λ none. none) (λ none. refl)) others
-
-  -- the call that ends a run
-  pub ends_goes : (count : S → ℕ) (d : DeskState S) (moment : ℕ) (r : Result Check EndRefused) (after : DeskState S) → AloneThen d after.site → Ends count d moment r after → GoesThen d after
-  ends_goes count d time (Ok check) after others h = by_kind d time (logged_end d.plan d.options d.moves d.stop) after others h.2
-  ends_goes count d time (Err (unended.Broken before now)) after others h =
-      breaks_goes trust gives may_fail sources tells files may_leave moment images_since count d d.stop before now after (λ none. none) others h
-  ends_goes count d time (Err unended.Memory) after others h = spares_goes trust gives may_fail sources tells files may_leave moment images_since d after others h
-
 not_cleaned : (check : Check) (kind : EndKind) → kind_of check ≡ Some kind → is_cleaned_kind kind ≡ false
 not_cleaned (checks.Complete collected) kind is = ap is_cleaned_kind (ap (λ o. unwrap_or o kind) (sym is))
 not_cleaned (checks.CommandFailed rule why) kind is = ap is_cleaned_kind (ap (λ o. unwrap_or o kind) (sym is))
@@ -174,6 +152,28 @@ not_cleaned (checks.LogFull records) kind is = absurd (true≢false (sym (ap is_
 logged_not_cleaned : (check : Check) (ended : Bool) (kind : EndKind) → cond ended None (kind_of check) ≡ Some kind → is_cleaned_kind kind ≡ false
 logged_not_cleaned check true kind is = absurd (true≢false (sym (ap is_some is)))
 logged_not_cleaned check false kind is = not_cleaned check kind is
+
+module _ {S : Type 0} (trust : Type 0) (gives : Function) (may_fail : Job → Failure → Type 0) (sources : Contents) (tells : Type 0) (files : S → Files) (may_leave : S → Outcomes) (moment : S → ℕ)
+    (images_since : S → ℕ → Files → Type 0) where
+  abbrev pub GoesThen : DeskState S → DeskState S → Type 0
+  GoesThen d after = GoesOn trust gives may_fail sources tells files may_leave moment images_since d after
+
+  abbrev pub AloneThen : DeskState S → S → Type 0
+  AloneThen d s = tells → LeavesAlone files may_leave moment images_since (IsUnmade d.plan d.log) d.site s
+
+  by_kind : (d : DeskState S) (moment : ℕ) (kind : Option EndKind) (after : DeskState S) → ((k : EndKind) → kind ≡ Some k → is_cleaned_kind k ≡ false) → AloneThen d after.site → EndsBy kind d moment after → GoesThen d after
+  by_kind d time None after whole others h =
+      subst (λ (a : DeskState S). AloneThen d a.site → GoesThen d a) (sym h) (stays trust gives may_fail sources tells files may_leave moment images_since d d.stop d.trouble d.site (λ none. none)) others
+  by_kind d time (Some kind) after whole others h =
+      subst (λ (a : DeskState S). AloneThen d a.site → GoesThen d a) (sym h)
+      (adds trust gives may_fail sources tells files may_leave moment images_since d (records.Ended time kind) d.stop after.site (λ trusted. tt) (λ none. none) (λ none. refl) (whole kind refl)) others
+
+  -- the call that ends a run
+  pub ends_goes : (count : S → ℕ) (d : DeskState S) (moment : ℕ) (r : Result Check EndRefused) (after : DeskState S) → AloneThen d after.site → Ends count d moment r after → GoesThen d after
+  ends_goes count d time (Ok check) after others h = by_kind d time (logged_end d.plan d.options d.moves d.stop) after (λ k is. logged_not_cleaned (end_of d.plan d.options d.moves d.stop) (has_ended (records_of d.moves)) k is) others h.2
+  ends_goes count d time (Err (unended.Broken before now)) after others h =
+      breaks_goes trust gives may_fail sources tells files may_leave moment images_since count d d.stop before now after (λ none. none) others h
+  ends_goes count d time (Err unended.Memory) after others h = spares_goes trust gives may_fail sources tells files may_leave moment images_since d after others h
 
 idle_by : {S : Type 0} (d : DeskState S) (moment : ℕ) (kind : Option EndKind) (after : DeskState S) → ((k : EndKind) → kind ≡ Some k → is_cleaned_kind k ≡ false)
     → length (running_rules d.plan (records_of d.moves)) ≤ 0 → EndsBy kind d moment after → length (running_rules after.plan (records_of after.moves)) ≤ 0

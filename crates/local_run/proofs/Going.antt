@@ -17,7 +17,7 @@ use Rattle.outside.specs.Disk.{Outcomes}
 use Rattle.outside.specs.Files.{Files}
 use Rattle.desk.specs.declared.answers.Trouble.{Trouble}
 use Rattle.desk.specs.State.{DeskState}
-use Rattle.local_run.specs.Course.{FailsHonestly, GoesOn, IsUnmade, LeavesAlone}
+use Rattle.local_run.specs.Course.{FailsHonestly, GoesOn, IsUnmade, LeavesAlone, begins_anew}
 use Rattle.local_run.specs.Losses.{is_lost}
 use Rattle.local_run.proofs.Alone.{alone_then}
 
@@ -42,13 +42,14 @@ module _ {S : Type 0} (trust : Type 0) (gives : Function) (may_fail : Job → Fa
     honest = λ trusted. All-nil (FailsHonestly d.plan may_fail (serial d.plan gives sources));
     stops = stops;
     lost = λ none. refl;
+    anew = refl;
     others = others;
   }
 
   -- one record was added
   pub adds : (d : DeskState S) (x : Record) (stop : Option Stop) (s : S) → (trust → FailsHonestly d.plan may_fail (serial d.plan gives sources) x)
-      → (stop ≡ None → d.stop ≡ None) → (stop ≡ None → is_lost x ≡ false) → Alone d s → Goes d (record d { moves = d.moves ++ (moves.Logged x ∷ []); stop = stop; site = s })
-  adds d x stop s honest stops held others = record {
+      → (stop ≡ None → d.stop ≡ None) → (stop ≡ None → is_lost x ≡ false) → begins_anew x ≡ false → Alone d s → Goes d (record d { moves = d.moves ++ (moves.Logged x ∷ []); stop = stop; site = s })
+  adds d x stop s honest stops held plain others = record {
     more = x ∷ [];
     moves = refl;
     plan = refl;
@@ -59,6 +60,7 @@ module _ {S : Type 0} (trust : Type 0) (gives : Function) (may_fail : Job → Fa
     honest = λ trusted. All-cons (FailsHonestly d.plan may_fail (serial d.plan gives sources)) x [] (honest trusted) (All-nil (FailsHonestly d.plan may_fail (serial d.plan gives sources)));
     stops = stops;
     lost = λ none. ap (λ b. b || false) (held none);
+    anew = ap (λ b. b || false) plain;
     others = others;
   }
 
@@ -78,6 +80,7 @@ module _ {S : Type 0} (trust : Type 0) (gives : Function) (may_fail : Job → Fa
         (subst (λ (P : Plan). All (FailsHonestly P may_fail (serial P gives sources)) second.more) first.plan (second.honest trusted));
     stops = λ none. first.stops (second.stops none);
     lost = λ none. list_any-append is_lost first.more second.more ∙ (ap (λ b. b || list_any is_lost second.more) (first.lost (second.stops none)) ∙ second.lost none);
+    anew = list_any-append begins_anew first.more second.more ∙ (ap (λ b. b || list_any begins_anew second.more) first.anew ∙ second.anew);
     others = λ told. alone_then files may_leave moment images_since (IsUnmade d.plan d.log) d.site mid.site after.site (first.others told)
         (subst (λ (P : Plan). LeavesAlone files may_leave moment images_since (IsUnmade P d.log) mid.site after.site) first.plan
         (subst (λ (n : List ℕ). LeavesAlone files may_leave moment images_since (IsUnmade mid.plan n) mid.site after.site) first.log (second.others told)));

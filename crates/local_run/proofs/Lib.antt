@@ -7,5 +7,13 @@ pub mod Tasks
 pub mod Outputs
 pub mod Results
 pub mod Started
+pub mod Starts
+pub mod EndKinds
+pub mod Fresh
+pub mod Failures
+pub mod Logging
+pub mod Completed
+pub mod Working
+pub mod Done
 pub mod Fitting
 pub mod Joining

@@ -1,8 +1,10 @@
 -- What a run adds to a desk.
-use Rattle.std.specs.Prelude.{◌≡◌, ◌≢◌, ◌<◌, ◌⊎◌, ℕ, true, false, List, ◌++◌, Some, None, Result, Ok, Err, All, map, slice_get, is_some}
+use Rattle.std.specs.Prelude.{◌≡◌, ◌≢◌, ◌<◌, ◌⊎◌, ℕ, Bool, true, false, ◌||◌, List, [], ◌∷◌, ◌++◌, Some, None, Result, Ok, Err, All, map, slice_get, is_some}
 use Rattle.std.specs.List.{list_any}
 use Rattle.flow_types.specs.declared.plan.Plan.{Plan}
 use Rattle.flow_types.specs.declared.plan.Rule.{Rule}
+use Rattle.flow_types.specs.declared.numbers.AttemptNo.{AttemptNo}
+use Rattle.flow_types.specs.declared.numbers.RuleNo.{RuleNo}
 use Rattle.flow_types.specs.declared.job.Job.{Job}
 use Rattle.flow_types.specs.declared.job.Failure.{Failure}
 use Rattle.flow_types.specs.declared.records.Record.{Record}
@@ -12,6 +14,7 @@ use Rattle.flow_types.specs.Serial.{Contents, Function, job_of, serial}
 use Rattle.run_history.specs.declared.answers.Nothing.{Nothing}
 use Rattle.run_history.specs.Answers.{claim_of}
 use Rattle.run_history.specs.declared.moves.Move.TheVariants as moves
+use Rattle.run_history.specs.History.{is_cleaned, is_opening}
 use Rattle.desk.specs.declared.answers.Trouble.{Trouble}
 use Rattle.desk.specs.declared.answers.Trouble.TheVariants as trouble
 use Rattle.outside.specs.Disk.{Outcomes}
@@ -41,7 +44,11 @@ pub record LeavesAlone {S : Type 0} (files : S → Files) (may_leave : S → Out
   pub crash : StaysBeside may_leave moment images_since beside old new
   pub reads : ReadsStay files beside old new
 
--- The desk is that of the same start, and these records were added. Where there is trust each failure among them is one that the rule's job over the serial run's contents may fail with. Where no stop is set none was set before, and no attempt was given up. Files that no rule makes stay.
+-- a run or a part begins
+abbrev pub begins_anew : Record → Bool
+begins_anew x = is_opening x || is_cleaned x
+
+-- The desk is that of the same start, and these records were added, none of which begins a run or a part. Where there is trust each failure among them is one that the rule's job over the serial run's contents may fail with. Where no stop is set none was set before, and no attempt was given up. Files that no rule makes stay.
 pub record GoesOn {S : Type 0} (trust : Type 0) (gives : Function) (may_fail : Job → Failure → Type 0) (sources : Contents) (tells : Type 0) (files : S → Files) (may_leave : S → Outcomes) (moment : S → ℕ)
     (images_since : S → ℕ → Files → Type 0) (d after : DeskState S) : Type 0 where
   pub more : List Record
@@ -54,6 +61,7 @@ pub record GoesOn {S : Type 0} (trust : Type 0) (gives : Function) (may_fail : J
   pub honest : trust → All (FailsHonestly d.plan may_fail (serial d.plan gives sources)) more
   pub stops : after.stop ≡ None → d.stop ≡ None
   pub lost : after.stop ≡ None → list_any is_lost more ≡ false
+  pub anew : list_any begins_anew more ≡ false
   pub others : tells → LeavesAlone files may_leave moment images_since (IsUnmade d.plan d.log) d.site after.site
 
 -- its site failed
@@ -94,3 +102,7 @@ FailsBy after (Err halts.Memory) = Unit {0}
 -- A claim for the local place gives no rule.
 abbrev pub HasNothing : {S : Type 0} → DeskState S → Type 0
 HasNothing d = (why : Nothing) × (claim_of d.plan d.options d.moves d.stop 0 ≡ Err why)
+
+-- The last of the records gives an attempt up.
+abbrev pub IsGivenUp : List Record → RuleNo → AttemptNo → List Record → Type 0
+IsGivenUp H rule number all = (moment : ℕ) × (all ≡ H ++ (records.Lost moment rule number ∷ []))

@@ -1,13 +1,17 @@
 -- Jobs over a desk.
-use Rattle.std.specs.Prelude.{◌≡◌, [], unwrap_or, Result, Ok, Err}
+use Rattle.std.specs.Prelude.{◌≡◌, List, [], unwrap_or, Result, Ok, Err}
 use Rattle.flow_types.specs.declared.plan.Port.{Port}
 use Rattle.flow_types.specs.declared.job.Given.{Given}
+use Rattle.flow_types.specs.declared.plan.Plan.{Plan}
+use Rattle.flow_types.specs.declared.records.Record.{Record}
 use Rattle.flow_types.specs.Serial.{Contents}
+use Rattle.outside.specs.Files.{Files}
 use Rattle.desk.specs.declared.answers.Trouble.TheVariants as trouble
 use Rattle.desk.specs.declared.answers.InputRefused.{InputRefused}
 use Rattle.desk.specs.declared.answers.InputRefused.TheVariants as refused
 use Rattle.desk.specs.State.{DeskState}
 use Rattle.local_run.specs.declared.halt.Halt.{Halt}
+use Rattle.local_run.specs.Ends.{IsDamaged}
 use Rattle.local_run.specs.declared.halt.Halt.TheVariants as halts
 
 -- what is given at a port, over these contents
@@ -26,3 +30,15 @@ abbrev pub halt_by : InputRefused → Halt
 halt_by (refused.Damaged file logged found) = halts.Damaged file logged found
 halt_by (refused.Broken before now) = halts.Site
 halt_by refused.Memory = halts.Memory
+
+-- An input that is refused as damaged was found so.
+abbrev pub IsRefusedDamage : Plan → List Record → Files → InputRefused → Type 0
+IsRefusedDamage P H files (refused.Damaged file logged found) = IsDamaged P H files file logged found
+IsRefusedDamage P H files (refused.Broken before now) = Unit {0}
+IsRefusedDamage P H files refused.Memory = Unit {0}
+
+-- not that an input is damaged
+abbrev pub IsWholeInput : InputRefused → Type 0
+IsWholeInput (refused.Damaged file logged found) = ⊥
+IsWholeInput (refused.Broken before now) = Unit {0}
+IsWholeInput refused.Memory = Unit {0}

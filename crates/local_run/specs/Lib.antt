@@ -1,6 +1,7 @@
 pub mod Jobs
 pub mod Course
 pub mod Runs
+pub mod Ends
 pub mod Moments
 pub mod Losses
 pub mod Lines

@@ -1,18 +1,21 @@
 //! One attempt, from its inputs to its end.
-ghost use Rattle.std.specs.Prelude.{◌≡◌, ◌≤◌, ◌<◌, ℕ, length, true};
+ghost use Rattle.std.specs.Prelude.{◌≡◌, ◌≤◌, ◌<◌, ◌+◌, ℕ, length, true, false, IfErr, OnOk};
 ghost use Rattle.std.specs.List.{list_all};
 ghost use Rattle.flow_types.specs.declared.job.Job.{Job as JobValue};
 ghost use Rattle.flow_types.specs.Plans.{IsValid, takes};
 ghost use Rattle.flow_types.specs.Serial.{serial};
+ghost use Rattle.run_history.specs.Answers.{has_ended};
 ghost use Rattle.run_history.specs.Links.{records_of};
 ghost use Rattle.run_history.specs.Storage.{is_present, running_rules};
 ghost use Rattle.desk.specs.State.{IsFine, runs_with};
 ghost use Rattle.local_run.specs.Course.{GoesOn, TellsJobs, Closed, HaltsBy};
+ghost use Rattle.local_run.specs.Ends.{IsApart, IsFoundDamaged, IsSureHalt, IsWholeHalt};
+ghost use Rattle.local_run.specs.Ends.{LogsFailures, StaysSure, records_due};
 ghost use Rattle.local_run.specs.Jobs.{halt_by};
 
+use crate::Halt;
 use crate::closing::{fail, finish, give_up};
 use crate::job::job_for;
-use crate::Halt;
 use desk::{Attempt, Desk, InputRefused, Terms};
 use flow_types::Outcome;
 use outside::{Clock, Commands, Fault, Runner, Site};
@@ -62,6 +65,21 @@ pub(crate) fn run_attempt<F: Commands, S: Site, R: Runner<F>, C: Clock, T: Terms
     ensures halts { HaltsBy desk.new.trouble (R.count runner.old) (R.count runner.new) result }
     ensures tells { (job : JobValue) → R.tells runner.old job → R.tells runner.new job }
     ensures later { R.count runner.old ≤ R.count runner.new }
+    ensures damage { IfErr result (λ halt. S.tells → IsApart desk.new.plan desk.new.log
+        → IsFoundDamaged desk.new.plan (records_of desk.new.moves) (S.files desk.new.site)
+        halt) }
+    ensures whole { IfErr result (λ halt. S.tells → T.kept → IsWholeHalt halt) }
+    ensures sure { R.sure runner.old
+        → StaysSure (R.sure runner.new) (R.failures runner.old) (R.failures runner.new) }
+    ensures never { IfErr result (λ halt. R.sure runner.old → IsSureHalt halt) }
+    ensures risen { R.failures runner.old ≤ R.failures runner.new }
+    ensures failures { IsFine desk.new.trouble → LogsFailures (records_of desk.old.moves)
+        (records_of desk.new.moves) (R.failures runner.old) (R.failures runner.new) }
+    ensures unended { IsFine desk.new.trouble → has_ended (records_of desk.old.moves) ≡ false
+        → has_ended (records_of desk.new.moves) ≡ false }
+    ensures due { OnOk result (R.sure runner.old
+        → records_due desk.new.plan (records_of desk.new.moves) + 1
+        ≤ records_due desk.old.plan (records_of desk.old.moves)) }
 {
     let job = match job_for(alloc, desk, &attempt) {
         Ok(job) => job,

@@ -1,13 +1,16 @@
 //! The ends of an attempt.
-ghost use Rattle.std.specs.Prelude.{◌≡◌, ◌≤◌, ◌<◌, ℕ, Some, length, slice_get, true, IfOk};
+ghost use Rattle.std.specs.Prelude.{◌≡◌, ◌≢◌, ◌≤◌, ◌<◌, ◌++◌, ◌∷◌, [], ℕ, Some, length, map};
+ghost use Rattle.std.specs.Prelude.{slice_get, true, IfOk};
 ghost use Rattle.flow_types.specs.declared.plan.Rule.{Rule};
+ghost use Rattle.flow_types.specs.declared.records.Record.TheVariants as entries;
 ghost use Rattle.flow_types.specs.Plans.{IsValid, makes};
 ghost use Rattle.flow_types.specs.Serial.{job_of, serial};
 ghost use Rattle.run_history.specs.Legal.{is_failure_at};
 ghost use Rattle.run_history.specs.Links.{records_of};
 ghost use Rattle.run_history.specs.Storage.{running_rules};
+ghost use Rattle.desk.specs.Kept.{ReadsStay, logged};
 ghost use Rattle.desk.specs.State.{AreOutputs, IsDue, IsFine, runs_with};
-ghost use Rattle.local_run.specs.Course.{Closed, FailsBy, GivesUp, GoesOn};
+ghost use Rattle.local_run.specs.Course.{Closed, FailsBy, GivesUp, GoesOn, IsGivenUp};
 
 use crate::Halt;
 use desk::{Attempt, CloseRefused, Desk, Terms};
@@ -32,6 +35,10 @@ pub(crate) fn give_up<F: Commands, S: Site, T: Terms, C: Clock>(
     ensures idle { IsFine desk.new.trouble
         → length (running_rules desk.new.plan (records_of desk.new.moves)) ≤ 0 }
     ensures halt { GivesUp why desk.old.trouble desk.new.trouble result }
+    ensures logs { IsFine desk.new.trouble → IsGivenUp (records_of desk.old.moves) attempt.rule
+        attempt.number (records_of desk.new.moves) }
+    ensures reads { S.tells → ReadsStay S.files (λ m. m ≢ desk.old.log) desk.old.site
+        desk.new.site }
 {
     let _stops = desk.stop(Stop::Halt);
     match desk.lose(attempt, clock.now()) {
@@ -63,6 +70,9 @@ pub(crate) fn finish<F: Commands, S: Site, T: Terms>(
         → length (running_rules desk.new.plan (records_of desk.new.moves)) ≤ 0 }
     ensures closed { Closed desk.old desk.new result }
     ensures halts { FailsBy desk.new.trouble result }
+    ensures logs { IsFine desk.new.trouble
+        → records_of desk.new.moves ≡ records_of desk.old.moves
+        ++ entries.Done moment attempt.rule attempt.number (map logged outs.now) ∷ [] }
 {
     match desk.finish(attempt, outs, moment) {
         Ok(()) => Ok(()),
@@ -93,6 +103,9 @@ pub(crate) fn fail<F: Commands, S: Site, T: Terms>(
         → length (running_rules desk.new.plan (records_of desk.new.moves)) ≤ 0 }
     ensures closed { Closed desk.old desk.new result }
     ensures halts { FailsBy desk.new.trouble result }
+    ensures logs { IsFine desk.new.trouble
+        → records_of desk.new.moves ≡ records_of desk.old.moves
+        ++ entries.Failed moment attempt.rule attempt.number why ∷ [] }
 {
     match desk.fail(attempt, why, moment) {
         Ok(_) => Ok(()),

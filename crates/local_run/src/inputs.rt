@@ -1,11 +1,11 @@
 //! The inputs of a job.
-ghost use Rattle.std.specs.Prelude.{◌≡◌, IfOk, All, map, true};
+ghost use Rattle.std.specs.Prelude.{◌≡◌, IfOk, IfErr, All, map, true};
 ghost use Rattle.flow_types.specs.Serial.{serial};
 ghost use Rattle.run_history.specs.Links.{records_of};
 ghost use Rattle.run_history.specs.Storage.{is_present};
 ghost use Rattle.desk.specs.State.{IsFine};
 ghost use Rattle.local_run.specs.Course.{LeavesAlone};
-ghost use Rattle.local_run.specs.Jobs.{given_at, ReadsOver};
+ghost use Rattle.local_run.specs.Jobs.{given_at, IsRefusedDamage, IsWholeInput, ReadsOver};
 
 use desk::{Desk, InputRefused, Terms};
 use flow_types::{Given, Port, Rows};
@@ -24,6 +24,9 @@ fn read_port<F: Commands, S: Site, T: Terms>(
     ensures reply { ReadsOver desk.old result desk.new }
     ensures due { IfOk result (λ given. S.tells → T.kept → T.trust
         → given ≡ given_at (serial desk.old.plan F.gives T.sources) port.now) }
+    ensures damage { IfErr result (λ why. S.tells → IsRefusedDamage desk.new.plan
+        (records_of desk.new.moves) (S.files desk.new.site) why) }
+    ensures whole { IfErr result (λ why. S.tells → T.kept → IsWholeInput why) }
     ensures others { S.tells → LeavesAlone S.files S.may_leave S.moment S.images_since
         (λ _. Unit {0}) desk.old.site desk.new.site }
 {
@@ -49,6 +52,9 @@ pub(crate) fn read_inputs<F: Commands, S: Site, T: Terms>(
     ensures reply { ReadsOver desk.old result desk.new }
     ensures due { IfOk result (λ inputs. S.tells → T.kept → T.trust
         → inputs ≡ map (given_at (serial desk.old.plan F.gives T.sources)) ports.now) }
+    ensures damage { IfErr result (λ why. S.tells → IsRefusedDamage desk.new.plan
+        (records_of desk.new.moves) (S.files desk.new.site) why) }
+    ensures whole { IfErr result (λ why. S.tells → T.kept → IsWholeInput why) }
     ensures others { S.tells → LeavesAlone S.files S.may_leave S.moment S.images_since
         (λ _. Unit {0}) desk.old.site desk.new.site }
 {

@@ -1,5 +1,5 @@
 //! The job of an attempt.
-ghost use Rattle.std.specs.Prelude.{◌≡◌, ◌<◌, IfOk, Some, length, true, slice_get, map};
+ghost use Rattle.std.specs.Prelude.{◌≡◌, ◌<◌, IfOk, IfErr, Some, length, true, slice_get, map};
 ghost use Rattle.std.specs.List.{list_all};
 ghost use Rattle.flow_types.specs.declared.plan.Rule.{Rule};
 ghost use Rattle.flow_types.specs.Plans.{takes};
@@ -9,7 +9,7 @@ ghost use Rattle.run_history.specs.Storage.{is_present};
 ghost use Rattle.desk.specs.State.{IsFine};
 ghost use Rattle.desk.specs.Tasks.{want_at};
 ghost use Rattle.local_run.specs.Course.{LeavesAlone};
-ghost use Rattle.local_run.specs.Jobs.{ReadsOver};
+ghost use Rattle.local_run.specs.Jobs.{IsRefusedDamage, IsWholeInput, ReadsOver};
 
 use crate::inputs::read_inputs;
 use desk::{Attempt, Desk, InputRefused, Terms};
@@ -34,6 +34,9 @@ pub(crate) fn job_for<F: Commands, S: Site, T: Terms>(
     ensures due { IfOk result (λ job. S.tells → T.kept → T.trust → (row : Rule)
         → slice_get desk.old.plan.rules attempt.now.rule.0 ≡ Some row
         → job ≡ job_of desk.old.plan row (serial desk.old.plan F.gives T.sources)) }
+    ensures damage { IfErr result (λ why. S.tells → IsRefusedDamage desk.new.plan
+        (records_of desk.new.moves) (S.files desk.new.site) why) }
+    ensures whole { IfErr result (λ why. S.tells → T.kept → IsWholeInput why) }
     ensures others { S.tells → LeavesAlone S.files S.may_leave S.moment S.images_since
         (λ _. Unit {0}) desk.old.site desk.new.site }
 {

@@ -15,15 +15,18 @@ ghost use Rattle.file_store.specs.Outputs.{file_name};
 ghost use Rattle.desk.specs.Kept.{IsLegal, Keeps, ReadsStay, StaysBeside};
 ghost use Rattle.log_recover.specs.declared.fault.RecoverFault.TheVariants as faults;
 ghost use Rattle.log_recover.specs.Recovery.{IsRecovering};
+ghost use Rattle.local_run.specs.Completing.{HasRecordRoom, SerialInputsFit};
 ghost use Rattle.local_run.specs.Course.{IsUnmade, TellsJobs};
+ghost use Rattle.local_run.specs.Ends.{FitsHere, HasFailed, IsDone, IsRunEnd, IsSureEnd};
+ghost use Rattle.local_run.specs.Ends.{IsWholeRun, LogsFailures, RunDamage, StartEnds, run_fault};
 ghost use Rattle.local_run.specs.Moments.{IsMoment, IsResumable, IsUnread, KeepsSome};
 ghost use Rattle.local_run.specs.Runs.{BeginsWith, HasCauses, Held, IsAdmitted, IsClosedRun};
 ghost use Rattle.local_run.specs.Runs.{IsCutRun, IsSparedName, LosesNone, SerialFits};
 ghost use Rattle.local_run.specs.Runs.{read_sources};
 
+use crate::Born;
 use crate::ended::{ResumeRefused, RunEnded};
 use crate::runs::run;
-use crate::Born;
 use flow_types::{Name, Plan};
 use log_recover::{files_spell_one_list, recover};
 use outside::{Clock, Commands, Runner, Site};
@@ -97,6 +100,29 @@ pub fn resume<F: Commands, S: Site, R: Runner<F>, C: Clock, B: Born>(
         → IsResumable Held plan «name» H (S.may_leave site) → (IsCutRun ended.how → ⊥)
         → (image : Files) → IsImage (S.may_leave ended.site) image
         → Keeps Held plan «name» ended.records image) }
+    ensures starts { IfOk result (λ ended. S.tells → (H : List RecordValue)
+        → Spells H (S.files site «name»)
+        → StartEnds (run_fault plan options H (S.files site)) ended.how) }
+    ensures closed { IfOk result (λ ended. FitsHere plan options → IfOk ended.how IsRunEnd) }
+    ensures damage { IfOk result (λ ended. S.tells
+        → RunDamage plan ended.records (S.files ended.site) ended.how) }
+    ensures whole { IfOk result (λ ended. S.tells → (H : List RecordValue)
+        → Spells H (S.files site «name»)
+        → IsResumable Held plan «name» H (S.may_leave site) → IsWholeRun ended.how) }
+    ensures sure { IfOk result (λ ended. R.sure runner.old → IsSureEnd ended.how) }
+    ensures failed { IfOk result (λ ended.
+        HasFailed (R.failures runner.old) (R.failures runner.new) ended.how) }
+    ensures failures { IfOk result (λ ended. IsClosedRun ended.how → S.tells
+        → (H : List RecordValue) → Spells H (S.files site «name»)
+        → LogsFailures H ended.records (R.failures runner.old) (R.failures runner.new)) }
+    ensures completes { IfOk result (λ ended. S.tells → (H : List RecordValue)
+        → Spells H (S.files site «name»)
+        → let sources = read_sources plan (S.files site) in
+        IsResumable (SerialFits F.gives sources) plan «name» H (S.may_leave site)
+        → TellsJobs plan (R.tells runner.old) (serial plan F.gives sources)
+        → FitsHere plan options → SerialInputsFit plan F.gives sources
+        → HasRecordRoom plan H → run_fault plan options H (S.files site) ≡ None
+        → R.sure runner.old → S.count ended.site ≤ S.count site → IsDone ended.how) }
 {
     files_spell_one_list();
     let mut site = site;

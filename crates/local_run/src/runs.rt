@@ -1,10 +1,12 @@
 //! A run over a log, from its start to its end.
-ghost use Rattle.std.specs.Prelude.{◌≡◌, ◌≢◌, ◌≤◌, ◌⊎◌, ℕ, List, length, IfOk, OnOk, None, true};
+ghost use Rattle.std.specs.Prelude.{◌≡◌, ◌≢◌, ◌≤◌, ◌+◌, ◌⊎◌, ℕ, List, length, IfOk, OnOk, None};
+ghost use Rattle.std.specs.Prelude.{true};
 ghost use Rattle.flow_types.specs.Plans.{IsValid, is_empty, is_source};
 ghost use Rattle.flow_types.specs.Serial.{serial};
 ghost use Rattle.run_history.specs.declared.options.Mode.TheVariants.{Never};
 ghost use Rattle.run_history.specs.Answers.{before_end, end_over};
 ghost use Rattle.run_history.specs.History.{part, since_opening};
+ghost use Rattle.run_history.specs.Legal.{most_records};
 ghost use Rattle.run_history.specs.Links.{records_of};
 ghost use Rattle.run_history.specs.Spent.{SpentOnce};
 ghost use Rattle.run_history.specs.Storage.{running_rules};
@@ -14,7 +16,11 @@ ghost use Rattle.txn_log.specs.Logs.{IsAt};
 ghost use Rattle.file_store.specs.Outputs.{file_name};
 ghost use Rattle.desk.specs.Kept.{Fits, IsLegal, Keeps, ReadsStay, StaysBeside, WasKept};
 ghost use Rattle.desk.specs.State.{IsFine, Takes};
+ghost use Rattle.local_run.specs.Completing.{HasRecordRoom, SerialInputsFit};
 ghost use Rattle.local_run.specs.Course.{IsUnmade, LeavesAlone, TellsJobs};
+ghost use Rattle.local_run.specs.Ends.{FitsHere, HasFailed, IsApart, IsCompleteEnd, IsDone};
+ghost use Rattle.local_run.specs.Ends.{IsFresh, IsRunEnd, IsSureEnd, IsWholeRun, LogsFailures};
+ghost use Rattle.local_run.specs.Ends.{RunDamage, StartEnds, records_due, run_fault};
 ghost use Rattle.local_run.specs.Runs.{Adds, BeginsWith, HasCauses, Held, IsAdmitted, IsClosedRun};
 ghost use Rattle.local_run.specs.Runs.{IsCutRun, IsKeeping, IsSparedName, IsStanding, LosesNone};
 ghost use Rattle.local_run.specs.Runs.{SerialFits, ended_by, read_sources};
@@ -49,6 +55,8 @@ fn run_desk<F: Commands, S: Site, R: Runner<F>, C: Clock, T: Terms>(
     requires valid { IsValid desk.plan }
     requires fine { IsFine desk.trouble }
     requires unset { desk.stop ≡ None }
+    requires fresh { IsFresh (records_of desk.moves) }
+    requires never { desk.options.mode ≡ Never }
     requires idle { length (running_rules desk.plan (records_of desk.moves)) ≤ 0 }
     requires base { T.trust → S.tells × T.kept
         × TellsJobs desk.plan (R.tells runner.old) (serial desk.plan F.gives T.sources) }
@@ -71,6 +79,19 @@ fn run_desk<F: Commands, S: Site, R: Runner<F>, C: Clock, T: Terms>(
     ensures now { S.tells → T.kept → (IsCutRun result.how → ⊥)
         → (image : Files) → IsImage (S.may_leave result.site) image
         → Keeps (Fits T.trust F.gives T.sources) desk.plan desk.log result.records image }
+    ensures starts { StartEnds None result.how }
+    ensures ending { FitsHere desk.plan desk.options → IfOk result.how IsRunEnd }
+    ensures damage { S.tells → IsApart desk.plan desk.log
+        → RunDamage desk.plan result.records (S.files result.site) result.how }
+    ensures whole { S.tells → T.kept → IsWholeRun result.how }
+    ensures sure { R.sure runner.old → IsSureEnd result.how }
+    ensures failed { HasFailed (R.failures runner.old) (R.failures runner.new) result.how }
+    ensures failures { IsClosedRun result.how → LogsFailures (records_of desk.moves)
+        result.records (R.failures runner.old) (R.failures runner.new) }
+    ensures completes { FitsHere desk.plan desk.options → S.tells → T.kept → T.trust
+        → SerialInputsFit desk.plan F.gives T.sources → R.sure runner.old
+        → records_due desk.plan (records_of desk.moves) + 1 ≤ most_records
+        → IfOk result.how IsCompleteEnd }
 {
     let mut desk = desk;
     let how = ended_by(work(alloc, &mut desk, runner, clock));
@@ -125,6 +146,19 @@ fn run_by<F: Commands, S: Site, R: Runner<F>, C: Clock, T: Terms>(
     ensures now { S.tells → T.kept → (IsCutRun result.how → ⊥)
         → (image : Files) → IsImage (S.may_leave result.site) image
         → Keeps (Fits T.trust F.gives T.sources) plan log.name result.records image }
+    ensures starts { S.tells
+        → StartEnds (run_fault plan options history (S.files site)) result.how }
+    ensures ending { FitsHere plan options → IfOk result.how IsRunEnd }
+    ensures damage { S.tells
+        → RunDamage plan result.records (S.files result.site) result.how }
+    ensures whole { S.tells → T.kept → IsWholeRun result.how }
+    ensures sure { R.sure runner.old → IsSureEnd result.how }
+    ensures failed { HasFailed (R.failures runner.old) (R.failures runner.new) result.how }
+    ensures failures { IsClosedRun result.how → LogsFailures history result.records
+        (R.failures runner.old) (R.failures runner.new) }
+    ensures completes { FitsHere plan options → S.tells → T.kept → T.trust
+        → SerialInputsFit plan F.gives T.sources → HasRecordRoom plan history
+        → R.sure runner.old → IfOk result.how IsCompleteEnd }
 {
     match Desk::<F, S, T>::start(alloc, plan, site, log, history, options, clock.now()) {
         Ok(desk) => run_desk(alloc, desk, runner, clock),
@@ -195,6 +229,24 @@ pub fn run<F: Commands, S: Site, R: Runner<F>, C: Clock, B: Born>(
         IsStanding F.gives sources plan log.name history (S.may_leave site)
         → TellsJobs plan (R.tells runner.old) (serial plan F.gives sources)
         → Adds (Unit {0}) F.gives F.may_fail sources plan history result.records }
+    ensures starts { S.tells
+        → StartEnds (run_fault plan options history (S.files site)) result.how }
+    ensures closed { FitsHere plan options → IfOk result.how IsRunEnd }
+    ensures damage { S.tells
+        → RunDamage plan result.records (S.files result.site) result.how }
+    ensures whole { S.tells → IsKeeping plan log.name history (S.may_leave site)
+        → IsWholeRun result.how }
+    ensures sure { R.sure runner.old → IsSureEnd result.how }
+    ensures failed { HasFailed (R.failures runner.old) (R.failures runner.new) result.how }
+    ensures failures { IsClosedRun result.how → LogsFailures history result.records
+        (R.failures runner.old) (R.failures runner.new) }
+    ensures completes { S.tells
+        → let sources = read_sources plan (S.files site) in
+        IsStanding F.gives sources plan log.name history (S.may_leave site)
+        → TellsJobs plan (R.tells runner.old) (serial plan F.gives sources)
+        → FitsHere plan options → SerialInputsFit plan F.gives sources
+        → HasRecordRoom plan history → run_fault plan options history (S.files site) ≡ None
+        → R.sure runner.old → S.count result.site ≤ S.count site → IsDone result.how }
 {
     run_by::<F, S, R, C, Brand>(alloc, plan, site, log, history, options, runner, clock)
 }

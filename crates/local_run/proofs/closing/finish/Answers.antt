@@ -5,13 +5,14 @@ use Rattle.desk.specs.declared.answers.CloseRefused.{CloseRefused}
 use Rattle.desk.specs.State.{Closes}
 use Rattle.local_run.proofs.Alone.{outputs_alone}
 use Rattle.local_run.proofs.Closings.{closes_goes, is_broken, none_runs, done_closes}
+use Rattle.local_run.proofs.Logging.{closes_logs}
 use Rattle.local_run.proofs.closing.finish.Goals as goal
 
 pub returns-in-Ok-clause-goes : goal.returns-in-Ok-clause-goes
 returns-in-Ok-clause-goes g c =
     let d = c.args.desk.now in
     closes_goes g.T.Terms.trust g.F.Commands.gives g.F.Commands.may_fail g.T.Terms.sources g.S.Site.tells g.S.Site.files g.S.Site.may_leave g.S.Site.moment g.S.Site.images_since g.S.Site.count d d d.stop c.args.attempt.rule c.args.attempt.number c.args.attempt.link
-    (records.Done c.args.moment c.args.attempt.rule c.args.attempt.number (map logged c.args.outs.now)) _ c.finish.new.self refl (λ trusted. tt) (λ none. none) (λ none. refl)
+    (records.Done c.args.moment c.args.attempt.rule c.args.attempt.number (map logged c.args.outs.now)) _ c.finish.new.self refl (λ trusted. tt) (λ none. none) (λ none. refl) refl
     (λ told. outputs_alone g.S.Site.files g.S.Site.may_leave g.S.Site.moment g.S.Site.images_since d.plan d.log c.args.attempt.rule.0 d.site c.finish.new.self.site c.requires.valid (c.finish.ensures.others told) (c.finish.ensures.reads told))
     c.finish.ensures.reply
 
@@ -19,7 +20,7 @@ pub returns-in-Err-Broken-clause-goes : goal.returns-in-Err-Broken-clause-goes
 returns-in-Err-Broken-clause-goes g c =
     let d = c.args.desk.now in
     closes_goes g.T.Terms.trust g.F.Commands.gives g.F.Commands.may_fail g.T.Terms.sources g.S.Site.tells g.S.Site.files g.S.Site.may_leave g.S.Site.moment g.S.Site.images_since g.S.Site.count d d d.stop c.args.attempt.rule c.args.attempt.number c.args.attempt.link
-    (records.Done c.args.moment c.args.attempt.rule c.args.attempt.number (map logged c.args.outs.now)) _ c.finish.new.self refl (λ trusted. tt) (λ none. none) (λ none. refl)
+    (records.Done c.args.moment c.args.attempt.rule c.args.attempt.number (map logged c.args.outs.now)) _ c.finish.new.self refl (λ trusted. tt) (λ none. none) (λ none. refl) refl
     (λ told. outputs_alone g.S.Site.files g.S.Site.may_leave g.S.Site.moment g.S.Site.images_since d.plan d.log c.args.attempt.rule.0 d.site c.finish.new.self.site c.requires.valid (c.finish.ensures.others told) (c.finish.ensures.reads told))
     c.finish.ensures.reply
 
@@ -27,7 +28,7 @@ pub returns-in-Err-Memory-clause-goes : goal.returns-in-Err-Memory-clause-goes
 returns-in-Err-Memory-clause-goes g c =
     let d = c.args.desk.now in
     closes_goes g.T.Terms.trust g.F.Commands.gives g.F.Commands.may_fail g.T.Terms.sources g.S.Site.tells g.S.Site.files g.S.Site.may_leave g.S.Site.moment g.S.Site.images_since g.S.Site.count d d d.stop c.args.attempt.rule c.args.attempt.number c.args.attempt.link
-    (records.Done c.args.moment c.args.attempt.rule c.args.attempt.number (map logged c.args.outs.now)) _ c.finish.new.self refl (λ trusted. tt) (λ none. none) (λ none. refl)
+    (records.Done c.args.moment c.args.attempt.rule c.args.attempt.number (map logged c.args.outs.now)) _ c.finish.new.self refl (λ trusted. tt) (λ none. none) (λ none. refl) refl
     (λ told. outputs_alone g.S.Site.files g.S.Site.may_leave g.S.Site.moment g.S.Site.images_since d.plan d.log c.args.attempt.rule.0 d.site c.finish.new.self.site c.requires.valid (c.finish.ensures.others told) (c.finish.ensures.reads told))
     c.finish.ensures.reply
 
@@ -43,3 +44,18 @@ returns-in-Err-Broken-clause-halts g c =
     is_broken g.S.Site.count c.args.desk.now _ _ c.finish.new.self
     (subst (λ (w : CloseRefused). Closes g.S.Site.count c.args.desk.now c.args.attempt.rule c.args.attempt.number c.args.attempt.link
     (records.Done c.args.moment c.args.attempt.rule c.args.attempt.number (map logged c.args.outs.now)) (Err w) c.finish.new.self) c.in-Err-Broken.field-0-is c.in-Err-Broken.ensures.reply)
+
+pub returns-in-Ok-clause-logs : goal.returns-in-Ok-clause-logs
+returns-in-Ok-clause-logs g c fine =
+    let d = c.args.desk.now in
+    closes_logs g.S.Site.count d d d.stop c.args.attempt.rule c.args.attempt.number c.args.attempt.link (records.Done c.args.moment c.args.attempt.rule c.args.attempt.number (map logged c.args.outs.now)) _ c.finish.new.self refl c.requires.runs c.finish.ensures.reply fine
+
+pub returns-in-Err-Broken-clause-logs : goal.returns-in-Err-Broken-clause-logs
+returns-in-Err-Broken-clause-logs g c fine =
+    let d = c.args.desk.now in
+    closes_logs g.S.Site.count d d d.stop c.args.attempt.rule c.args.attempt.number c.args.attempt.link (records.Done c.args.moment c.args.attempt.rule c.args.attempt.number (map logged c.args.outs.now)) _ c.finish.new.self refl c.requires.runs c.finish.ensures.reply fine
+
+pub returns-in-Err-Memory-clause-logs : goal.returns-in-Err-Memory-clause-logs
+returns-in-Err-Memory-clause-logs g c fine =
+    let d = c.args.desk.now in
+    closes_logs g.S.Site.count d d d.stop c.args.attempt.rule c.args.attempt.number c.args.attempt.link (records.Done c.args.moment c.args.attempt.rule c.args.attempt.number (map logged c.args.outs.now)) _ c.finish.new.self refl c.requires.runs c.finish.ensures.reply fine

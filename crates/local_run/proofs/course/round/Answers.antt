@@ -1,9 +1,17 @@
-use Rattle.std.proofs.Common.{Ok, arith, refl, subst}
+use Rattle.std.proofs.Common.{◌≡◌, ◌+◌, ◌∙◌, Ok, ap, arith, refl, subst}
+use Rattle.flow_types.specs.declared.plan.Plan.{Plan}
+use Rattle.run_history.specs.Answers.{has_ended}
+use Rattle.run_history.specs.Laws.{started_as}
+use Rattle.run_history.specs.Links.{records_of}
 use Rattle.desk.specs.declared.answers.Claim.{Claim}
 use Rattle.desk.specs.Claims.{Claims}
 use Rattle.local_run.proofs.Alone.{log_alone}
 use Rattle.local_run.proofs.Claimed.{claim_breaks, claim_goes, claim_idle, taken, taken_goes, taken_longer}
 use Rattle.local_run.proofs.Results.{longer}
+use Rattle.local_run.specs.Ends.{records_due}
+use Rattle.local_run.proofs.Failures.{logs_plain, logs_same, logs_then}
+use Rattle.local_run.proofs.Fresh.{due_more, unended_by}
+use Rattle.local_run.proofs.Logging.{nothing_due, nothing_same, refused_same, taken_logs, taken_plan}
 use Rattle.local_run.proofs.Going.{goes_on}
 use Rattle.local_run.proofs.course.round.Goals as goal
 
@@ -72,3 +80,88 @@ returns-in-Ok-clause-grew g c ran =
     let one = taken_longer g.S.Site.count d c.claim.new.self c.in-Ok-Taken.attempt (record { 0 = 0 }) c.now.result reply in
     let more = longer g.T.Terms.trust g.F.Commands.gives g.F.Commands.may_fail g.T.Terms.sources g.S.Site.tells g.S.Site.files g.S.Site.may_leave g.S.Site.moment g.S.Site.images_since c.claim.new.self c.run_attempt.new.desk c.run_attempt.ensures.goes in
     omega (arith, one, more)
+
+pub returns-in-Ok-clause-failures : goal.returns-in-Ok-clause-failures
+returns-in-Ok-clause-failures g c fine =
+    let d = c.args.desk.now in
+    let reply = subst (λ (w : Claim). Claims g.S.Site.count d (record { 0 = 0 }) c.now.result (Ok w) c.claim.new.self) c.in-Ok-Taken.field-0-is c.in-Ok-Taken.ensures.reply in
+    let x = started_as d.moves c.in-Ok-Taken.attempt.rule c.now.result (record { 0 = 0 }) in
+    let are = taken_logs g.S.Site.count d c.claim.new.self c.in-Ok-Taken.attempt (record { 0 = 0 }) c.now.result reply in
+    logs_then (records_of d.moves) (records_of c.claim.new.self.moves) (records_of c.run_attempt.new.desk.moves) _ _ _ (logs_plain (records_of d.moves) (records_of c.claim.new.self.moves) x _ _ are refl refl) (c.run_attempt.ensures.failures fine)
+
+pub returns-in-Ok-clause-unended : goal.returns-in-Ok-clause-unended
+returns-in-Ok-clause-unended g c fine unended =
+    let d = c.args.desk.now in
+    let reply = subst (λ (w : Claim). Claims g.S.Site.count d (record { 0 = 0 }) c.now.result (Ok w) c.claim.new.self) c.in-Ok-Taken.field-0-is c.in-Ok-Taken.ensures.reply in
+    let x = started_as d.moves c.in-Ok-Taken.attempt.rule c.now.result (record { 0 = 0 }) in
+    let are = taken_logs g.S.Site.count d c.claim.new.self c.in-Ok-Taken.attempt (record { 0 = 0 }) c.now.result reply in
+    c.run_attempt.ensures.unended fine (unended_by (records_of d.moves) (records_of c.claim.new.self.moves) x are refl refl refl unended)
+
+pub returns-in-Err-clause-failures : goal.returns-in-Err-clause-failures
+returns-in-Err-clause-failures g c fine =
+    let d = c.args.desk.now in
+    let reply = subst (λ (w : Claim). Claims g.S.Site.count d (record { 0 = 0 }) c.now.result (Ok w) c.claim.new.self) c.in-Ok-Taken.field-0-is c.in-Ok-Taken.ensures.reply in
+    let x = started_as d.moves c.in-Ok-Taken.attempt.rule c.now.result (record { 0 = 0 }) in
+    let are = taken_logs g.S.Site.count d c.claim.new.self c.in-Ok-Taken.attempt (record { 0 = 0 }) c.now.result reply in
+    logs_then (records_of d.moves) (records_of c.claim.new.self.moves) (records_of c.run_attempt.new.desk.moves) _ _ _ (logs_plain (records_of d.moves) (records_of c.claim.new.self.moves) x _ _ are refl refl) (c.run_attempt.ensures.failures fine)
+
+pub returns-in-Err-clause-unended : goal.returns-in-Err-clause-unended
+returns-in-Err-clause-unended g c fine unended =
+    let d = c.args.desk.now in
+    let reply = subst (λ (w : Claim). Claims g.S.Site.count d (record { 0 = 0 }) c.now.result (Ok w) c.claim.new.self) c.in-Ok-Taken.field-0-is c.in-Ok-Taken.ensures.reply in
+    let x = started_as d.moves c.in-Ok-Taken.attempt.rule c.now.result (record { 0 = 0 }) in
+    let are = taken_logs g.S.Site.count d c.claim.new.self c.in-Ok-Taken.attempt (record { 0 = 0 }) c.now.result reply in
+    c.run_attempt.ensures.unended fine (unended_by (records_of d.moves) (records_of c.claim.new.self.moves) x are refl refl refl unended)
+
+pub returns-in-Ok-clause-due : goal.returns-in-Ok-clause-due
+returns-in-Ok-clause-due g c sure =
+    let d = c.args.desk.now in
+    let reply = subst (λ (w : Claim). Claims g.S.Site.count d (record { 0 = 0 }) c.now.result (Ok w) c.claim.new.self) c.in-Ok-Taken.field-0-is c.in-Ok-Taken.ensures.reply in
+    let x = started_as d.moves c.in-Ok-Taken.attempt.rule c.now.result (record { 0 = 0 }) in
+    let are = taken_logs g.S.Site.count d c.claim.new.self c.in-Ok-Taken.attempt (record { 0 = 0 }) c.now.result reply in
+    let less = c.in-Ok.ensures.due sure in
+    let more : records_due c.claim.new.self.plan (records_of c.claim.new.self.moves) ≡ records_due d.plan (records_of d.moves) + 1 =
+    ap (λ (P : Plan). records_due P (records_of c.claim.new.self.moves)) (taken_plan g.S.Site.count d c.claim.new.self c.in-Ok-Taken.attempt (record { 0 = 0 }) c.now.result reply)
+    ∙ ap (records_due d.plan) are ∙ due_more d.plan (records_of d.moves) x refl (λ r. refl) in
+    omega (arith, less, more)
+
+pub returns-in-Ok-Nothing-clause-failures : goal.returns-in-Ok-Nothing-clause-failures
+returns-in-Ok-Nothing-clause-failures g c fine =
+    let reply = subst (λ (w : Claim). Claims g.S.Site.count c.args.desk.now (record { 0 = 0 }) c.now.result (Ok w) c.claim.new.self) c.in-Ok-Nothing.field-0-is c.in-Ok-Nothing.ensures.reply in
+    logs_same (records_of c.args.desk.now.moves) (records_of c.claim.new.self.moves) _ (nothing_same g.S.Site.count c.args.desk.now c.claim.new.self (record { 0 = 0 }) c.now.result _ reply)
+
+pub returns-in-Ok-Nothing-clause-unended : goal.returns-in-Ok-Nothing-clause-unended
+returns-in-Ok-Nothing-clause-unended g c fine unended =
+    let reply = subst (λ (w : Claim). Claims g.S.Site.count c.args.desk.now (record { 0 = 0 }) c.now.result (Ok w) c.claim.new.self) c.in-Ok-Nothing.field-0-is c.in-Ok-Nothing.ensures.reply in
+    ap has_ended (nothing_same g.S.Site.count c.args.desk.now c.claim.new.self (record { 0 = 0 }) c.now.result _ reply) ∙ unended
+
+pub returns-in-Ok-Nothing-clause-due : goal.returns-in-Ok-Nothing-clause-due
+returns-in-Ok-Nothing-clause-due g c sure =
+    let reply = subst (λ (w : Claim). Claims g.S.Site.count c.args.desk.now (record { 0 = 0 }) c.now.result (Ok w) c.claim.new.self) c.in-Ok-Nothing.field-0-is c.in-Ok-Nothing.ensures.reply in
+    let same = nothing_due g.S.Site.count c.args.desk.now c.claim.new.self (record { 0 = 0 }) c.now.result _ reply in
+    omega (arith, same)
+
+pub returns-in-Ok-Nothing-clause-sure : goal.returns-in-Ok-Nothing-clause-sure
+returns-in-Ok-Nothing-clause-sure g c sure = record { still = sure; none = refl }
+
+pub returns-in-Err-Broken-clause-failures : goal.returns-in-Err-Broken-clause-failures
+returns-in-Err-Broken-clause-failures g c fine =
+    logs_same (records_of c.args.desk.now.moves) (records_of c.claim.new.self.moves) _ (refused_same g.S.Site.count c.args.desk.now c.claim.new.self (record { 0 = 0 }) c.now.result _ c.in-Err-Broken.ensures.reply fine)
+
+pub returns-in-Err-Broken-clause-unended : goal.returns-in-Err-Broken-clause-unended
+returns-in-Err-Broken-clause-unended g c fine unended =
+    ap has_ended (refused_same g.S.Site.count c.args.desk.now c.claim.new.self (record { 0 = 0 }) c.now.result _ c.in-Err-Broken.ensures.reply fine) ∙ unended
+
+pub returns-in-Err-Broken-clause-sure : goal.returns-in-Err-Broken-clause-sure
+returns-in-Err-Broken-clause-sure g c sure = record { still = sure; none = refl }
+
+pub returns-in-Err-Memory-clause-failures : goal.returns-in-Err-Memory-clause-failures
+returns-in-Err-Memory-clause-failures g c fine =
+    logs_same (records_of c.args.desk.now.moves) (records_of c.claim.new.self.moves) _ (refused_same g.S.Site.count c.args.desk.now c.claim.new.self (record { 0 = 0 }) c.now.result _ c.in-Err-Memory.ensures.reply fine)
+
+pub returns-in-Err-Memory-clause-unended : goal.returns-in-Err-Memory-clause-unended
+returns-in-Err-Memory-clause-unended g c fine unended =
+    ap has_ended (refused_same g.S.Site.count c.args.desk.now c.claim.new.self (record { 0 = 0 }) c.now.result _ c.in-Err-Memory.ensures.reply fine) ∙ unended
+
+pub returns-in-Err-Memory-clause-sure : goal.returns-in-Err-Memory-clause-sure
+returns-in-Err-Memory-clause-sure g c sure = record { still = sure; none = refl }

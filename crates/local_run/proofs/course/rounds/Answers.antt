@@ -9,6 +9,7 @@ use Rattle.flow_types.specs.Plans.{IsValid}
 use Rattle.flow_types.specs.Serial.{serial}
 use Rattle.local_run.specs.Course.{IsUnmade, TellsJobs}
 use Rattle.local_run.proofs.Alone.{alone_same}
+use Rattle.local_run.proofs.Failures.{logs_then, sure_then}
 use Rattle.local_run.proofs.Going.{goes_on, stays}
 use Rattle.local_run.proofs.Outputs.{halts_later}
 use Rattle.local_run.proofs.course.rounds.Goals as goal
@@ -45,6 +46,11 @@ rounds-init g c = record {
   idle = c.requires.idle;
   tells = λ job told. told;
   later = omega arith;
+  risen = omega arith;
+  sure = λ sure. record { still = sure; none = refl };
+  failures = refl;
+  unended = λ unended. unended;
+  due = λ sure. omega arith;
 }
 
 pub rounds-preserved : goal.rounds-preserved
@@ -56,6 +62,11 @@ rounds-preserved g c = record {
   idle = c.round.ensures.idle c.in-Ok-true.ensures.closed.0;
   tells = λ job told. c.round.ensures.tells job (c.rounds.invariant.tells job told);
   later = omega (arith, c.rounds.invariant.later, c.round.ensures.later);
+  risen = omega (arith, c.rounds.invariant.risen, c.round.ensures.risen);
+  sure = λ sure. sure_then _ _ _ _ _ (c.rounds.invariant.sure sure) (c.round.ensures.sure (c.rounds.invariant.sure sure).still);
+  failures = logs_then (records_of c.args.desk.now.moves) (records_of c.rounds.desk.moves) (records_of c.round.new.desk.moves) _ _ _ c.rounds.invariant.failures (c.round.ensures.failures c.in-Ok-true.ensures.closed.0);
+  unended = λ unended. c.round.ensures.unended c.in-Ok-true.ensures.closed.0 (c.rounds.invariant.unended unended);
+  due = λ sure. let less = c.in-Ok-true.ensures.due (c.rounds.invariant.sure sure).still in let few = c.rounds.invariant.due sure in omega (arith, less, few);
 }
 
 pub unreachable-requires : goal.unreachable-requires
@@ -64,3 +75,36 @@ unreachable-requires g c =
     let many = c.rounds.invariant.grew in
     let few = leb-true (length (records_of d.moves) + length (running_rules d.plan (records_of d.moves)) + (if has_ended (records_of d.moves) then 0 else 1)) 1000000 c.works-works.ensures.places in
     omega (arith, many, few)
+
+pub returns-in-Ok-false-clause-sure : goal.returns-in-Ok-false-clause-sure
+returns-in-Ok-false-clause-sure g c sure = sure_then _ _ _ _ _ (c.rounds.invariant.sure sure) (c.round.ensures.sure (c.rounds.invariant.sure sure).still)
+
+pub returns-in-Ok-false-clause-risen : goal.returns-in-Ok-false-clause-risen
+returns-in-Ok-false-clause-risen g c = let first = c.rounds.invariant.risen in let more = c.round.ensures.risen in omega (arith, first, more)
+
+pub returns-in-Ok-false-clause-failures : goal.returns-in-Ok-false-clause-failures
+returns-in-Ok-false-clause-failures g c fine =
+    logs_then (records_of c.args.desk.now.moves) (records_of c.rounds.desk.moves) (records_of c.round.new.desk.moves) _ _ _ c.rounds.invariant.failures (c.round.ensures.failures fine)
+
+pub returns-in-Ok-false-clause-unended : goal.returns-in-Ok-false-clause-unended
+returns-in-Ok-false-clause-unended g c fine unended = c.round.ensures.unended fine (c.rounds.invariant.unended unended)
+
+pub returns-in-Err-clause-sure : goal.returns-in-Err-clause-sure
+returns-in-Err-clause-sure g c sure = sure_then _ _ _ _ _ (c.rounds.invariant.sure sure) (c.round.ensures.sure (c.rounds.invariant.sure sure).still)
+
+pub returns-in-Err-clause-risen : goal.returns-in-Err-clause-risen
+returns-in-Err-clause-risen g c = let first = c.rounds.invariant.risen in let more = c.round.ensures.risen in omega (arith, first, more)
+
+pub returns-in-Err-clause-failures : goal.returns-in-Err-clause-failures
+returns-in-Err-clause-failures g c fine =
+    logs_then (records_of c.args.desk.now.moves) (records_of c.rounds.desk.moves) (records_of c.round.new.desk.moves) _ _ _ c.rounds.invariant.failures (c.round.ensures.failures fine)
+
+pub returns-in-Err-clause-unended : goal.returns-in-Err-clause-unended
+returns-in-Err-clause-unended g c fine unended = c.round.ensures.unended fine (c.rounds.invariant.unended unended)
+
+pub returns-in-Ok-false-clause-due : goal.returns-in-Ok-false-clause-due
+returns-in-Ok-false-clause-due g c sure =
+    let less = c.in-Ok-false.ensures.due (c.rounds.invariant.sure sure).still in let few = c.rounds.invariant.due sure in omega (arith, less, few)
+
+pub returns-in-Err-clause-never : goal.returns-in-Err-clause-never
+returns-in-Err-clause-never g c sure = c.in-Err.ensures.never (c.rounds.invariant.sure sure).still

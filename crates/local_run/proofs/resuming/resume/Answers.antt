@@ -1,13 +1,16 @@
-use Rattle.std.proofs.Common.{◌≡◌, ◌⊎◌, ⊎_elim, inl, inr, List, length, sym, subst}
+use Rattle.std.proofs.Common.{◌≡◌, ◌∙◌, arith, ◌⊎◌, ⊎_elim, inl, inr, List, length, sym, subst}
 use Rattle.flow_types.specs.Serial.{Contents, serial}
 use Rattle.file_store.specs.Outputs.{file_name}
 use Rattle.desk.specs.Kept.{WasKept}
+use Rattle.local_run.specs.Completing.{HasRecordRoom, SerialInputsFit}
 use Rattle.local_run.specs.Course.{TellsJobs}
+use Rattle.local_run.specs.Ends.{LogsFailures}
 use Rattle.local_run.specs.Moments.{IsMoment}
 use Rattle.flow_types.specs.declared.records.Record.{Record}
 use Rattle.txn_log.specs.Spells.{Spells}
 use Rattle.local_run.specs.Runs.{BeginsWith, Held, IsCutRun, IsStanding, LosesNone, SerialFits, read_sources}
 use Rattle.local_run.proofs.Results.{causes_since, on_ok}
+use Rattle.local_run.proofs.Starts.{fault_joined, starts_joined}
 use Rattle.local_run.proofs.Joining.{each_moment, goes_on_from, is_named, keeping, others_joined, reads_joined}
 use Rattle.local_run.proofs.resuming.resume.Goals as goal
 
@@ -64,3 +67,27 @@ returns-in-Ok-clause-reads g c told =
 
 pub returns-in-Err-clause-damaged : goal.returns-in-Err-clause-damaged
 returns-in-Err-clause-damaged g c told = c.in-Err.ensures.answer told
+
+pub returns-in-Ok-clause-starts : goal.returns-in-Ok-clause-starts
+returns-in-Ok-clause-starts g c told H spelled =
+    starts_joined c.args.plan c.args.options c.in-Ok.history H (g.S.Site.files c.args.site) (g.S.Site.files c.recover.new.site) c.run.result.how (c.in-Ok.ensures.exact told H spelled)
+    (λ f. c.recover.ensures.others told (file_name c.args.plan f) (c.requires.apart f)) (c.run.ensures.starts told)
+
+pub returns-in-Ok-clause-whole : goal.returns-in-Ok-clause-whole
+returns-in-Ok-clause-whole g c told H spelled resumable = c.run.ensures.whole told (keeping g.S.Site.may_leave g.S.Site.moment g.S.Site.images_since c.args.plan c.args.name c.in-Ok.log.name c.in-Ok.ensures.named.same_name c.in-Ok.history H (c.in-Ok.ensures.exact told H spelled) (g.S.Site.files c.args.site) c.args.site c.recover.new.site Held c.requires.apart c.files_spell_one_list.ensures.one ((g.met.S.Site g.world.𝓛 g.world.𝓜 g.world.𝓡 ((λ s x. x), (λ x. x), (λ x. x), λ x. x)).reads_image told c.args.site c.args.name) (c.in-Ok.ensures.answer told) (c.in-Ok.ensures.stands told).at.each (c.recover.ensures.crash told) resumable)
+
+pub returns-in-Ok-clause-failures : goal.returns-in-Ok-clause-failures
+returns-in-Ok-clause-failures g c closed told H spelled =
+    subst (λ (G : List Record). LogsFailures G c.run.result.records (g.R.Runner.failures c.args.runner.now) (g.R.Runner.failures c.run.new.runner)) (c.in-Ok.ensures.exact told H spelled) (c.run.ensures.failures closed)
+
+pub returns-in-Ok-clause-completes : goal.returns-in-Ok-clause-completes
+returns-in-Ok-clause-completes g c told H spelled resumable tells here fit room free sure stood =
+    let same : (read_sources c.args.plan (g.S.Site.files c.recover.new.site)) ≡ (read_sources c.args.plan (g.S.Site.files c.args.site)) = λ i f. (c.recover.ensures.others told (file_name c.args.plan f) (c.requires.apart f)) i in
+    let these : c.in-Ok.history ≡ H = c.in-Ok.ensures.exact told H spelled in
+    let later = c.recover.ensures.later in
+    c.run.ensures.completes told
+    (subst (λ (s : Contents). IsStanding g.F.Commands.gives s c.args.plan c.in-Ok.log.name c.in-Ok.history (g.S.Site.may_leave c.recover.new.site)) (sym same) (keeping g.S.Site.may_leave g.S.Site.moment g.S.Site.images_since c.args.plan c.args.name c.in-Ok.log.name c.in-Ok.ensures.named.same_name c.in-Ok.history H (c.in-Ok.ensures.exact told H spelled) (g.S.Site.files c.args.site) c.args.site c.recover.new.site (SerialFits g.F.Commands.gives (read_sources c.args.plan (g.S.Site.files c.args.site))) c.requires.apart c.files_spell_one_list.ensures.one ((g.met.S.Site g.world.𝓛 g.world.𝓜 g.world.𝓡 ((λ s x. x), (λ x. x), (λ x. x), λ x. x)).reads_image told c.args.site c.args.name) (c.in-Ok.ensures.answer told) (c.in-Ok.ensures.stands told).at.each (c.recover.ensures.crash told) resumable))
+    (subst (λ (s : Contents). TellsJobs c.args.plan (g.R.Runner.tells c.args.runner.now) (serial c.args.plan g.F.Commands.gives s)) (sym same) tells) here
+    (subst (λ (s : Contents). SerialInputsFit c.args.plan g.F.Commands.gives s) (sym same) fit) (subst (HasRecordRoom c.args.plan) (sym these) room)
+    (fault_joined c.args.plan c.args.options c.in-Ok.history H (g.S.Site.files c.args.site) (g.S.Site.files c.recover.new.site) these
+    (λ f. c.recover.ensures.others told (file_name c.args.plan f) (c.requires.apart f)) ∙ free) sure (omega (arith, later, stood))

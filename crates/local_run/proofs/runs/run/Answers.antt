@@ -3,6 +3,8 @@ use Rattle.flow_types.specs.Serial.{serial}
 use Rattle.desk.specs.Kept.{Fits}
 use Rattle.local_run.specs.Course.{TellsJobs}
 use Rattle.local_run.specs.Runs.{Held, IsCutRun, IsKeeping, IsStanding, SerialFits, read_sources}
+use Rattle.local_run.specs.Ends.{run_fault}
+use Rattle.local_run.proofs.Done.{all_done}
 use Rattle.local_run.proofs.Results.{closed_admitted, idle_spent}
 use Rattle.local_run.proofs.Fitting.{adds_always, keeps_fits, standing_keeps, trusted_keeps, was_fits}
 use Rattle.local_run.proofs.runs.run.Goals as goal
@@ -60,3 +62,16 @@ returns-clause-grows g c = (c.run_by.ensures.more.more, c.run_by.ensures.more.ar
 pub returns-clause-spent : goal.returns-clause-spent
 returns-clause-spent g c closed =
     idle_spent c.args.plan c.run_by.result.records (c.run_by.ensures.legal (closed_admitted c.run_by.result.how closed)) (c.run_by.ensures.idle closed)
+
+pub returns-clause-closed : goal.returns-clause-closed
+returns-clause-closed g c here = c.run_by.ensures.ending here
+
+pub returns-clause-whole : goal.returns-clause-whole
+returns-clause-whole g c told keeping = c.run_by.ensures.whole told keeping
+
+pub returns-clause-completes : goal.returns-clause-completes
+returns-clause-completes g c told standing tells here fit room free sure stood =
+    let keeping = (standing_keeps g.F.Commands.gives (read_sources c.args.plan (g.S.Site.files c.args.site)) c.args.plan c.args.log.name c.args.history (g.S.Site.may_leave c.args.site) standing) in
+    all_done (run_fault c.args.plan c.args.options c.args.history (g.S.Site.files c.args.site)) c.run_by.result.how (g.S.Site.count c.args.site) (g.S.Site.count c.run_by.result.site)
+    (g.R.Runner.count c.args.runner.now) (g.R.Runner.count c.run_by.new.runner) (c.run_by.ensures.starts told) free (c.run_by.ensures.whole told keeping) (c.run_by.ensures.sure sure) c.run_by.ensures.causes stood
+    (c.run_by.ensures.completes here told keeping (told, keeping, standing, tells) fit room sure)

@@ -1,4 +1,4 @@
-use Rattle.std.proofs.Common.{◌≡◌, ◌≢◌, ◌∙◌, ◌≤◌, ℕ, List, length, subst, sym}
+use Rattle.std.proofs.Common.{◌≡◌, ◌≢◌, ◌+◌, ◌∙◌, ◌≤◌, ℕ, List, Option, ap, length, refl, subst, sym}
 use Rattle.std.specs.Prelude.{IfOk, None}
 use Rattle.flow_types.specs.declared.records.Record.{Record}
 use Rattle.run_history.specs.declared.options.Options.{Options}
@@ -10,11 +10,17 @@ use Rattle.flow_types.specs.Plans.{IsValid}
 use Rattle.flow_types.specs.Serial.{serial}
 use Rattle.run_history.specs.Storage.{running_rules}
 use Rattle.desk.specs.Kept.{Fits, IsLegal}
+use Rattle.desk.specs.declared.answers.StartFault.{StartFault}
+use Rattle.local_run.specs.Completing.{SerialInputsFit}
 use Rattle.local_run.specs.Course.{IsUnmade, LeavesAlone, TellsJobs}
+use Rattle.local_run.specs.Ends.{FitsHere, IsApart, RunDamage, StartEnds, records_due}
 use Rattle.local_run.specs.Runs.{HasCauses, IsCutRun, LosesNone}
 use Rattle.local_run.proofs.Alone.{beside_less}
 use Rattle.local_run.proofs.Results.{closed_whole, on_ok}
-use Rattle.local_run.proofs.Started.{adds_more, adds_nothing, begun, begun_kept, begun_loses, begun_now, refused_causes, refused_kept, refused_legal, refused_now}
+use Rattle.local_run.proofs.Failures.{logs_plain, logs_then}
+use Rattle.local_run.proofs.Fresh.{has_room_due}
+use Rattle.local_run.proofs.Starts.{refused_ends, started_free}
+use Rattle.local_run.proofs.Started.{IsBegun, adds_more, adds_nothing, begun, begun_kept, begun_loses, begun_now, refused_causes, refused_kept, refused_legal, refused_now}
 use Rattle.local_run.proofs.runs.run_by.Goals as goal
 
 pub run_desk-requires-clause-valid : goal.run_desk-requires-clause-valid
@@ -118,3 +124,45 @@ returns-in-Err-clause-causes g c =
 
 pub run_desk-requires-clause-unset : goal.run_desk-requires-clause-unset
 run_desk-requires-clause-unset g c κs within = (begun g.S.Site.count c.args.plan c.args.options c.args.log.name c.args.history c.now.result g.S.Site.tells (g.S.Site.files c.args.site) c.args.site g.F.Commands.may_fail (serial c.args.plan g.F.Commands.gives g.T.Terms.sources) c.in-Ok.desk c.in-Ok.ensures.reply).unset
+
+pub run_desk-requires-clause-fresh : goal.run_desk-requires-clause-fresh
+run_desk-requires-clause-fresh g c κs within = (begun g.S.Site.count c.args.plan c.args.options c.args.log.name c.args.history c.now.result g.S.Site.tells (g.S.Site.files c.args.site) c.args.site g.F.Commands.may_fail (serial c.args.plan g.F.Commands.gives g.T.Terms.sources) c.in-Ok.desk c.in-Ok.ensures.reply).fresh c.requires.limit
+
+pub run_desk-requires-clause-never : goal.run_desk-requires-clause-never
+run_desk-requires-clause-never g c κs within = ap (λ (O : Options). O.mode) (begun g.S.Site.count c.args.plan c.args.options c.args.log.name c.args.history c.now.result g.S.Site.tells (g.S.Site.files c.args.site) c.args.site g.F.Commands.may_fail (serial c.args.plan g.F.Commands.gives g.T.Terms.sources) c.in-Ok.desk c.in-Ok.ensures.reply).options ∙ c.requires.mode
+
+pub returns-in-Ok-clause-starts : goal.returns-in-Ok-clause-starts
+returns-in-Ok-clause-starts g c told =
+    subst (λ (expected : Option StartFault). StartEnds expected c.run_desk.result.how)
+    (sym (started_free g.S.Site.count c.args.plan c.args.options c.args.history c.args.log.name c.now.result g.S.Site.tells (g.S.Site.files c.args.site) c.args.site c.in-Ok.desk c.in-Ok.ensures.reply told)) c.run_desk.ensures.starts
+
+pub returns-in-Err-clause-starts : goal.returns-in-Err-clause-starts
+returns-in-Err-clause-starts g c told uncut =
+    refused_ends g.S.Site.count c.args.plan c.args.options c.args.history g.S.Site.tells (g.S.Site.files c.args.site) c.args.site c.in-Err.refused.site c.in-Err.refused.why c.in-Err.ensures.reply.1 told uncut
+
+pub returns-in-Ok-clause-ending : goal.returns-in-Ok-clause-ending
+returns-in-Ok-clause-ending g c here =
+    let b : IsBegun (g.S.Site.count c.args.site) c.args.plan c.args.options c.args.log.name c.args.history g.F.Commands.may_fail (serial c.args.plan g.F.Commands.gives g.T.Terms.sources) c.in-Ok.desk = (begun g.S.Site.count c.args.plan c.args.options c.args.log.name c.args.history c.now.result g.S.Site.tells (g.S.Site.files c.args.site) c.args.site g.F.Commands.may_fail (serial c.args.plan g.F.Commands.gives g.T.Terms.sources) c.in-Ok.desk c.in-Ok.ensures.reply) in
+    c.run_desk.ensures.ending (subst (λ (P : Plan). FitsHere P c.in-Ok.desk.options) (sym b.plan) (subst (λ (O : Options). FitsHere c.args.plan O) (sym b.options) here))
+
+pub returns-in-Ok-clause-damage : goal.returns-in-Ok-clause-damage
+returns-in-Ok-clause-damage g c told =
+    let b : IsBegun (g.S.Site.count c.args.site) c.args.plan c.args.options c.args.log.name c.args.history g.F.Commands.may_fail (serial c.args.plan g.F.Commands.gives g.T.Terms.sources) c.in-Ok.desk = (begun g.S.Site.count c.args.plan c.args.options c.args.log.name c.args.history c.now.result g.S.Site.tells (g.S.Site.files c.args.site) c.args.site g.F.Commands.may_fail (serial c.args.plan g.F.Commands.gives g.T.Terms.sources) c.in-Ok.desk c.in-Ok.ensures.reply) in
+    subst (λ (P : Plan). RunDamage P c.run_desk.result.records (g.S.Site.files c.run_desk.result.site) c.run_desk.result.how) b.plan
+    (c.run_desk.ensures.damage told (subst (λ (P : Plan). IsApart P c.in-Ok.desk.log) (sym b.plan) (subst (λ (n : List ℕ). IsApart c.args.plan n) (sym b.log_is) c.requires.apart)))
+
+pub returns-in-Ok-clause-failures : goal.returns-in-Ok-clause-failures
+returns-in-Ok-clause-failures g c closed =
+    let b : IsBegun (g.S.Site.count c.args.site) c.args.plan c.args.options c.args.log.name c.args.history g.F.Commands.may_fail (serial c.args.plan g.F.Commands.gives g.T.Terms.sources) c.in-Ok.desk = (begun g.S.Site.count c.args.plan c.args.options c.args.log.name c.args.history c.now.result g.S.Site.tells (g.S.Site.files c.args.site) c.args.site g.F.Commands.may_fail (serial c.args.plan g.F.Commands.gives g.T.Terms.sources) c.in-Ok.desk c.in-Ok.ensures.reply) in
+    logs_then c.args.history (records_of c.in-Ok.desk.moves) c.run_desk.result.records _ _ _ (logs_plain c.args.history (records_of c.in-Ok.desk.moves) b.entry _ _ b.records b.failed refl) (c.run_desk.ensures.failures closed)
+
+pub returns-in-Err-clause-failures : goal.returns-in-Err-clause-failures
+returns-in-Err-clause-failures g c closed = absurd closed
+
+pub returns-in-Ok-clause-completes : goal.returns-in-Ok-clause-completes
+returns-in-Ok-clause-completes g c here told kept trusted fit room sure =
+    let b : IsBegun (g.S.Site.count c.args.site) c.args.plan c.args.options c.args.log.name c.args.history g.F.Commands.may_fail (serial c.args.plan g.F.Commands.gives g.T.Terms.sources) c.in-Ok.desk = (begun g.S.Site.count c.args.plan c.args.options c.args.log.name c.args.history c.now.result g.S.Site.tells (g.S.Site.files c.args.site) c.args.site g.F.Commands.may_fail (serial c.args.plan g.F.Commands.gives g.T.Terms.sources) c.in-Ok.desk c.in-Ok.ensures.reply) in
+    let due : records_due c.in-Ok.desk.plan (records_of c.in-Ok.desk.moves) ≡ records_due c.args.plan c.args.history + 1 =
+    ap (λ (P : Plan). records_due P (records_of c.in-Ok.desk.moves)) b.plan ∙ b.due in
+    c.run_desk.ensures.completes (subst (λ (P : Plan). FitsHere P c.in-Ok.desk.options) (sym b.plan) (subst (λ (O : Options). FitsHere c.args.plan O) (sym b.options) here)) told kept trusted
+    (subst (λ (P : Plan). SerialInputsFit P g.F.Commands.gives g.T.Terms.sources) (sym b.plan) fit) sure (has_room_due c.args.plan c.args.history _ due room)

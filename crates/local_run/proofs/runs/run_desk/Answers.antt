@@ -10,8 +10,11 @@ use Rattle.run_history.specs.Storage.{running_rules}
 use Rattle.desk.specs.Kept.{Fits, IsLegal, WasKept}
 use Rattle.local_run.specs.declared.ended.Stopped.{Stopped}
 use Rattle.local_run.specs.Course.{IsUnmade, LeavesAlone}
+use Rattle.local_run.specs.Ends.{HasFailed, IsApart, IsCompleteEnd, IsRunEnd, IsSureEnd, IsWholeRun, LogsFailures, RunDamage, StartEnds}
 use Rattle.local_run.specs.Runs.{HasCauses, IsCutRun, LosesNone, ended_by}
-use Rattle.local_run.proofs.Results.{adds_records, causes_run, ends_run, fine_run, is_kept, loses_none, was_kept}
+use Rattle.local_run.proofs.Done.{damage_ended, if_ended, sure_ended, whole_ended}
+use Rattle.local_run.proofs.Starts.{desk_starts}
+use Rattle.local_run.proofs.Results.{adds_records, causes_run, closed_whole, ends_run, fine_run, is_kept, loses_none, was_kept}
 use Rattle.local_run.proofs.runs.run_desk.Goals as goal
 
 pub returns-clause-more : goal.returns-clause-more
@@ -60,3 +63,46 @@ returns-clause-ends g c =
 pub returns-clause-others : goal.returns-clause-others
 returns-clause-others g c told =
     subst (λ (s : g.row.S.Denot). LeavesAlone g.S.Site.files g.S.Site.may_leave g.S.Site.moment g.S.Site.images_since (IsUnmade c.args.desk.plan c.args.desk.log) c.args.desk.site s) (sym c.into_parts-site.ensures.site) (c.work.ensures.goes.others told)
+
+pub returns-clause-starts : goal.returns-clause-starts
+returns-clause-starts g c = subst (λ (how : Result Check Stopped). StartEnds None how) (sym c.ended_by-how.ensures) (desk_starts c.work.result)
+
+pub returns-clause-ending : goal.returns-clause-ending
+returns-clause-ending g c here =
+    subst (λ (how : Result Check Stopped). IfOk how IsRunEnd) (sym c.ended_by-how.ensures)
+    (if_ended c.work.result IsRunEnd (c.work.ensures.ending c.requires.fresh c.requires.unset c.requires.never here))
+
+pub returns-clause-damage : goal.returns-clause-damage
+returns-clause-damage g c told apart =
+    let d = c.args.desk in
+    let new = c.work.new.desk in
+    subst (λ (how : Result Check Stopped). RunDamage d.plan c.into_parts-site.result.1 (g.S.Site.files c.into_parts-site.result.0) how) (sym c.ended_by-how.ensures)
+    (subst (λ (P : Plan). RunDamage P c.into_parts-site.result.1 (g.S.Site.files c.into_parts-site.result.0) (ended_by c.work.result)) c.work.ensures.goes.plan
+    (subst (λ (G : List Record). RunDamage new.plan G (g.S.Site.files c.into_parts-site.result.0) (ended_by c.work.result)) (sym c.into_parts-site.ensures.records)
+    (subst (λ (s : g.row.S.Denot). RunDamage new.plan (records_of new.moves) (g.S.Site.files s) (ended_by c.work.result)) (sym c.into_parts-site.ensures.site)
+    (damage_ended new.plan (records_of new.moves) (g.S.Site.files new.site) c.work.result g.S.Site.tells (IsApart new.plan new.log) c.work.ensures.damage told
+    (subst (λ (P : Plan). IsApart P new.log) (sym c.work.ensures.goes.plan) (subst (λ (n : List ℕ). IsApart d.plan n) (sym c.work.ensures.goes.log) apart))))))
+
+pub returns-clause-whole : goal.returns-clause-whole
+returns-clause-whole g c told kept = subst IsWholeRun (sym c.ended_by-how.ensures) (whole_ended c.work.result g.S.Site.tells g.T.Terms.kept c.work.ensures.whole told kept)
+
+pub returns-clause-sure : goal.returns-clause-sure
+returns-clause-sure g c sure =
+    subst IsSureEnd (sym c.ended_by-how.ensures)
+    (sure_ended c.work.result (g.R.Runner.sure c.args.runner.now) (g.R.Runner.failures c.args.runner.now) (g.R.Runner.failures c.work.new.runner) (c.work.ensures.failed c.requires.fresh c.requires.unset)
+    (c.work.ensures.sure sure).none c.work.ensures.never sure)
+
+pub returns-clause-failed : goal.returns-clause-failed
+returns-clause-failed g c =
+    subst (HasFailed (g.R.Runner.failures c.args.runner.now) (g.R.Runner.failures c.work.new.runner)) (sym c.ended_by-how.ensures) (c.work.ensures.failed c.requires.fresh c.requires.unset)
+
+pub returns-clause-failures : goal.returns-clause-failures
+returns-clause-failures g c closed =
+    subst (λ (G : List Record). LogsFailures (records_of c.args.desk.moves) G (g.R.Runner.failures c.args.runner.now) (g.R.Runner.failures c.work.new.runner)) (sym c.into_parts-site.ensures.records)
+    (c.work.ensures.failures (fine_run c.args.desk c.work.new.desk (g.R.Runner.count c.args.runner.now) (g.R.Runner.count c.work.new.runner) c.work.result c.work.ensures.halts c.work.ensures.closed
+    (subst (λ (how : Result Check Stopped). IsCutRun how → ⊥) c.ended_by-how.ensures (closed_whole c.ended_by-how.result closed))))
+
+pub returns-clause-completes : goal.returns-clause-completes
+returns-clause-completes g c here told kept trusted fit sure few =
+    subst (λ (how : Result Check Stopped). IfOk how IsCompleteEnd) (sym c.ended_by-how.ensures)
+    (if_ended c.work.result IsCompleteEnd (c.work.ensures.completes c.requires.fresh c.requires.unset c.requires.never here told kept trusted fit sure few))

@@ -1,0 +1,92 @@
+-- From the last claim of a run to its end.
+use Rattle.std.proofs.Common.{◌≡◌, ◌≤◌, ◌<◌, ◌+◌, ◌∙◌, ℕ, false, ◌++◌, length, Option, Some, None, Ok, Err, sym, ap, subst, arith}
+use Rattle.std.specs.Prelude.{filter, find}
+use Rattle.flow_types.specs.declared.plan.Plan.{Plan}
+use Rattle.flow_types.specs.declared.job.Job.{Job}
+use Rattle.flow_types.specs.declared.job.Failure.{Failure}
+use Rattle.flow_types.specs.Plans.{IsValid, is_empty, rule_numbers}
+use Rattle.flow_types.specs.Serial.{Contents, Function}
+use Rattle.run_history.specs.declared.options.Options.{Options}
+use Rattle.run_history.specs.declared.options.Mode.TheVariants.{Never}
+use Rattle.run_history.specs.declared.answers.Stop.{Stop}
+use Rattle.run_history.specs.declared.answers.Check.{Check}
+use Rattle.run_history.specs.declared.answers.Check.TheVariants as checks
+use Rattle.run_history.specs.History.{part}
+use Rattle.run_history.specs.Legal.{most_records}
+use Rattle.run_history.specs.Links.{records_of}
+use Rattle.run_history.specs.States.{limit_of}
+use Rattle.run_history.specs.Storage.{has_failed, input_bytes, ready_rules, running_rules}
+use Rattle.run_history.specs.Answers.{claim_of, end_of, has_ended, passes_inputs, rule_no}
+use Rattle.outside.specs.Disk.{Outcomes}
+use Rattle.outside.specs.Files.{Files}
+use Rattle.desk.specs.Ends.{Ends}
+use Rattle.desk.specs.Kept.{Fits, IsLegal, Keeps}
+use Rattle.desk.specs.State.{DeskState}
+use Rattle.local_run.specs.Completing.{SerialInputsFit}
+use Rattle.local_run.specs.Course.{GoesOn, HasNothing}
+use Rattle.local_run.specs.Ends.{FitsHere, HasFailed, IsCompleteEnd, IsFresh, IsRunEnd, LogsFailures, records_due}
+use Rattle.local_run.proofs.Completed.{completes_so, inputs_fit}
+use Rattle.local_run.proofs.EndKinds.{Rests, ends_so, least_says, over_says, unended_over}
+use Rattle.local_run.proofs.Failures.{failed_rose}
+use Rattle.local_run.proofs.Fresh.{empty_from, limit_more}
+use Rattle.local_run.proofs.Results.{records_more}
+
+module _ {S : Type 0} (trust : Type 0) (gives : Function) (may_fail : Job → Failure → Type 0) (sources : Contents) (tells : Type 0) (files : S → Files) (may_leave : S → Outcomes) (moment : S → ℕ)
+    (images_since : S → ℕ → Files → Type 0) (d mid : DeskState S) (goes : GoesOn trust gives may_fail sources tells files may_leave moment images_since d mid) where
+  -- the records before the end are those of the start, and more
+  pub grown : records_of mid.moves ≡ records_of d.moves ++ goes.more
+  grown = ap records_of goes.moves ∙ records_more d.moves goes.more
+
+  pub limitless : IsFresh (records_of d.moves) → limit_of (records_of mid.moves) ≡ None
+  limitless fresh = ap limit_of grown ∙ limit_more (records_of d.moves) goes.more goes.anew ∙ fresh.limit
+
+  pub rests_at : IsValid d.plan → IsFresh (records_of d.moves) → mid.stop ≡ None → d.options.mode ≡ Never → IsLegal mid.plan (records_of mid.moves) → is_empty (part (records_of mid.moves)) ≡ false
+      → length (running_rules mid.plan (records_of mid.moves)) ≤ 0 → has_ended (records_of mid.moves) ≡ false → HasNothing mid → Rests mid.plan mid.options mid.moves
+  rests_at valid fresh unset never legal opened idle unended nothing = record {
+    valid = subst IsValid (sym goes.plan) valid;
+    legal = legal;
+    opened = opened;
+    idle = empty_from (running_rules mid.plan (records_of mid.moves)) idle;
+    unended = unended;
+    limit = limitless fresh;
+    never = ap (λ (O : Options). O.mode) goes.options ∙ never;
+    why = nothing.0;
+    none = subst (λ (stop : Option Stop). claim_of mid.plan mid.options mid.moves stop 0 ≡ Err nothing.0) unset nothing.1;
+  }
+
+  fits_still : FitsHere d.plan d.options → FitsHere mid.plan mid.options
+  fits_still here = subst (λ (P : Plan). FitsHere P mid.options) (sym goes.plan) (subst (λ (O : Options). FitsHere d.plan O) (sym goes.options) here)
+
+  -- the answer of the end, without a stop
+  answer_is : (count : S → ℕ) (time : ℕ) (check : Check) (after : DeskState S) → Ends count mid time (Ok check) after → mid.stop ≡ None → end_of mid.plan mid.options mid.moves None ≡ check
+  answer_is count time check after h unset = sym (h.1 ∙ ap (end_of mid.plan mid.options mid.moves) unset)
+
+  -- is one of a run's ends
+  pub ending_at : (count : S → ℕ) (time : ℕ) (check : Check) (after : DeskState S) → Ends count mid time (Ok check) after → mid.stop ≡ None → Rests mid.plan mid.options mid.moves → FitsHere d.plan d.options → IsRunEnd check
+  ending_at count time check after h unset rests here =
+      subst IsRunEnd (answer_is count time check after h unset) (ends_so mid.plan mid.options mid.moves rests (fits_still here))
+
+  rose_at : (before now : ℕ) → IsFresh (records_of d.moves) → LogsFailures (records_of d.moves) (records_of mid.moves) before now
+      → (r : ℕ) → find (has_failed (records_of mid.moves)) (rule_numbers mid.plan) ≡ Some r → before < now
+  rose_at before now fresh logs r found = failed_rose mid.plan (records_of d.moves) goes.more (records_of mid.moves) r before now fresh.since goes.anew grown logs found
+
+  -- and is a failed command's only where the runner counted one
+  pub failed_at : (count : S → ℕ) (time : ℕ) (check : Check) (after : DeskState S) (before now : ℕ) → Ends count mid time (Ok check) after → mid.stop ≡ None → IsFresh (records_of d.moves) → has_ended (records_of mid.moves) ≡ false
+      → LogsFailures (records_of d.moves) (records_of mid.moves) before now → before ≤ now → HasFailed before now (Ok check)
+  failed_at count time check after before now h unset fresh unended logs risen =
+      let H = records_of mid.moves in
+      let Q : Check → Type 0 = λ c. HasFailed before now (Ok c) in
+      subst Q (sym (unended_over mid.plan mid.options mid.moves unended) ∙ answer_is count time check after h unset)
+      (over_says Q mid.plan mid.options H (limitless fresh) risen (λ r found why. rose_at before now fresh logs r found) (λ wants. risen) risen
+      (λ more. least_says Q (filter (passes_inputs mid.plan H) (ready_rules mid.plan H)) (λ r. checks.InputsTooLarge (rule_no r) (input_bytes mid.plan H r)) (λ r. risen)) (λ more full. risen))
+
+  -- All rules are complete, over a sure runner, where the inputs fit and the log has room.
+  pub complete_at : (count : S → ℕ) (time : ℕ) (check : Check) (after : DeskState S) (before now : ℕ) (image : Files) → Ends count mid time (Ok check) after → mid.stop ≡ None → Rests mid.plan mid.options mid.moves → FitsHere d.plan d.options
+      → IsFresh (records_of d.moves) → LogsFailures (records_of d.moves) (records_of mid.moves) before now → now ≡ before → trust → Keeps (Fits trust gives sources) mid.plan mid.log (records_of mid.moves) image
+      → SerialInputsFit d.plan gives sources → length (running_rules mid.plan (records_of mid.moves)) ≤ 0 → records_due mid.plan (records_of mid.moves) ≤ records_due d.plan (records_of d.moves)
+      → records_due d.plan (records_of d.moves) + 1 ≤ most_records → IsCompleteEnd check
+  complete_at count time check after before now image h unset rests here fresh logs same trusted keeps fit idle due few =
+      subst IsCompleteEnd (answer_is count time check after h unset)
+      (completes_so mid.plan mid.options mid.moves rests (fits_still here)
+      (λ r found. let rose = rose_at before now fresh logs r found in let wrong : ⊥ = omega (arith, rose, same) in wrong)
+      (inputs_fit trust mid.plan gives sources mid.log (records_of mid.moves) image trusted keeps (subst (λ (P : Plan). SerialInputsFit P gives sources) (sym goes.plan) fit)) idle (omega (arith, due, few)))
