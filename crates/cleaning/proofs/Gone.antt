@@ -11,7 +11,7 @@ use Rattle.outside.specs.Files.{Files}
 use Rattle.file_store.specs.Outputs.{AreInside, IsOther, file_name}
 use Rattle.cleaning.specs.Cleanings.{numbers_of}
 
-some_is : {A : Type 0} (x y : A) → Some x ≡ Some y → x ≡ y
+pub some_is : {A : Type 0} (x y : A) → Some x ≡ Some y → x ≡ y
 some_is x y is = ap (λ o. unwrap_or o x) is
 
 number_at : (files : List FileNo) (i : ℕ) (f : FileNo) → slice_get files i ≡ Some f → slice_get (numbers_of files) i ≡ Some f.0

@@ -4,8 +4,8 @@ use Rattle.file_store.specs.Outputs.{IsOther}
 use Rattle.local_run.specs.Runs.{Held, SerialFits}
 use Rattle.local_run.proofs.Alone.{alone_less, alone_then}
 use Rattle.cleaning.specs.Cleanings.{numbers_of}
-use Rattle.cleaning.proofs.Cleaned.{any_ok, cleaning_moments, ending_moments, end_alone, keeps_cleaned}
-use Rattle.cleaning.proofs.clean.clean.Goals as goal
+use Rattle.cleaning.proofs.Kept.{any_ok, cleaning_moments, ending_moments, end_alone, keeps_cleaned}
+use Rattle.cleaning.proofs.parts.clean_part.Goals as goal
 
 pub returns-in-Err-clause-kept : goal.returns-in-Err-clause-kept
 returns-in-Err-clause-kept g c told keeps =

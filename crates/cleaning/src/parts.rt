@@ -1,7 +1,7 @@
-//! A cleaning.
-ghost use Rattle.std.specs.Prelude.{◌≡◌, ◌≢◌, ◌<◌, ◌⊎◌, ◌++◌, ◌∷◌, [], ℕ, List, Option};
-ghost use Rattle.std.specs.Prelude.{IsErrOf, OnErr, OnOk, length, false};
-ghost use Rattle.flow_types.specs.Plans.{is_empty};
+//! The end of a part, and the removal of its files.
+ghost use Rattle.std.specs.Prelude.{◌≡◌, ◌≢◌, ◌≤◌, ◌<◌, ◌⊎◌, ◌++◌, ◌∷◌, [], ℕ, List, None, Option};
+ghost use Rattle.std.specs.Prelude.{OnErr, OnOk, length, false};
+ghost use Rattle.flow_types.specs.Plans.{is_empty, most_files};
 ghost use Rattle.flow_types.specs.Serial.{Contents, Function};
 ghost use Rattle.run_history.specs.History.{part};
 ghost use Rattle.outside.specs.Causes.{HasCause};
@@ -13,26 +13,14 @@ ghost use Rattle.desk.specs.Kept.{IsElse, IsLegal, Keeps, KeepsEither};
 ghost use Rattle.desk.specs.State.{Takes};
 ghost use Rattle.local_run.specs.Course.{LeavesAlone};
 ghost use Rattle.local_run.specs.Runs.{Held, IsKeeping, IsStanding, SerialFits};
-ghost use Rattle.cleaning.specs.declared.clean.CleanRefused.TheVariants as refused;
-ghost use Rattle.cleaning.specs.Cleanings.{AreGone, IsRefused, cleaned, numbers_of};
+ghost use Rattle.cleaning.specs.Behind.{CleansOver};
+ghost use Rattle.cleaning.specs.Cleanings.{AreGone, clean_fault, cleaned, numbers_of, present_made};
 
 use crate::removal::remove_files;
+use crate::{CleanFault, CleanRefused, Cleaned};
 use flow_types::{EndKind, FileNo, Plan, Record, Rows};
 use outside::{Fault, Site};
 use txn_log::{Log, LogFault};
-
-/// From so many records on a log takes none.
-const FULL_LOG: usize = 1_000_000;
-
-/// Why a part isn't cleaned, or not all of it.
-#[derive(Clone, Copy, Debug, PartialEq, Eq)]
-pub enum CleanRefused {
-    /// The site failed. The counts are those of its faults before the call and after the fault.
-    Site { before: u64, after: u64 },
-    /// The log takes no record more.
-    LogFull,
-    Memory,
-}
 
 /// Ends the part in the log.
 fn end_part<S: Site>(
@@ -73,7 +61,7 @@ fn end_part<S: Site>(
 }
 
 /// Ends a part that is begun, and then removes these files.
-fn clean<S: Site>(
+fn clean_part<S: Site>(
     plan: &Plan,
     made: &[FileNo],
     site: &mut S,
@@ -113,56 +101,45 @@ fn clean<S: Site>(
     remove_files(site, plan, made)
 }
 
-/// Ends a part that is begun, in which these files are present and made, and then removes them.
+/// Ends a part that is begun, and removes its made files that are present: these.
 ///
 /// At any moment of the call a crash leaves the records with their files, or the records and the
-/// end of the part, behind which no file is present. LogFull comes exactly where the log has
-/// 1,000,000 records or more, and nothing has changed. At Memory the end may stand in the log.
-pub fn clean_part<S: Site>(
+/// end of the part, behind which no file is present.
+pub(crate) fn clean_files<S: Site>(
     plan: &Plan,
     made: &[FileNo],
     site: &mut S,
-    log: &mut Log,
-    history: &mut Rows<Record>,
+    log: Log,
+    records: Rows<Record>,
     moment: u64,
-) -> Result<(), CleanRefused>
-    requires legal { IsLegal plan.now history.old }
-    requires begun { is_empty (part history.old) ≡ false }
-    requires takes { Takes log.old history.old }
-    requires gate { S.tells → IsAt history.old log.old.gate (S.may_leave site.old log.old.name) }
-    requires apart { (f : ℕ) → file_name plan.now f ≢ log.old.name }
+) -> Result<Cleaned, CleanRefused>
+    requires admitted { clean_fault plan.now records ≡ None }
+    requires legal { IsLegal plan.now records }
+    requires begun { is_empty (part records) ≡ false }
+    requires place { length records < most_records }
+    requires takes { Takes log records }
+    requires gate { S.tells → IsAt records log.gate (S.may_leave site.old log.name) }
+    requires apart { (f : ℕ) → file_name plan.now f ≢ log.name }
     requires inside { AreInside plan.now (numbers_of made.now) }
-    ensures reply { IsRefused (S.count site.old) (S.count site.new) (length history.old) result }
-    ensures full { IsErrOf result refused.LogFull → (site.new ≡ site.old) × (log.new ≡ log.old)
-        × (history.new ≡ history.old) }
-    ensures done { OnOk result (history.new ≡ history.old ++ cleaned moment ∷ []) }
-    ensures records { (history.new ≡ history.old)
-        ⊎ (history.new ≡ history.old ++ cleaned moment ∷ []) }
-    ensures gone { OnOk result (S.tells
-        → AreGone plan.now (numbers_of made.now) (S.files site.new)) }
-    ensures kept { S.tells → IsKeeping plan.now log.old.name history.old (S.may_leave site.old)
-        → LeavesOnly S.moment S.images_since site.old site.new
-        (KeepsEither Held plan.now log.old.name history.old (cleaned moment)) }
-    ensures serial { S.tells → (gives : Function) (sources : Contents)
-        → IsStanding gives sources plan.now log.old.name history.old (S.may_leave site.old)
-        → LeavesOnly S.moment S.images_since site.old site.new
-        (KeepsEither (SerialFits gives sources) plan.now log.old.name history.old
-        (cleaned moment)) }
-    ensures now { OnOk result (S.tells → (image : Files) → IsImage (S.may_leave site.new) image
-        → Keeps Held plan.now log.old.name (history.old ++ cleaned moment ∷ []) image) }
-    ensures others { S.tells → LeavesAlone S.files S.may_leave S.moment S.images_since
-        (IsElse plan.now log.old.name (numbers_of made.now)) site.old site.new }
+    requires these { numbers_of made.now ≡ present_made plan.now records }
+    requires few { length made.now ≤ most_files }
+    ensures { CleansOver S.tells S.files S.may_leave S.moment S.images_since S.count
+        plan.now log.name records moment site.old site.new result }
 {
-    let before = site.faults();
-    if history.len() >= FULL_LOG {
-        return Err(CleanRefused::LogFull);
-    }
-    match clean(plan, made, site, log, history, moment) {
-        Ok(()) => Ok(()),
-        Err(Fault::Failed) => Err(CleanRefused::Site {
-            before,
-            after: site.faults(),
+    let mut log = log;
+    let mut records = records;
+    match clean_part(plan, made, site, &mut log, &mut records, moment) {
+        Ok(()) => Ok(Cleaned {
+            records,
+            removed: made.len() as u32,
         }),
-        Err(Fault::Memory) => Err(CleanRefused::Memory),
+        Err(Fault::Failed) => Err(CleanRefused {
+            why: CleanFault::Site,
+            records,
+        }),
+        Err(Fault::Memory) => Err(CleanRefused {
+            why: CleanFault::Memory,
+            records,
+        }),
     }
 }
