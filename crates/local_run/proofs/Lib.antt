@@ -8,6 +8,7 @@ pub mod Outputs
 pub mod Results
 pub mod Started
 pub mod Starts
+pub mod Refused
 pub mod EndKinds
 pub mod Fresh
 pub mod Failures

@@ -8,6 +8,7 @@ use Rattle.outside.specs.Files.{Files}
 use Rattle.txn_log.specs.Logs.{LogState}
 use Rattle.txn_log.specs.Spells.{IsUnbegun}
 use Rattle.log_recover.specs.declared.fault.RecoverFault.{RecoverFault}
+use Rattle.log_recover.specs.declared.fault.RecoverFault.TheVariants as recovery
 use Rattle.log_recover.specs.Recovery.{Recovers}
 use Rattle.desk.specs.Kept.{Keeps, WasKept}
 
@@ -31,3 +32,10 @@ IsMoment fits P log files outcomes H all cut image = IsBefore log (files log) ou
 -- Why a log isn't read, by its file; the site's failure and want of memory may come instead.
 abbrev pub IsUnread : Option (List ℕ) → RecoverFault → Type 0
 IsUnread file why = Recovers file (let refused : Result (LogState × List Record) RecoverFault = Err why in refused)
+
+-- It says that something is wrong with the bytes of the log.
+abbrev pub IsDamageFault : RecoverFault → Type 0
+IsDamageFault recovery.Site = ⊥
+IsDamageFault recovery.BadHeader = Unit {0}
+IsDamageFault (recovery.BadRecord at) = Unit {0}
+IsDamageFault recovery.Memory = ⊥

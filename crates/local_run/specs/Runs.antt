@@ -11,6 +11,7 @@ use Rattle.run_history.specs.declared.answers.Check.{Check}
 use Rattle.outside.specs.Disk.{IsImage, Outcomes}
 use Rattle.outside.specs.Files.{Files}
 use Rattle.file_store.specs.Outputs.{file_name}
+use Rattle.desk.specs.declared.answers.StartFault.{StartFault}
 use Rattle.desk.specs.declared.answers.StartFault.TheVariants as faults
 use Rattle.desk.specs.Begins.{IsCutBy}
 use Rattle.desk.specs.Kept.{Holds, Keeps}
@@ -107,3 +108,21 @@ HasCauses site_before site_now runner_before runner_now (Err (stopped.Halted (ha
 HasCauses site_before site_now runner_before runner_now (Err (stopped.Halted halts.Runner)) = runner_before < runner_now
 HasCauses site_before site_now runner_before runner_now (Err (stopped.Halted halts.Site)) = site_before < site_now
 HasCauses site_before site_now runner_before runner_now (Err (stopped.Halted halts.Memory)) = Unit {0}
+
+-- The run didn't start.
+abbrev pub IsRefusedRun : Result Check Stopped → Type 0
+IsRefusedRun (Ok check) = ⊥
+IsRefusedRun (Err (stopped.Refused why)) = Unit {0}
+IsRefusedRun (Err (stopped.Halted halt)) = ⊥
+
+-- The run didn't start, since its records are of another plan or may not stand so.
+abbrev pub IsEarlyBy : StartFault → Type 0
+IsEarlyBy (faults.OtherFlow logged found) = Unit {0}
+IsEarlyBy (faults.NotLegal at) = Unit {0}
+IsEarlyBy why = ⊥
+
+-- the same of how a run ended
+abbrev pub IsEarlyRun : Result Check Stopped → Type 0
+IsEarlyRun (Ok check) = ⊥
+IsEarlyRun (Err (stopped.Refused why)) = IsEarlyBy why
+IsEarlyRun (Err (stopped.Halted halt)) = ⊥

@@ -19,7 +19,8 @@ ghost use Rattle.local_run.specs.Completing.{HasRecordRoom, SerialInputsFit};
 ghost use Rattle.local_run.specs.Course.{IsUnmade, TellsJobs};
 ghost use Rattle.local_run.specs.Ends.{FitsHere, HasFailed, IsDone, IsRunEnd, IsSureEnd};
 ghost use Rattle.local_run.specs.Ends.{IsWholeRun, LogsFailures, RunDamage, StartEnds, run_fault};
-ghost use Rattle.local_run.specs.Moments.{IsMoment, IsResumable, IsUnread, KeepsSome};
+ghost use Rattle.local_run.specs.Moments.{IsMoment, IsResumable, IsDamageFault, IsUnread, KeepsSome};
+ghost use Rattle.local_run.specs.Runs.{Adds, IsEarlyRun, IsRefusedRun};
 ghost use Rattle.local_run.specs.Runs.{BeginsWith, HasCauses, Held, IsAdmitted, IsClosedRun};
 ghost use Rattle.local_run.specs.Runs.{IsCutRun, IsSparedName, LosesNone, SerialFits};
 ghost use Rattle.local_run.specs.Runs.{read_sources};
@@ -55,9 +56,23 @@ pub fn resume<F: Commands, S: Site, R: Runner<F>, C: Clock, B: Born>(
         → IsUnread (S.files site «name») refused.why) }
     ensures site { IfErr result (λ refused. refused.why ≡ faults.Site
         → S.count site < S.count refused.site) }
+    ensures unchanged { IfErr result (λ refused. S.tells → IsDamageFault refused.why
+        → (m : List ℕ) → S.files refused.site m ≡ S.files site m) }
     ensures unread { IfErr result (λ refused. S.tells
         → LeavesOnly S.moment S.images_since site refused.site
         (IsRecovering «name» (S.files site «name») (S.may_leave site))) }
+    ensures log { IfOk result (λ ended. S.tells
+        → (H : List RecordValue) × Spells H (S.files site «name»)) }
+    ensures same { IfOk result (λ ended. S.tells → (H : List RecordValue)
+        → Spells H (S.files site «name») → IsRefusedRun ended.how → ended.records ≡ H) }
+    ensures quiet { IfOk result (λ ended. S.tells → IsEarlyRun ended.how
+        → (m : List ℕ) → S.files ended.site m ≡ S.files site m) }
+    ensures honest { IfOk result (λ ended. S.tells → (H : List RecordValue)
+        → Spells H (S.files site «name»)
+        → let sources = read_sources plan (S.files site) in
+        IsResumable (SerialFits F.gives sources) plan «name» H (S.may_leave site)
+        → TellsJobs plan (R.tells runner.old) (serial plan F.gives sources)
+        → Adds (Unit {0}) F.gives F.may_fail sources plan H ended.records) }
     ensures causes { IfOk result (λ ended. HasCauses (S.count site) (S.count ended.site)
         (R.count runner.old) (R.count runner.new) ended.how) }
     ensures grows { IfOk result (λ ended. S.tells → (H : List RecordValue)

@@ -22,6 +22,7 @@ ghost use Rattle.local_run.specs.Ends.{FitsHere, HasFailed, IsApart, IsCompleteE
 ghost use Rattle.local_run.specs.Ends.{IsFresh, IsRunEnd, IsSureEnd, IsWholeRun, LogsFailures};
 ghost use Rattle.local_run.specs.Ends.{RunDamage, StartEnds, records_due, run_fault};
 ghost use Rattle.local_run.specs.Runs.{Adds, BeginsWith, HasCauses, Held, IsAdmitted, IsClosedRun};
+ghost use Rattle.local_run.specs.Runs.{IsEarlyRun, IsRefusedRun};
 ghost use Rattle.local_run.specs.Runs.{IsCutRun, IsKeeping, IsSparedName, IsStanding, LosesNone};
 ghost use Rattle.local_run.specs.Runs.{SerialFits, ended_by, read_sources};
 
@@ -80,6 +81,7 @@ fn run_desk<F: Commands, S: Site, R: Runner<F>, C: Clock, T: Terms>(
         → (image : Files) → IsImage (S.may_leave result.site) image
         → Keeps (Fits T.trust F.gives T.sources) desk.plan desk.log result.records image }
     ensures starts { StartEnds None result.how }
+    ensures started { IsRefusedRun result.how → ⊥ }
     ensures ending { FitsHere desk.plan desk.options → IfOk result.how IsRunEnd }
     ensures damage { S.tells → IsApart desk.plan desk.log
         → RunDamage desk.plan result.records (S.files result.site) result.how }
@@ -148,6 +150,8 @@ fn run_by<F: Commands, S: Site, R: Runner<F>, C: Clock, T: Terms>(
         → Keeps (Fits T.trust F.gives T.sources) plan log.name result.records image }
     ensures starts { S.tells
         → StartEnds (run_fault plan options history (S.files site)) result.how }
+    ensures same { IsRefusedRun result.how → result.records ≡ history }
+    ensures quiet { IsEarlyRun result.how → result.site ≡ site }
     ensures ending { FitsHere plan options → IfOk result.how IsRunEnd }
     ensures damage { S.tells
         → RunDamage plan result.records (S.files result.site) result.how }
@@ -231,6 +235,8 @@ pub fn run<F: Commands, S: Site, R: Runner<F>, C: Clock, B: Born>(
         → Adds (Unit {0}) F.gives F.may_fail sources plan history result.records }
     ensures starts { S.tells
         → StartEnds (run_fault plan options history (S.files site)) result.how }
+    ensures same { IsRefusedRun result.how → result.records ≡ history }
+    ensures quiet { IsEarlyRun result.how → result.site ≡ site }
     ensures closed { FitsHere plan options → IfOk result.how IsRunEnd }
     ensures damage { S.tells
         → RunDamage plan result.records (S.files result.site) result.how }

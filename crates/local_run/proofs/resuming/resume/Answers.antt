@@ -1,4 +1,4 @@
-use Rattle.std.proofs.Common.{◌≡◌, ◌∙◌, arith, ◌⊎◌, ⊎_elim, inl, inr, List, length, sym, subst}
+use Rattle.std.proofs.Common.{◌≡◌, ◌∙◌, arith, ◌⊎◌, ⊎_elim, inl, inr, List, [], length, ap, sym, subst}
 use Rattle.flow_types.specs.Serial.{Contents, serial}
 use Rattle.file_store.specs.Outputs.{file_name}
 use Rattle.desk.specs.Kept.{WasKept}
@@ -8,10 +8,12 @@ use Rattle.local_run.specs.Ends.{LogsFailures}
 use Rattle.local_run.specs.Moments.{IsMoment}
 use Rattle.flow_types.specs.declared.records.Record.{Record}
 use Rattle.txn_log.specs.Spells.{Spells}
-use Rattle.local_run.specs.Runs.{BeginsWith, Held, IsCutRun, IsStanding, LosesNone, SerialFits, read_sources}
+use Rattle.local_run.specs.Runs.{Adds, BeginsWith, Held, IsCutRun, IsStanding, LosesNone, SerialFits, read_sources}
 use Rattle.local_run.proofs.Results.{causes_since, on_ok}
 use Rattle.local_run.proofs.Starts.{fault_joined, starts_joined}
 use Rattle.local_run.proofs.Joining.{each_moment, goes_on_from, is_named, keeping, others_joined, reads_joined}
+use Rattle.log_recover.specs.Recovery.{IsDamage}
+use Rattle.local_run.proofs.Refused.{damage_told, early_over, reads_same}
 use Rattle.local_run.proofs.resuming.resume.Goals as goal
 
 pub returns-in-Ok-clause-moments : goal.returns-in-Ok-clause-moments
@@ -91,3 +93,30 @@ returns-in-Ok-clause-completes g c told H spelled resumable tells here fit room 
     (subst (λ (s : Contents). SerialInputsFit c.args.plan g.F.Commands.gives s) (sym same) fit) (subst (HasRecordRoom c.args.plan) (sym these) room)
     (fault_joined c.args.plan c.args.options c.in-Ok.history H (g.S.Site.files c.args.site) (g.S.Site.files c.recover.new.site) these
     (λ f. c.recover.ensures.others told (file_name c.args.plan f) (c.requires.apart f)) ∙ free) sure (omega (arith, later, stood))
+
+pub returns-in-Ok-clause-log : goal.returns-in-Ok-clause-log
+returns-in-Ok-clause-log g c told = (c.in-Ok.history, c.in-Ok.ensures.answer told)
+
+pub returns-in-Ok-clause-same : goal.returns-in-Ok-clause-same
+returns-in-Ok-clause-same g c told H spelled refused = c.run.ensures.same refused ∙ c.in-Ok.ensures.exact told H spelled
+
+pub returns-in-Ok-clause-quiet : goal.returns-in-Ok-clause-quiet
+returns-in-Ok-clause-quiet g c told early m =
+    ap (λ (s : g.row.S.Denot). g.S.Site.files s m) (c.run.ensures.quiet early)
+    ∙ c.in-Ok.ensures.same told
+    (λ unbegun. early_over c.args.plan c.args.options c.in-Ok.history (g.S.Site.files c.recover.new.site) c.run.result.how c.requires.limit (c.run.ensures.starts told) early
+    (c.files_spell_one_list.ensures.one c.in-Ok.history [] (g.S.Site.files c.args.site c.args.name) (c.in-Ok.ensures.answer told) (inl unbegun))) m
+
+pub returns-in-Ok-clause-honest : goal.returns-in-Ok-clause-honest
+returns-in-Ok-clause-honest g c told H spelled resumable tells =
+    let same : (read_sources c.args.plan (g.S.Site.files c.recover.new.site)) ≡ (read_sources c.args.plan (g.S.Site.files c.args.site)) = λ i f. (c.recover.ensures.others told (file_name c.args.plan f) (c.requires.apart f)) i in
+    subst (λ (G : List Record). Adds (Unit {0}) g.F.Commands.gives g.F.Commands.may_fail (read_sources c.args.plan (g.S.Site.files c.args.site)) c.args.plan G c.run.result.records) (c.in-Ok.ensures.exact told H spelled)
+    (subst (λ (s : Contents). Adds (Unit {0}) g.F.Commands.gives g.F.Commands.may_fail s c.args.plan c.in-Ok.history c.run.result.records) same
+    (c.run.ensures.more told
+    (subst (λ (s : Contents). IsStanding g.F.Commands.gives s c.args.plan c.in-Ok.log.name c.in-Ok.history (g.S.Site.may_leave c.recover.new.site)) (sym same) (keeping g.S.Site.may_leave g.S.Site.moment g.S.Site.images_since c.args.plan c.args.name c.in-Ok.log.name c.in-Ok.ensures.named.same_name c.in-Ok.history H (c.in-Ok.ensures.exact told H spelled) (g.S.Site.files c.args.site) c.args.site c.recover.new.site (SerialFits g.F.Commands.gives (read_sources c.args.plan (g.S.Site.files c.args.site))) c.requires.apart c.files_spell_one_list.ensures.one ((g.met.S.Site g.world.𝓛 g.world.𝓜 g.world.𝓡 ((λ s x. x), (λ x. x), (λ x. x), λ x. x)).reads_image told c.args.site c.args.name) (c.in-Ok.ensures.answer told) (c.in-Ok.ensures.stands told).at.each (c.recover.ensures.crash told) resumable))
+    (subst (λ (s : Contents). TellsJobs c.args.plan (g.R.Runner.tells c.args.runner.now) (serial c.args.plan g.F.Commands.gives s)) (sym same) tells)))
+
+pub returns-in-Err-clause-unchanged : goal.returns-in-Err-clause-unchanged
+returns-in-Err-clause-unchanged g c told damaged m =
+    reads_same c.args.name m (g.S.Site.files c.args.site) (g.S.Site.files c.recover.new.site)
+    (c.recover.ensures.unchanged told (subst IsDamage (sym c.in-Err.is) (damage_told c.in-Err.why damaged))) (c.recover.ensures.others told m)

@@ -19,6 +19,7 @@ use Rattle.local_run.proofs.Alone.{beside_less}
 use Rattle.local_run.proofs.Results.{closed_whole, on_ok}
 use Rattle.local_run.proofs.Failures.{logs_plain, logs_then}
 use Rattle.local_run.proofs.Fresh.{has_room_due}
+use Rattle.local_run.proofs.Refused.{early_refused, early_same}
 use Rattle.local_run.proofs.Starts.{refused_ends, started_free}
 use Rattle.local_run.proofs.Started.{IsBegun, adds_more, adds_nothing, begun, begun_kept, begun_loses, begun_now, refused_causes, refused_kept, refused_legal, refused_now}
 use Rattle.local_run.proofs.runs.run_by.Goals as goal
@@ -166,3 +167,16 @@ returns-in-Ok-clause-completes g c here told kept trusted fit room sure =
     ap (λ (P : Plan). records_due P (records_of c.in-Ok.desk.moves)) b.plan ∙ b.due in
     c.run_desk.ensures.completes (subst (λ (P : Plan). FitsHere P c.in-Ok.desk.options) (sym b.plan) (subst (λ (O : Options). FitsHere c.args.plan O) (sym b.options) here)) told kept trusted
     (subst (λ (P : Plan). SerialInputsFit P g.F.Commands.gives g.T.Terms.sources) (sym b.plan) fit) sure (has_room_due c.args.plan c.args.history _ due room)
+
+pub returns-in-Ok-clause-same : goal.returns-in-Ok-clause-same
+returns-in-Ok-clause-same g c refused = absurd (c.run_desk.ensures.started refused)
+
+pub returns-in-Ok-clause-quiet : goal.returns-in-Ok-clause-quiet
+returns-in-Ok-clause-quiet g c early = absurd (c.run_desk.ensures.started (early_refused c.run_desk.result.how early))
+
+pub returns-in-Err-clause-same : goal.returns-in-Err-clause-same
+returns-in-Err-clause-same g c refused = c.in-Err.ensures.reply.0
+
+pub returns-in-Err-clause-quiet : goal.returns-in-Err-clause-quiet
+returns-in-Err-clause-quiet g c early =
+    early_same g.S.Site.count c.args.plan c.args.options c.args.history g.S.Site.tells (g.S.Site.files c.args.site) c.args.site c.in-Err.refused.site c.in-Err.refused.why c.in-Err.ensures.reply.1 early

@@ -11,8 +11,9 @@ use Rattle.desk.specs.Kept.{Fits, IsLegal, WasKept}
 use Rattle.local_run.specs.declared.ended.Stopped.{Stopped}
 use Rattle.local_run.specs.Course.{IsUnmade, LeavesAlone}
 use Rattle.local_run.specs.Ends.{HasFailed, IsApart, IsCompleteEnd, IsRunEnd, IsSureEnd, IsWholeRun, LogsFailures, RunDamage, StartEnds}
-use Rattle.local_run.specs.Runs.{HasCauses, IsCutRun, LosesNone, ended_by}
+use Rattle.local_run.specs.Runs.{HasCauses, IsCutRun, IsRefusedRun, LosesNone, ended_by}
 use Rattle.local_run.proofs.Done.{damage_ended, if_ended, sure_ended, whole_ended}
+use Rattle.local_run.proofs.Refused.{not_refused}
 use Rattle.local_run.proofs.Starts.{desk_starts}
 use Rattle.local_run.proofs.Results.{adds_records, causes_run, closed_whole, ends_run, fine_run, is_kept, loses_none, was_kept}
 use Rattle.local_run.proofs.runs.run_desk.Goals as goal
@@ -106,3 +107,6 @@ pub returns-clause-completes : goal.returns-clause-completes
 returns-clause-completes g c here told kept trusted fit sure few =
     subst (λ (how : Result Check Stopped). IfOk how IsCompleteEnd) (sym c.ended_by-how.ensures)
     (if_ended c.work.result IsCompleteEnd (c.work.ensures.completes c.requires.fresh c.requires.unset c.requires.never here told kept trusted fit sure few))
+
+pub returns-clause-started : goal.returns-clause-started
+returns-clause-started g c refused = not_refused c.work.result (subst IsRefusedRun c.ended_by-how.ensures refused)
