@@ -5,7 +5,6 @@
 #![tactic(auto)]
 
 mod examples;
-mod numbers;
 mod options;
 mod words;
 
