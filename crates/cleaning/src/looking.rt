@@ -46,10 +46,11 @@ fn look_over(alloc: Global, plan: &Plan, records: Rows<Record>) -> Result<Rows<R
 /// The records of the log under this name, where they can be used for the plan.
 ///
 /// A log that is absent or not begun is begun anew. A crash at any moment leaves the file as it
-/// was, or a log that isn't begun where it wasn't. Damage comes where the file's bytes are damaged,
+/// was, or a log that isn't begun where it wasn't. What is wrong with the file's bytes comes first,
 /// then OtherFlow where the part was opened for another plan, then NotLegal at the first record
-/// that may not stand where it does. The plan is copied and looked through for each record.
-/// Conditions: the plan is valid, and none of its files has the log's name.
+/// that may not stand where it does; each comes exactly there, unless the site fails or memory is
+/// wanting. The plan is copied, and looked through for each record. Conditions: the plan is valid,
+/// and none of its files has the log's name.
 pub fn look<S: Site>(
     alloc: Global,
     plan: &Plan,

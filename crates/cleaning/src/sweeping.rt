@@ -125,9 +125,9 @@ fn clean_read<S: Site>(
 /// The record of the end comes first. So a crash at any moment leaves the records with their files,
 /// or the records and the end of the part, behind which no file is present. A part that isn't begun
 /// stays as it is. LogFull comes, behind the refusals of a look, exactly where the part is begun
-/// and the log has 1,000,000 records or more. Beside what a look costs, each file of the plan is
-/// looked at once in memory, and one call of the site is made for each file that is removed.
-/// Conditions: the plan is valid, and none of its files has the log's name.
+/// and the log has 1,000,000 records or more. Removals aren't synced. Beside what a look costs,
+/// each file of the plan is looked at once in memory, and one call of the site is made for each
+/// file that is removed. Conditions: the plan is valid, and none of its files has the log's name.
 pub fn clean<S: Site>(
     alloc: Global,
     plan: &Plan,
