@@ -3,7 +3,7 @@ use Rattle.std.proofs.Common.{◌≡◌, ℕ, suc, ◌+◌, Bool, true, false, n
 use Rattle.std.specs.Prelude.{slice_get, remove, ◌&&◌, ◌==◌}
 use Rattle.std.specs.List.{AllByRecursion, IsDistinct, position_or_len}
 use Rattle.std.specs.Map.{keys_of}
-use Rattle.std.proofs.lemmas.Bool.{lt-ltb, le-ltb, ltb-true, ltb-false, eqb-true}
+use Rattle.std.proofs.lemmas.Bool.{lt-ltb, le-ltb, ltb-true, ltb-false, eqb-true, eq-eqb}
 use Rattle.flow_types.specs.declared.messages.Key.{Key}
 use Rattle.worker_cache.specs.declared.held.Held.{Held}
 use Rattle.worker_cache.specs.Caches.{Rows, same_key, place, pinned_in, kept_bytes, pinned_bytes, all_pinned}
@@ -33,6 +33,9 @@ same_is a b e =
     let runs : a.run ≡ b.run = eqb-true a.run b.run p.0 in
     let files : a.file.0 ≡ b.file.0 = eqb-true a.file.0 b.file.0 p.1 in
     ap (λ (run : ℕ). key_from run a.file.0) runs ∙ ap (key_from b.run) files
+
+pub same_self : (key : Key) → same_key key key ≡ true
+same_self key = ap (λ (b : Bool). b && (key.file.0 == key.file.0)) (eq-eqb key.run key.run refl) ∙ eq-eqb key.file.0 key.file.0 refl
 
 -- how many keys from the front on are others
 abbrev before : Key → Rows → ℕ

@@ -1,25 +1,22 @@
 -- What putting a content does to the counts, and where the content is found.
-use Rattle.std.proofs.Common.{◌≡◌, ℕ, zero, suc, ◌+◌, ◌-◌, ◌≤◌, Bool, true, false, not, cond, eqb, List, [], ◌∷◌, ◌++◌, length, drop, Option, Some, None, inl, inr, Result, Ok, Err, OnOk, OnErr, refl, sym, ap, ◌∙◌, arith}
-use Rattle.std.specs.Prelude.{slice_get, remove, insert, ◌&&◌, ◌==◌}
+use Rattle.std.proofs.Common.{◌≡◌, ℕ, zero, suc, ◌+◌, ◌-◌, ◌≤◌, Bool, true, false, not, cond, eqb, List, [], ◌∷◌, ◌++◌, length, Option, Some, None, inl, inr, Result, Ok, Err, OnOk, OnErr, is_some, zero, suc, refl, sym, ap, ◌∙◌, arith}
+use Rattle.std.specs.Prelude.{slice_get, remove, position}
+use Rattle.std.specs.Option.{option_map_or}
 use Rattle.std.specs.List.{IsDistinct}
 use Rattle.std.specs.Result.{is_err}
 use Rattle.std.specs.Map.{keys_of}
-use Rattle.std.proofs.lemmas.Bool.{eq-eqb, ltb-false}
-use Rattle.std.proofs.lemmas.List.{take_all, drop_all}
-use Rattle.indexmap.specs.IndexMap.{move_index, set_value_at}
+use Rattle.std.proofs.lemmas.Bool.{ltb-false}
 use Rattle.flow_types.specs.declared.messages.Key.{Key}
 use Rattle.worker_cache.specs.declared.held.Held.{Held}
 use Rattle.worker_cache.specs.declared.fault.PutRefused.TheVariants as refused
 use Rattle.worker_cache.specs.Answers.{Puts}
-use Rattle.worker_cache.specs.Caches.{Cached, Rows, same_key, place, row_at, bytes_in, is_pinned, pinned_in, kept_bytes, pinned_bytes, bytes_of, all_pinned, is_full, new_row, renewed, renewed_at, without, row_for, placed, make_room, put_in, content_of, content_in, is_linked, if_linked, row_bytes, is_pinned_row}
+use Rattle.worker_cache.specs.Caches.{Cached, Rows, same_key, place, newest, made_last, set_value_at, changed_at, row_at, bytes_in, is_pinned, pinned_in, kept_bytes, pinned_bytes, bytes_of, all_pinned, is_full, new_row, renewed, without, row_for, placed, make_room, put_in, content_of, content_in, is_linked, if_linked, held_in, held_of, held_bytes, has_pins}
+use Rattle.worker_cache.specs.Tables.{at_place}
 use Rattle.worker_cache.proofs.Weights.{of_joined, of_removed}
 use Rattle.worker_cache.proofs.Counts.{pinned_le, room_by, last_stays}
-use Rattle.worker_cache.proofs.Places.{HasNone, StandsAt, stands, here, there, kept_own, kept_all, next}
+use Rattle.worker_cache.proofs.Places.{same_self, HasNone, StandsAt, stands, here, there, kept_own, kept_all, next}
 
 -- ---- the row that is put
-
-same_self : (key : Key) → same_key key key ≡ true
-same_self key = ap (λ (b : Bool). b && (key.file.0 == key.file.0)) (eq-eqb key.run key.run refl) ∙ eq-eqb key.file.0 key.file.0 refl
 
 -- What is put, as the others and one row behind them.
 pub record IsPut (key : Key) (content : List ℕ) (rows : Rows) : Type 0 where
@@ -32,10 +29,10 @@ pub record IsPut (key : Key) (content : List ℕ) (rows : Rows) : Type 0 where
   is : last.1.content ≡ content
   linked : last.1.unlinked ≡ false
   was : row_at rows (place key rows) ≡ old
-  bytes : bytes_of others + row_bytes old ≡ bytes_of rows
+  bytes : bytes_of others + held_bytes (held_in old) ≡ bytes_of rows
   kept : all_pinned others ≡ pinned_bytes key rows
-  pins : all_pinned others + cond (is_pinned_row old) (row_bytes old) 0 ≡ all_pinned rows
-  pinned : pinned_in last ≡ cond (is_pinned_row old) (length content) 0
+  pins : all_pinned others + cond (has_pins (held_in old)) (held_bytes (held_in old)) 0 ≡ all_pinned rows
+  pinned : pinned_in last ≡ cond (has_pins (held_in old)) (length content) 0
 
 put_new : (key : Key) (content : List ℕ) (rows : Rows) → (let none : Option ℕ = None in place key rows ≡ none) → HasNone key rows → IsPut key content rows
 put_new key content rows e none =
@@ -93,18 +90,18 @@ is_put key content rows d =
 -- ---- the counts
 
 pub old_pins : (key : Key) (content : List ℕ) (rows : Rows) → IsPut key content rows
-    → pinned_bytes key rows + cond (is_pinned_row (row_at rows (place key rows))) (row_bytes (row_at rows (place key rows))) 0 ≡ all_pinned rows
-old_pins key content rows p = omega (arith, p.pins, p.kept, ap (λ (r : Option (Key × Held)). cond (is_pinned_row r) (row_bytes r) 0) p.was)
+    → pinned_bytes key rows + cond (has_pins (held_of key rows)) (held_bytes (held_of key rows)) 0 ≡ all_pinned rows
+old_pins key content rows p = omega (arith, p.pins, p.kept, ap (λ (r : Option (Key × Held)). cond (has_pins (held_in r)) (held_bytes (held_in r)) 0) p.was)
 
 pub new_bytes : (key : Key) (content : List ℕ) (rows : Rows) → IsPut key content rows
-    → bytes_of (placed key content rows) + row_bytes (row_at rows (place key rows)) ≡ bytes_of rows + length content
+    → bytes_of (placed key content rows) + held_bytes (held_of key rows) ≡ bytes_of rows + length content
 new_bytes key content rows p =
-    omega (arith, ap bytes_of p.parts, of_joined bytes_in p.others (p.last ∷ []), ap (λ (c : List ℕ). length c) p.is, p.bytes, ap row_bytes p.was)
+    omega (arith, ap bytes_of p.parts, of_joined bytes_in p.others (p.last ∷ []), ap (λ (c : List ℕ). length c) p.is, p.bytes, ap (λ (r : Option (Key × Held)). held_bytes (held_in r)) p.was)
 
 pub new_pins : (key : Key) (content : List ℕ) (rows : Rows) → IsPut key content rows
-    → all_pinned (placed key content rows) ≡ pinned_bytes key rows + cond (is_pinned_row (row_at rows (place key rows))) (length content) 0
+    → all_pinned (placed key content rows) ≡ pinned_bytes key rows + cond (has_pins (held_of key rows)) (length content) 0
 new_pins key content rows p =
-    omega (arith, ap all_pinned p.parts, of_joined pinned_in p.others (p.last ∷ []), p.pinned, p.kept, ap (λ (r : Option (Key × Held)). cond (is_pinned_row r) (length content) 0) p.was)
+    omega (arith, ap all_pinned p.parts, of_joined pinned_in p.others (p.last ∷ []), p.pinned, p.kept, ap (λ (r : Option (Key × Held)). cond (has_pins (held_in r)) (length content) 0) p.was)
 
 -- ---- where the content is found
 
@@ -153,54 +150,29 @@ found_put cap key content rows p full =
     ap (make_room excess) p.parts ∙ last_stays excess p.others p.last few in
     ap (content_of key) made ∙ found_last key (make_room excess p.others) p.last (room_none key excess p.others p.none) p.same p.linked ∙ ap (λ (c : List ℕ). Some c) p.is
 
--- ---- the place of a row that is renewed
-
-length_removed : {A : Type 0} (xs : List A) (at : ℕ) (x : A) → slice_get xs at ≡ Some x → length (remove xs at) ≡ length xs - 1
-length_removed [] at x e = absurd cc
-length_removed (y ∷ ys) zero x e = omega arith
-length_removed (y ∷ []) (suc at) x e = absurd cc
-length_removed (y ∷ z ∷ zs) (suc at) x e = omega (arith, length_removed (z ∷ zs) at x e)
-
-at_end : {A : Type 0} (xs : List A) (x : A) → insert xs (length xs) x ≡ xs ++ x ∷ []
-at_end {A = A} xs x = ap (λ (f : List A). f ++ x ∷ drop (length xs) xs) (take_all (length xs) xs (omega arith)) ∙ ap (λ (b : List A). xs ++ x ∷ b) (drop_all (length xs) xs (omega arith))
-
-set_last : (xs : Rows) (x : Key × Held) (v : Held) → set_value_at (xs ++ x ∷ []) (length xs) v ≡ xs ++ (x.0, v) ∷ []
-set_last [] x v = refl
-set_last (y ∷ ys) x v = ap (λ (zs : Rows). y ∷ zs) (set_last ys x v)
-
-pub renewed_last : (content : List ℕ) (rows : Rows) (at : ℕ) (row : Key × Held) → slice_get rows at ≡ Some row
-    → renewed_at content (move_index rows at (length rows - 1)) (length rows - 1) ≡ remove rows at ++ (row.0, renewed content row.1) ∷ []
-renewed_last content rows at row e =
-    let others = remove rows at in
-    let n : length rows - 1 ≡ length others = sym (length_removed rows at row e) in
-    let moved : move_index rows at (length rows - 1) ≡ others ++ row ∷ [] =
-    rw e (ap (λ (k : ℕ). insert others k row) n ∙ at_end others row) in
-    ap (λ (r : Rows). renewed_at content r (length rows - 1)) moved ∙ ap (renewed_at content (others ++ row ∷ [])) n
-    ∙ rw (got_last others row) (set_last others row (renewed content row.1))
-
 -- ---- what `put` counts
 
 pub kept_is : (key : Key) (content : List ℕ) (rows : Rows) (pinned old kept some : ℕ) (is : Bool) → IsPut key content rows
-    → old ≡ row_bytes (row_at rows (place key rows)) → is ≡ is_pinned_row (row_at rows (place key rows)) → some ≡ cond is old 0
+    → old ≡ held_bytes (held_of key rows) → is ≡ has_pins (held_of key rows) → some ≡ cond is old 0
     → pinned ≡ all_pinned rows → kept ≡ pinned - some → kept ≡ pinned_bytes key rows
 kept_is key content rows pinned old kept some is p bytes pins s all e =
-    let same : some ≡ cond (is_pinned_row (row_at rows (place key rows))) (row_bytes (row_at rows (place key rows))) 0 =
-    s ∙ ap (λ (b : Bool). cond b old 0) pins ∙ ap (λ (n : ℕ). cond (is_pinned_row (row_at rows (place key rows))) n 0) bytes in
+    let same : some ≡ cond (has_pins (held_of key rows)) (held_bytes (held_of key rows)) 0 =
+    s ∙ ap (λ (b : Bool). cond b old 0) pins ∙ ap (λ (n : ℕ). cond (has_pins (held_of key rows)) n 0) bytes in
     omega (arith, old_pins key content rows p, same, all, e)
 
 pub total_is : (key : Key) (content : List ℕ) (rows made : Rows) (all old others n : ℕ) → IsPut key content rows
-    → old ≡ row_bytes (row_at rows (place key rows)) → all ≡ bytes_of rows → others ≡ all - old → n ≡ length content → made ≡ placed key content rows
+    → old ≡ held_bytes (held_of key rows) → all ≡ bytes_of rows → others ≡ all - old → n ≡ length content → made ≡ placed key content rows
     → others + n ≡ bytes_of made
 total_is key content rows made all old others n p bytes sum e len is =
-    let few : row_bytes (row_at rows (place key rows)) ≤ bytes_of rows = omega (arith, p.bytes, ap row_bytes p.was) in
+    let few : held_bytes (held_of key rows) ≤ bytes_of rows = omega (arith, p.bytes, ap (λ (r : Option (Key × Held)). held_bytes (held_in r)) p.was) in
     omega (arith, new_bytes key content rows p, bytes, sum, e, len, few, ap bytes_of is)
 
 pub pins_are : (key : Key) (content : List ℕ) (rows made : Rows) (kept n some : ℕ) (is : Bool) → IsPut key content rows
-    → is ≡ is_pinned_row (row_at rows (place key rows)) → kept ≡ pinned_bytes key rows → n ≡ length content → some ≡ cond is n 0 → made ≡ placed key content rows
+    → is ≡ has_pins (held_of key rows) → kept ≡ pinned_bytes key rows → n ≡ length content → some ≡ cond is n 0 → made ≡ placed key content rows
     → all_pinned made ≡ kept + some
 pins_are key content rows made kept n some is p pins k len s e =
-    let same : some ≡ cond (is_pinned_row (row_at rows (place key rows))) (length content) 0 =
-    s ∙ ap (λ (b : Bool). cond b n 0) pins ∙ ap (λ (m : ℕ). cond (is_pinned_row (row_at rows (place key rows))) m 0) len in
+    let same : some ≡ cond (has_pins (held_of key rows)) (length content) 0 =
+    s ∙ ap (λ (b : Bool). cond b n 0) pins ∙ ap (λ (m : ℕ). cond (has_pins (held_of key rows)) m 0) len in
     omega (arith, new_pins key content rows p, k, same, ap all_pinned e)
 
 pub some_le : (is : Bool) (n some : ℕ) → some ≡ cond is n 0 → some ≤ n
@@ -236,10 +208,3 @@ of_err (Err x) A e h = h
 pub of_ok : {T E : Type 0} (r : Result T E) (A : Type 0) → is_err r ≡ false → OnOk r A → A
 of_ok (Ok x) A e h = h
 of_ok (Err x) A e h = absurd cc
-
-pub placed_again : (key : Key) (content : List ℕ) (rows made : Rows) (at : ℕ) (row : Key × Held) → place key rows ≡ Some at → slice_get rows at ≡ Some row
-    → made ≡ renewed_at content (move_index rows at (length rows - 1)) (length rows - 1) → made ≡ placed key content rows
-placed_again key content rows made at row found got e =
-    e ∙ renewed_last content rows at row got
-    ∙ ap (λ (r : Option (Key × Held)). remove rows at ++ row_for key content r ∷ []) (sym got)
-    ∙ ap (λ (f : Option ℕ). without f rows ++ row_for key content (row_at rows f) ∷ []) (sym found)

@@ -4,9 +4,12 @@
 mod cache;
 mod fault;
 mod held;
+mod list;
 mod room;
 mod rows;
+mod table;
 
 pub use cache::Cache;
 pub use fault::PutRefused;
 pub use held::Held;
+pub use table::Table;

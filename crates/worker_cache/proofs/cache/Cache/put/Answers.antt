@@ -9,7 +9,7 @@ use Rattle.worker_cache.proofs.cache.Cache.put.Goals as goal
 
 pub returns-then-kept-bytes-clause-step : goal.returns-then-kept-bytes-clause-step
 returns-then-kept-bytes-clause-step c =
-    let rows = c.self.inside.rows.entries in
+    let rows = c.self.inside.rows in
     let cap = c.self.inside.cap in
     let key = c.args.key in
     let content = c.args.content in
@@ -23,8 +23,8 @@ returns-then-kept-bytes-clause-step c =
 
 pub returns-then-is_err-clause-step : goal.returns-then-is_err-clause-step
 returns-then-is_err-clause-step c =
-    let rows = c.self.inside.rows.entries in
-    let made = c.place.new.rows.entries in
+    let rows = c.self.inside.rows in
+    let made = c.place.new.rows in
     let cap = c.self.inside.cap in
     let key = c.args.key in
     let content = c.args.content in
@@ -39,8 +39,8 @@ returns-then-is_err-clause-step c =
 
 pub fit-self-inside-requires-clause-total : goal.fit-self-inside-requires-clause-total
 fit-self-inside-requires-clause-total c =
-    let rows = c.self.inside.rows.entries in
-    let made = c.place.new.rows.entries in
+    let rows = c.self.inside.rows in
+    let made = c.place.new.rows in
     let key = c.args.key in
     let content = c.args.content in
     let put = is_put key content rows c.look-old.ensures.distinct in
@@ -50,8 +50,8 @@ fit-self-inside-requires-clause-total c =
 
 pub fit-self-inside-requires-clause-pinned : goal.fit-self-inside-requires-clause-pinned
 fit-self-inside-requires-clause-pinned c =
-    let rows = c.self.inside.rows.entries in
-    let made = c.place.new.rows.entries in
+    let rows = c.self.inside.rows in
+    let made = c.place.new.rows in
     let key = c.args.key in
     let content = c.args.content in
     let n = length c.as_slice.result.now in
@@ -66,9 +66,9 @@ fit-self-inside-requires-clause-pinned c =
 
 pub invariant_of-self-2 : goal.invariant_of-self-2
 invariant_of-self-2 c =
-    let rows = c.self.inside.rows.entries in
-    let made = c.place.new.rows.entries in
-    let new = c.fit-self-inside.new.rows.entries in
+    let rows = c.self.inside.rows in
+    let made = c.place.new.rows in
+    let new = c.fit-self-inside.new.rows in
     let key = c.args.key in
     let content = c.args.content in
     let n = length c.as_slice.result.now in
@@ -88,9 +88,9 @@ invariant_of-self-2 c =
 
 pub returns-clause-step : goal.returns-clause-step
 returns-clause-step c =
-    let rows = c.self.inside.rows.entries in
-    let made = c.place.new.rows.entries in
-    let new = c.fit-self-inside.new.rows.entries in
+    let rows = c.self.inside.rows in
+    let made = c.place.new.rows in
+    let new = c.fit-self-inside.new.rows in
     let cap = c.self.inside.cap in
     let key = c.args.key in
     let content = c.args.content in
@@ -110,9 +110,9 @@ returns-clause-step c =
 
 pub returns-clause-found : goal.returns-clause-found
 returns-clause-found c =
-    let rows = c.self.inside.rows.entries in
-    let made = c.place.new.rows.entries in
-    let new = c.fit-self-inside.new.rows.entries in
+    let rows = c.self.inside.rows in
+    let made = c.place.new.rows in
+    let new = c.fit-self-inside.new.rows in
     let cap = c.self.inside.cap in
     let key = c.args.key in
     let content = c.args.content in
