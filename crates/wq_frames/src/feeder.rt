@@ -1,5 +1,5 @@
 //! A feeder: bytes in, in any pieces, and messages out.
-ghost use Rattle.std.specs.Prelude.{◌≡◌, OnOk, OnErr, IfOk, [], true, Err};
+ghost use Rattle.std.specs.Prelude.{◌≡◌, OnOk, OnErr, IfOk, IsOk, [], true, Err};
 ghost use Rattle.wq_frames.specs.Heard.{gave_message, Shows};
 ghost use Rattle.wq_messages.specs.Reading.{message_of};
 ghost use Rattle.wq_messages.specs.Views.{HasMessage, shown};
@@ -70,7 +70,8 @@ impl Feeder {
 
     /// A stream of which nothing came. It takes no memory.
     pub fn new(alloc: Global) -> Result<Feeder, Memory>
-        ensures { IfOk result (λ f. f ≡ at_rest [] []) }
+        ensures empty { IfOk result (λ f. f ≡ at_rest [] []) }
+        ensures succeeds { IsOk result }
     {
         Ok(Feeder {
             buffer: BytesMut::new(alloc),
