@@ -1,0 +1,434 @@
+"""Cases of programs that stop at any moment: kills, and what a crash of the machine may leave on the disk."""
+import os
+import random
+import re
+import shutil
+import signal
+import subprocess
+import threading
+import time
+from concurrent.futures import ThreadPoolExecutor
+
+import logs
+from places import USUAL_LOG, Place, complete, content_of, outcome, say, seen, short
+
+KILLS = 25
+KILL_SECONDS = 75
+RULES = 60
+AT_ONCE = 4
+PART = ".makeflow-part"
+
+
+def memory_folder():
+    """A folder of a memory file system, where syncs take no time, or nothing where none is to be had."""
+    folder = "/dev/shm"
+    if not os.path.isdir(folder) or not os.access(folder, os.W_OK):
+        return None
+    data = os.statvfs(folder)
+    return folder if not data.f_flag & os.ST_NOEXEC and data.f_bavail * data.f_frsize > 50_000_000 else None
+
+
+def two_step_flow():
+    """Rules whose commands write in two steps, each over what earlier ones made. Every fifth output is in a folder."""
+    names = [f"d/o{it}" if it % 5 == 0 else f"o{it}" for it in range(RULES)]
+    rules = []
+    for it, name in enumerate(names):
+        inputs = ["s"] if it < 4 else sorted({names[it - 4], names[(it - 1) // 2]})
+        rules.append((f"cat {' '.join(inputs)} | tail -c 200 > {name}; sleep 0.0{it % 3 + 1}; echo {it} >> {name}", inputs, [name]))
+    return rules
+
+
+def text_of(rules):
+    return "".join(f"{' '.join(outs)}: {' '.join(inputs)}\n\t{command}\n" for command, inputs, outs in rules)
+
+
+def files_of(place):
+    """The regular files of a place but its log, by name."""
+    return {name: it[-1] for name, it in seen(place.work).items() if it[0] == "file" and name != USUAL_LOG}
+
+
+def wrong_resume(place, rules, wanted, words=("flow",)):
+    """Resumes, and says what differs from a serial run, what is left behind, and what the log may not have."""
+    wrong = [f"the resume: {it}" for it in outcome(place.start(words), 0, complete(len(rules)))]
+    found = files_of(place)
+    for name in sorted({*wanted, *found}):
+        if found.get(name) != wanted.get(name):
+            wrong.append(f"{name} is {short(found.get(name))}, not {short(wanted.get(name))}")
+    left = os.listdir(place.tmp)
+    wrong += [f"left under the temporary folder: {left}"] if left else []
+    try:
+        records = logs.read(content_of(f"{place.work}/{USUAL_LOG}"))
+    except (logs.Damaged, OSError) as it:
+        return [*wrong, f"the log: {it}"]
+    bad = logs.illegal(records, [(inputs, outs) for _, inputs, outs in rules])
+    wrong += [f"the log: {bad}"] if bad else []
+    return wrong + ([] if logs.kinds(records)[-1:] == ["ended complete"] else [f"the log ends with {logs.kinds(records)[-1:]}"])
+
+
+class Kills:
+    """Trials by several threads, until there were enough kills of each kind or the time is over."""
+
+    def __init__(self, rules, files, wanted, whole, under):
+        self.rules, self.files, self.wanted, self.whole, self.under = rules, files, wanted, whole, under
+        self.lock, self.wrong, self.random = threading.Lock(), [], random.Random(18)
+        self.begun, self.count, self.late = {True: 0, False: 0}, {True: 0, False: 0}, 0
+        self.until = time.monotonic() + KILL_SECONDS
+
+    def next(self):
+        """Whether the next kill is of the program alone, and when it comes; nothing where all is done."""
+        with self.lock:
+            alone = self.begun[True] <= self.begun[False]
+            if time.monotonic() > self.until or self.begun[alone] >= KILLS or self.late > 4 * KILLS:
+                return None
+            self.begun[alone] += 1
+            return alone, self.random.uniform(0, self.whole)
+
+    def trial(self, alone, moment):
+        place = Place(self.files, self.under)
+        try:
+            started = place.start(stdout=subprocess.DEVNULL)
+            time.sleep(moment)
+            if alone:
+                os.kill(started.pid, signal.SIGKILL)
+            else:
+                os.killpg(started.pid, signal.SIGKILL)
+            started.communicate()
+            if started.returncode != -signal.SIGKILL:
+                with self.lock:
+                    self.begun[alone] -= 1
+                    self.late += 1
+                    return
+            found = files_of(place)
+            half = [f"{name} is half written: {short(found[name])}" for name, content in self.wanted.items()
+                    if name in found and found[name] not in (content, self.files.get(name, "").encode())]
+            wrong = half + wrong_resume(place, self.rules, self.wanted)
+            with self.lock:
+                self.count[alone] += 1
+                self.wrong += [f"a kill of the program {'alone' if alone else 'and its jobs'} after {moment:.3f} s: {it}" for it in wrong]
+        finally:
+            place.close()
+
+    def work(self):
+        try:
+            while following := self.next():
+                self.trial(*following)
+        except Exception as it:
+            with self.lock:
+                self.wrong.append(f"the test itself failed: {it!r}")
+
+
+def kills():
+    """Kills at random moments, each followed by a resume and compared with a serial run."""
+    under, rules = memory_folder(), two_step_flow()
+    old = {outs[0]: "what stood here before, which is longer. " * 20 for it, (_, _, outs) in enumerate(rules) if it % 3 == 0}
+    files = {"s": "abc\n", "flow": text_of(rules), **old}
+    place = Place(files, under)
+    try:
+        begun = time.monotonic()
+        wrong = outcome(place.start(), 0, complete(RULES))
+        whole, wanted = time.monotonic() - begun, files_of(place)
+    finally:
+        place.close()
+    if wrong or wanted != serial(rules, files):
+        say("a run of 60 rules that write in two steps", wrong or ["its files aren't those of a serial run by the shell"])
+        return
+    trials = Kills(rules, files, wanted, whole, under)
+    with ThreadPoolExecutor(AT_ONCE) as pool:
+        for _ in range(AT_ONCE):
+            pool.submit(trials.work)
+    alone, both = trials.count[True], trials.count[False]
+    few = [] if min(alone, both) >= 5 else ["too few kills came in time"]
+    say(f"{alone} kills of the program alone and {both} of program and jobs, within a run of {whole:.1f} s", trials.wrong + few)
+
+
+def serial(rules, files):
+    """What the commands make one after another in one folder."""
+    place = Place(files)
+    try:
+        for command, _, outs in rules:
+            os.makedirs(os.path.dirname(f"{place.work}/{outs[0]}"), exist_ok=True)
+            subprocess.run(["/bin/sh", "-c", command.replace("sleep", ": sleep").replace("$$", "$")], cwd=place.work, check=True, stdin=subprocess.DEVNULL)
+        return files_of(place)
+    finally:
+        place.close()
+
+
+CALLS = "open,openat,creat,close,dup,dup2,dup3,write,pwrite64,writev,lseek,truncate,ftruncate,fsync,fdatasync,sync_file_range,rename,renameat,renameat2,link,linkat,symlink,symlinkat,unlink,unlinkat,mkdir,mkdirat,rmdir,copy_file_range,sendfile,mmap,chdir"
+CALL = re.compile(r"^(\w+)\((.*)\)\s+= (-?\d+|\?|0x[0-9a-f]+)")
+
+
+def literal(word):
+    """The bytes of a text as strace -xx shows it."""
+    if not word.startswith('"') or not word.endswith('"'):
+        raise ValueError(f"cut short: {word[:60]}")
+    return bytes.fromhex(word[1:-1].replace("\\x", ""))
+
+
+class Disk:
+    """A folder and what of it is synced: which names stand in it, and which bytes each file has. A name is on the disk
+    once its folder was synced, bytes once their file was. Files are told by numbers, since they are renamed."""
+
+    def __init__(self, root, files):
+        self.root, self.open = root, {}
+        self.bytes, self.synced = [], []
+        self.names, self.kept = {}, {}
+        for name, content in files.items():
+            self.names[name] = self.kept[name] = self.new(content)
+            self.synced[-1] = content
+            for folder in folders_of(name):
+                self.names[folder] = self.kept[folder] = None
+
+    def new(self, content=b""):
+        self.bytes.append(content)
+        self.synced.append(b"")
+        return len(self.bytes) - 1
+
+    def place(self, word):
+        """The name in the folder of a path, nothing where it lies outside."""
+        path = os.path.normpath(os.path.join(self.root, os.fsdecode(literal(word))))
+        return os.path.relpath(path, self.root) if path == self.root or path.startswith(f"{self.root}/") else None
+
+    def write(self, number, at, data):
+        old = self.bytes[number]
+        self.bytes[number] = old[:at].ljust(at, b"\0") + data + old[at + len(data):]
+
+    def sync(self, what):
+        if isinstance(what, int):
+            self.synced[what] = self.bytes[what]
+            return
+        inside = lambda name: os.path.dirname(name) == ("" if what == "." else what)
+        self.kept = {name: it for name, it in self.kept.items() if not inside(name)}
+        self.kept |= {name: it for name, it in self.names.items() if inside(name)}
+
+    def image(self, names, contents):
+        """The files that stand so, and the folders as None. What lies in a folder that isn't there is gone with it."""
+        there = {name: it for name, it in names.items() if all(names.get(folder, 0) is None for folder in folders_of(name))}
+        return {name: it if it is None else contents[it] for name, it in there.items()}
+
+    def images(self):
+        yield "all that was written", self.image(self.names, self.bytes)
+        yield "nothing that wasn't synced", self.image(self.kept, self.synced)
+        yield "names as they were, bytes as synced", self.image(self.names, self.synced)
+
+    def note(self, line):
+        """One call, as strace shows it. It answers whether it changed what an image may be."""
+        found = CALL.match(line)
+        if not found or found[3].startswith("-") or found[3] == "?":
+            return False
+        name, words, result = found[1], found[2].split(", "), int(found[3], 0)
+        return bool(getattr(self, f"do_{name}")(words, result))
+
+    def do_openat(self, words, result):
+        at, word, flags = words[0], words[1], words[2]
+        if at != "AT_FDCWD" and not os.fsdecode(literal(word)).startswith("/"):
+            self.open[result] = None
+            return False
+        name = self.place(word)
+        made = False
+        if name is None:
+            self.open[result] = None
+        elif name == "." or self.names.get(name, 0) is None:
+            self.open[result] = [name, 0]
+        else:
+            made = name not in self.names
+            if made:
+                self.names[name] = self.new()
+            number = self.names[name]
+            if "O_TRUNC" in flags and self.bytes[number]:
+                self.bytes[number], made = b"", True
+            self.open[result] = [number, len(self.bytes[number]) if "O_APPEND" in flags else 0]
+        return made
+
+    def do_open(self, words, result):
+        return self.do_openat(["AT_FDCWD", *words], result)
+
+    def do_close(self, words, result):
+        self.open.pop(int(words[0]), None)
+
+    def do_lseek(self, words, result):
+        if self.open.get(int(words[0])):
+            self.open[int(words[0])][1] = result
+
+    def do_write(self, words, result):
+        held = self.open.get(int(words[0]))
+        if held is None:
+            return False
+        self.write(held[0], held[1], literal(words[1])[:result])
+        held[1] += result
+        return True
+
+    def do_pwrite64(self, words, result):
+        held = self.open.get(int(words[0]))
+        if held is not None:
+            self.write(held[0], int(words[3]), literal(words[1])[:result])
+        return held is not None
+
+    def do_ftruncate(self, words, result):
+        held, size = self.open.get(int(words[0])), int(words[1])
+        if held is not None:
+            self.bytes[held[0]] = self.bytes[held[0]][:size].ljust(size, b"\0")
+        return held is not None
+
+    def do_truncate(self, words, result):
+        name = self.place(words[0])
+        if name is not None:
+            self.bytes[self.names[name]] = self.bytes[self.names[name]][:int(words[1])].ljust(int(words[1]), b"\0")
+        return name is not None
+
+    def do_fsync(self, words, result):
+        held = self.open.get(int(words[0]))
+        if held is not None:
+            self.sync(held[0])
+        return held is not None
+
+    do_fdatasync = do_fsync
+
+    def do_rename(self, words, result):
+        old, new = self.place(words[0]), self.place(words[1])
+        if old is not None and new is not None:
+            self.names[new] = self.names.pop(old)
+        elif old is not new:
+            raise ValueError("a rename across the folder's border")
+        return old is not None
+
+    def do_renameat2(self, words, result):
+        return self.do_rename([words[1], words[3]], result)
+
+    do_renameat = do_renameat2
+
+    def do_unlink(self, words, result):
+        name = self.place(words[0])
+        if name is not None:
+            self.names.pop(name)
+        return name is not None
+
+    do_rmdir = do_unlink
+
+    def do_unlinkat(self, words, result):
+        return self.do_unlink(words[1:], result) if words[0] == "AT_FDCWD" else False
+
+    def do_mkdir(self, words, result):
+        name = self.place(words[0])
+        if name is not None:
+            self.names[name] = None
+        return name is not None
+
+    def do_mkdirat(self, words, result):
+        return self.do_mkdir(words[1:], result)
+
+    def do_mmap(self, words, result):
+        if "MAP_SHARED" in words[3] and "PROT_WRITE" in words[2] and words[4] != "-1":
+            raise ValueError("a file is written through memory")
+
+
+def folders_of(name):
+    parts = name.split("/")
+    return ["/".join(parts[:count]) for count in range(1, len(parts))]
+
+
+def images_of(lines, disk):
+    """Each image behind each call that changed what it may be, once, with where it was first met. Of each write there is
+    one with half of its bytes too."""
+    met = {}
+
+    def add(where):
+        for kind, image in disk.images():
+            met.setdefault(tuple(sorted(image.items(), key=lambda it: it[0])), f"{kind}, {where}")
+
+    add("before the first call")
+    for number, line in enumerate(lines):
+        torn = half_write(disk, line)
+        if torn is not None:
+            met.setdefault(tuple(sorted(torn.items(), key=lambda it: it[0])), f"half of the write of call {number}")
+        if disk.note(line):
+            add(f"after call {number}, {line[:line.find('(')]}")
+    return met
+
+
+def half_write(disk, line):
+    """All that was written, and the first half of the write that this call is."""
+    found = CALL.match(line)
+    if not found or found[1] != "write" or found[3].startswith(("-", "?")) or int(found[3]) < 2:
+        return None
+    words = found[2].split(", ")
+    held = disk.open.get(int(words[0]))
+    if held is None:
+        return None
+    old = disk.bytes[held[0]]
+    disk.write(held[0], held[1], literal(words[1])[:int(found[3]) // 2])
+    torn = disk.image(disk.names, disk.bytes)
+    disk.bytes[held[0]] = old
+    return torn
+
+
+def traced(place, words=("flow",)):
+    """The program's own calls in a whole run, one a line, or nothing where they can't be had."""
+    trace = f"{place.room}/trace"
+    place.put(shutil.which("strace"), f"{place.room}/strace")
+    place.give()
+    started = place.start(["-o", trace, "-xx", "-s", "4000000", "-e", f"trace={CALLS}", "-e", "signal=none", f"{place.room}/makeflow", *words], program="strace")
+    try:
+        out, err = started.communicate(timeout=120)
+    except subprocess.TimeoutExpired:
+        started.kill()
+        started.communicate()
+        return None
+    if started.returncode or not os.path.exists(trace):
+        print(f"strace ended with {started.returncode}: {short(out)} {short(err)}", flush=True)
+        return None
+    return content_of(trace).decode().splitlines()
+
+
+def crash_images():
+    """What a crash may leave before and behind each call by which the program changes or syncs a file, resumed."""
+    name = "what a crash may leave"
+    if not shutil.which("strace"):
+        print(f"skipped {name}: strace isn't installed", flush=True)
+        return
+    rules = [("cat s > a", ["s"], ["a"]), ("cat a s > d/b; echo more > c", ["a", "s"], ["d/b", "c"]), ("cat a d/b c > e", ["a", "d/b", "c"], ["e"])]
+    files = {"s": "abc\n", "flow": text_of(rules), "a": "an old file, which is longer", "e": "old"}
+    place, under = Place(files), memory_folder()
+    try:
+        lines = traced(place)
+        if lines is None:
+            print(f"skipped {name}: strace can't trace here", flush=True)
+            return
+        real = {it: data[-1] if data[0] == "file" else None for it, data in seen(place.work).items()}
+        disk = Disk(place.work, {it: content.encode() for it, content in files.items()})
+        try:
+            met = images_of(lines, disk)
+        except (ValueError, AttributeError, KeyError, TypeError) as it:
+            say(name, [f"a call that isn't understood: {it!r}"])
+            return
+        wanted = {it: content for it, content in real.items() if content is not None and it != USUAL_LOG}
+    finally:
+        place.close()
+    wrong = [] if disk.image(disk.names, disk.bytes) == real else ["the calls that were seen don't explain the files that were made"]
+    wrong += [] if disk.image(disk.kept, disk.synced) == real else ["at the end not all was synced"]
+    made = {it: content.encode() for it, content in {**files, "a": "abc\n", "d/b": "abc\nabc\n", "c": "more\n", "e": "abc\nabc\nabc\nmore\n"}.items()}
+    wrong += [] if wanted == made else [f"the run made {short(wanted)}"]
+
+    def resumed(image, where):
+        place = Place({it: content for it, content in image if content is not None}, under)
+        try:
+            for it, content in image:
+                if content is None:
+                    os.makedirs(f"{place.work}/{it}", exist_ok=True)
+            place.give()
+            return [f"{where}: {it}" for it in wrong_resume(place, rules, made)]
+        except Exception as it:
+            return [f"{where}: the test itself failed: {it!r}"]
+        finally:
+            place.close()
+
+    for image, where in met.items():
+        wrong += [f"{where}: {it} is half written: {short(content)}" for it, content in image
+                  if content is not None and it in made and content not in (made[it], files.get(it, "").encode())]
+    with ThreadPoolExecutor(AT_ONCE) as pool:
+        for found in pool.map(lambda it: resumed(*it), met.items()):
+            wrong += found
+    changes = sum(bool(re.match("write|ftrunc|fsync|fdatasync|rename|unlink|mkdir", it)) for it in lines)
+    say(f"{name}: {len(met)} images of {changes} calls that write, sync, rename or remove", wrong)
+
+
+GROUPS = [kills, crash_images]
