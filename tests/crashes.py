@@ -10,7 +10,7 @@ import time
 from concurrent.futures import ThreadPoolExecutor
 
 import logs
-from places import USUAL_LOG, Place, complete, content_of, outcome, say, seen, short
+from places import USUAL_LOG, Place, complete, content_of, outcome, say, seen, short, text_of
 
 KILLS = 25
 KILL_SECONDS = 75
@@ -38,10 +38,6 @@ def two_step_flow():
     return rules
 
 
-def text_of(rules):
-    return "".join(f"{' '.join(outs)}: {' '.join(inputs)}\n\t{command}\n" for command, inputs, outs in rules)
-
-
 def files_of(place):
     """The regular files of a place but its log, by name."""
     return {name: it[-1] for name, it in seen(place.work).items() if it[0] == "file" and name != USUAL_LOG}
@@ -62,7 +58,8 @@ def wrong_resume(place, rules, wanted, words=("flow",)):
         return [*wrong, f"the log: {it}"]
     bad = logs.illegal(records, [(inputs, outs) for _, inputs, outs in rules])
     wrong += [f"the log: {bad}"] if bad else []
-    return wrong + ([] if logs.kinds(records)[-1:] == ["ended complete"] else [f"the log ends with {logs.kinds(records)[-1:]}"])
+    wrong += [] if logs.kinds(records)[-1:] == ["ended complete"] else [f"the log ends with {logs.kinds(records)[-1:]}"]
+    return wrong + [f"the printed log: {it}" for it in outcome(place.start(("--print-log", *words)), 0, logs.printed(records, len(rules)))]
 
 
 class Kills:
@@ -75,25 +72,31 @@ class Kills:
         self.until = time.monotonic() + KILL_SECONDS
 
     def next(self):
-        """Whether the next kill is of the program alone, and when it comes; nothing where all is done."""
+        """Whether the next kill is of the program alone, and when it comes; nothing where all is done. Behind every fifth
+        one the resumed run is killed too."""
         with self.lock:
             alone = self.begun[True] <= self.begun[False]
             if time.monotonic() > self.until or self.begun[alone] >= KILLS or self.late > 4 * KILLS:
                 return None
             self.begun[alone] += 1
-            return alone, self.random.uniform(0, self.whole)
+            again = self.begun[alone] % 5 == 0
+            return alone, [self.random.uniform(0, self.whole / (at + 1)) for at in range(2 if again else 1)]
 
-    def trial(self, alone, moment):
+    @staticmethod
+    def kill(place, alone, moment):
+        """Starts the program, kills it, and answers whether that came in time."""
+        started = place.start(stdout=subprocess.DEVNULL)
+        time.sleep(moment)
+        try:
+            (os.kill if alone else os.killpg)(started.pid, signal.SIGKILL)
+        finally:
+            started.communicate()
+        return started.returncode == -signal.SIGKILL
+
+    def trial(self, alone, moments):
         place = Place(self.files, self.under)
         try:
-            started = place.start(stdout=subprocess.DEVNULL)
-            time.sleep(moment)
-            if alone:
-                os.kill(started.pid, signal.SIGKILL)
-            else:
-                os.killpg(started.pid, signal.SIGKILL)
-            started.communicate()
-            if started.returncode != -signal.SIGKILL:
+            if not [self.kill(place, alone, moment) for moment in moments][0]:
                 with self.lock:
                     self.begun[alone] -= 1
                     self.late += 1
@@ -104,7 +107,7 @@ class Kills:
             wrong = half + wrong_resume(place, self.rules, self.wanted)
             with self.lock:
                 self.count[alone] += 1
-                self.wrong += [f"a kill of the program {'alone' if alone else 'and its jobs'} after {moment:.3f} s: {it}" for it in wrong]
+                self.wrong += [f"a kill of the program {'alone' if alone else 'and its jobs'} after {' and '.join(f'{it:.3f}' for it in moments)} s: {it}" for it in wrong]
         finally:
             place.close()
 

@@ -30,6 +30,11 @@ def flow(command, head="out: in"):
     return f"{head}\n\t{command}\n"
 
 
+def text_of(rules):
+    """Rules (command, inputs, outputs) as a flow."""
+    return "".join(f"{' '.join(outs)}: {' '.join(inputs)}\n\t{command}\n" for command, inputs, outs in rules)
+
+
 def complete(rules):
     return f"makeflow: complete, {rules} rules, 0 files collected\n"
 

@@ -7,7 +7,7 @@ import subprocess
 import time
 
 import logs
-from places import COMPLETE, FOLDER_FAULT, NOBODY, SECONDS, USER, USUAL_LOG, Place, complete, content_of, outcome, say, seen, short
+from places import COMPLETE, FOLDER_FAULT, NOBODY, SECONDS, USER, USUAL_LOG, Place, complete, content_of, outcome, say, seen, short, text_of
 
 ONE = [("cat in > out", ["in"], ["out"])]
 TWO = [("cat in > a", ["in"], ["a"]), ("cat a > b", ["a"], ["b"])]
@@ -16,11 +16,6 @@ AGAIN = ["resumed", "ended complete"]
 OTHER_FLOW = "makeflow: the log is of another flow\n"
 LOG_FULL = "makeflow: log full\n"
 TAKEN = "makeflow: the log's name is in the flow\n"
-
-
-def text_of(rules):
-    """Rules (command, inputs, outputs) as a flow."""
-    return "".join(f"{' '.join(outs)}: {' '.join(inputs)}\n\t{command}\n" for command, inputs, outs in rules)
 
 
 def cleaned(files):
@@ -508,7 +503,7 @@ def large_log(rules):
 
 def large_logs():
     """The processor time of each call is bounded, since the machine may be busy."""
-    rules, bound, times = 5000, 20, {}
+    rules, bound, times = 2000, 20, {}
     data, printed = large_log(rules)
     place = Place({"flow": text_of([(f": > o{it}", [], [f"o{it}"]) for it in range(rules)]), USUAL_LOG: data, **{f"o{it}": "" for it in range(rules)}})
     wrong = []
