@@ -65,8 +65,8 @@ def wrong_resume(place, rules, wanted, words=("flow",)):
 class Kills:
     """Trials by several threads, until there were enough kills of each kind or the time is over."""
 
-    def __init__(self, rules, files, wanted, whole, under):
-        self.rules, self.files, self.wanted, self.whole, self.under = rules, files, wanted, whole, under
+    def __init__(self, rules, files, wanted, whole, under, like):
+        self.rules, self.files, self.wanted, self.whole, self.under, self.like = rules, files, wanted, whole, under, like
         self.lock, self.wrong, self.random = threading.Lock(), [], random.Random(18)
         self.begun, self.count, self.late = {True: 0, False: 0}, {True: 0, False: 0}, 0
         self.until = time.monotonic() + KILL_SECONDS
@@ -94,7 +94,7 @@ class Kills:
         return started.returncode == -signal.SIGKILL
 
     def trial(self, alone, moments):
-        place = Place(self.files, self.under)
+        place = Place(self.files, self.under, self.like)
         try:
             if not [self.kill(place, alone, moment) for moment in moments][0]:
                 with self.lock:
@@ -130,15 +130,15 @@ def kills():
         begun = time.monotonic()
         wrong = outcome(place.start(), 0, complete(RULES))
         whole, wanted = time.monotonic() - begun, files_of(place)
+        if wrong or wanted != serial(rules, files):
+            say("a run of 60 rules that write in two steps", wrong or ["its files aren't those of a serial run by the shell"])
+            return
+        trials = Kills(rules, files, wanted, whole, under, place)
+        with ThreadPoolExecutor(AT_ONCE) as pool:
+            for _ in range(AT_ONCE):
+                pool.submit(trials.work)
     finally:
         place.close()
-    if wrong or wanted != serial(rules, files):
-        say("a run of 60 rules that write in two steps", wrong or ["its files aren't those of a serial run by the shell"])
-        return
-    trials = Kills(rules, files, wanted, whole, under)
-    with ThreadPoolExecutor(AT_ONCE) as pool:
-        for _ in range(AT_ONCE):
-            pool.submit(trials.work)
     alone, both = trials.count[True], trials.count[False]
     few = [] if min(alone, both) >= 5 else ["too few kills came in time"]
     say(f"{alone} kills of the program alone and {both} of program and jobs, within a run of {whole:.1f} s", trials.wrong + few)
@@ -382,56 +382,63 @@ def traced(place, words=("flow",)):
     return content_of(trace).decode().splitlines()
 
 
+RULES_TO_CRASH = [("cat s > a", ["s"], ["a"]), ("cat a s > d/b; echo more > c", ["a", "s"], ["d/b", "c"]), ("cat a d/b c > e", ["a", "d/b", "c"], ["e"])]
+FILES_TO_CRASH = {"s": "abc\n", "flow": text_of(RULES_TO_CRASH), "a": "an old file, which is longer", "e": "old"}
+FILES_MADE = {it: text.encode() for it, text in {**FILES_TO_CRASH, "a": "abc\n", "d/b": "abc\nabc\n", "c": "more\n", "e": "abc\nabc\nabc\nmore\n"}.items()}
+
+
+def explained(disk, place):
+    """What of a finished run the calls that were seen don't explain, or what it left unsynced."""
+    real = {it: data[-1] if data[0] == "file" else None for it, data in seen(place.work).items()}
+    wrong = [] if disk.image(disk.names, disk.bytes) == real else ["the calls that were seen don't explain the files that were made"]
+    wrong += [] if disk.image(disk.kept, disk.synced) == real else ["at the end not all was synced"]
+    return wrong + ([] if files_of(place) == FILES_MADE else [f"the run made {short(files_of(place))}"])
+
+
+def resumed(image, where, under, like):
+    """What is wrong with a run over what a crash left."""
+    wrong = [f"{it} is half written: {short(content)}" for it, content in image
+             if content is not None and it in FILES_MADE and content not in (FILES_MADE[it], FILES_TO_CRASH.get(it, "").encode())]
+    place = Place({it: content for it, content in image if content is not None}, under, like)
+    try:
+        for it, content in image:
+            if content is None:
+                os.makedirs(f"{place.work}/{it}", exist_ok=True)
+        place.give()
+        wrong += wrong_resume(place, RULES_TO_CRASH, FILES_MADE)
+    except Exception as it:
+        wrong.append(f"the test itself failed: {it!r}")
+    finally:
+        place.close()
+    return [f"{where}: {it}" for it in wrong]
+
+
 def crash_images():
     """What a crash may leave before and behind each call by which the program changes or syncs a file, resumed."""
     name = "what a crash may leave"
     if not shutil.which("strace"):
         print(f"skipped {name}: strace isn't installed", flush=True)
         return
-    rules = [("cat s > a", ["s"], ["a"]), ("cat a s > d/b; echo more > c", ["a", "s"], ["d/b", "c"]), ("cat a d/b c > e", ["a", "d/b", "c"], ["e"])]
-    files = {"s": "abc\n", "flow": text_of(rules), "a": "an old file, which is longer", "e": "old"}
-    place, under = Place(files), memory_folder()
+    place, under = Place(FILES_TO_CRASH), memory_folder()
     try:
         lines = traced(place)
         if lines is None:
             print(f"skipped {name}: strace can't trace here", flush=True)
             return
-        real = {it: data[-1] if data[0] == "file" else None for it, data in seen(place.work).items()}
-        disk = Disk(place.work, {it: content.encode() for it, content in files.items()})
+        disk = Disk(place.work, {it: content.encode() for it, content in FILES_TO_CRASH.items()})
         try:
             met = images_of(lines, disk)
         except (ValueError, AttributeError, KeyError, TypeError) as it:
             say(name, [f"a call that isn't understood: {it!r}"])
             return
-        wanted = {it: content for it, content in real.items() if content is not None and it != USUAL_LOG}
+        wrong = explained(disk, place)
+        with ThreadPoolExecutor(AT_ONCE) as pool:
+            for found in pool.map(lambda it: resumed(*it, under, place), met.items()):
+                wrong += found
+        changes = sum(bool(re.match("write|ftrunc|fsync|fdatasync|rename|unlink|mkdir", it)) for it in lines)
+        say(f"{name}: {len(met)} images of {changes} calls that write, sync, rename or remove", wrong)
     finally:
         place.close()
-    wrong = [] if disk.image(disk.names, disk.bytes) == real else ["the calls that were seen don't explain the files that were made"]
-    wrong += [] if disk.image(disk.kept, disk.synced) == real else ["at the end not all was synced"]
-    made = {it: content.encode() for it, content in {**files, "a": "abc\n", "d/b": "abc\nabc\n", "c": "more\n", "e": "abc\nabc\nabc\nmore\n"}.items()}
-    wrong += [] if wanted == made else [f"the run made {short(wanted)}"]
-
-    def resumed(image, where):
-        place = Place({it: content for it, content in image if content is not None}, under)
-        try:
-            for it, content in image:
-                if content is None:
-                    os.makedirs(f"{place.work}/{it}", exist_ok=True)
-            place.give()
-            return [f"{where}: {it}" for it in wrong_resume(place, rules, made)]
-        except Exception as it:
-            return [f"{where}: the test itself failed: {it!r}"]
-        finally:
-            place.close()
-
-    for image, where in met.items():
-        wrong += [f"{where}: {it} is half written: {short(content)}" for it, content in image
-                  if content is not None and it in made and content not in (made[it], files.get(it, "").encode())]
-    with ThreadPoolExecutor(AT_ONCE) as pool:
-        for found in pool.map(lambda it: resumed(*it), met.items()):
-            wrong += found
-    changes = sum(bool(re.match("write|ftrunc|fsync|fdatasync|rename|unlink|mkdir", it)) for it in lines)
-    say(f"{name}: {len(met)} images of {changes} calls that write, sync, rename or remove", wrong)
 
 
 GROUPS = [kills, crash_images]

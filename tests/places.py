@@ -79,16 +79,20 @@ def seen(folder):
 
 
 class Place:
-    """A fresh folder `work` with files, beside it an empty `tmp` and the program."""
+    """A fresh folder `work` with files, beside it an empty `tmp` and the program. Where several threads start programs,
+    they take that of one place: a program can't be started while any process has it open for writing."""
 
-    def __init__(self, files, under=None):
+    def __init__(self, files, under=None, like=None):
         self.room = tempfile.mkdtemp(prefix="makeflow-system-", dir=under)
         self.work, self.tmp = f"{self.room}/work", f"{self.room}/tmp"
         os.chmod(self.room, 0o755)
         os.mkdir(self.work)
         os.mkdir(self.tmp)
         self.program = f"{self.room}/makeflow"
-        self.put(PROGRAM, self.program)
+        if like:
+            os.symlink(like.program, self.program)
+        else:
+            self.put(PROGRAM, self.program)
         for name, content in files.items():
             path = f"{self.work}/{name}"
             os.makedirs(os.path.dirname(path), exist_ok=True)

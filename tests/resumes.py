@@ -376,7 +376,9 @@ def dead_programs():
             it.place.before.pop(name)
         for name, stays in folders.items():
             it.note("the run", [] if os.path.exists(f"{it.place.tmp}/{name}") == stays else [f"the folder {name} {'is gone' if stays else 'is still there'}"])
-            shutil.rmtree(f"{it.place.tmp}/{name}", ignore_errors=True)
+            if os.path.exists(f"{it.place.tmp}/{name}"):
+                os.chmod(f"{it.place.tmp}/{name}/closed", 0o700)
+                shutil.rmtree(f"{it.place.tmp}/{name}")
 
 
 def old_files():
