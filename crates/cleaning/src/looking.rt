@@ -63,6 +63,7 @@ pub fn look<S: Site>(
     ensures ends { S.tells → (H : List RecordValue) → Spells H (S.files site.old «name»)
         → LookEnds plan.now H result }
     ensures legal { IfOk result (λ records. IsLegal plan.now records) }
+    ensures few { IfOk result (λ records. length records < 2 ^ 32) }
     ensures moments { S.tells → LeavesOnly S.moment S.images_since site.old site.new
         (IsBefore «name» (S.files site.old «name») (S.may_leave site.old)) }
     ensures resumable { S.tells → ((image : Files) → IsImage (S.may_leave site.old) image

@@ -1,6 +1,6 @@
 //! A run that goes on where the log ends.
 ghost use Rattle.std.specs.Prelude.{◌≡◌, ◌≢◌, ◌≤◌, ◌⊎◌, ℕ, List, IfErr, IfOk, OnOk};
-ghost use Rattle.std.specs.Prelude.{◌<◌, None};
+ghost use Rattle.std.specs.Prelude.{◌<◌, None, Option};
 ghost use Rattle.flow_types.specs.declared.records.Record.{Record as RecordValue};
 ghost use Rattle.flow_types.specs.Plans.{IsValid};
 ghost use Rattle.flow_types.specs.Serial.{serial};
@@ -58,6 +58,9 @@ pub fn resume<F: Commands, S: Site, R: Runner<F>, C: Clock, B: Born>(
         → S.count site < S.count refused.site) }
     ensures unchanged { IfErr result (λ refused. S.tells → IsDamageFault refused.why
         → (m : List ℕ) → S.files refused.site m ≡ S.files site m) }
+    ensures unrun { IfErr result (λ refused. runner.new ≡ runner.old) }
+    ensures crash { IfErr result (λ refused. S.tells → (m : List ℕ) (file : Option (List ℕ))
+        → m ≢ «name» → S.may_leave refused.site m file → S.may_leave site m file) }
     ensures unread { IfErr result (λ refused. S.tells
         → LeavesOnly S.moment S.images_since site refused.site
         (IsRecovering «name» (S.files site «name») (S.may_leave site))) }
