@@ -2,7 +2,7 @@
 #![tactic(auto)]
 
 use master_run::makeflow_top;
-use real_outside::{FolderSite, ShellRunner, StdoutSink, System};
+use real_outside::{FolderSite, ShellRunner, StdoutSink, System, SystemClock};
 use std::alloc::AllocError;
 use std::env::VarError;
 use std::io::ErrorKind;
@@ -42,12 +42,13 @@ fn main(rt: HostRuntime) -> ExitCode {
     let site = FolderSite::new(&rt);
     let mut runner = ShellRunner::new(&rt, process::id(rt.process()));
     let mut out = StdoutSink::new(&rt);
-    let ended = makeflow_top::<System, _, _, _>(
+    let ended = makeflow_top::<System, _, _, _, _>(
         rt.alloc(),
         words.as_slice(),
         variables.as_slice(),
         site,
         &mut runner,
+        &SystemClock::new(&rt),
         &mut out,
     );
     ExitCode::from(ended.status)

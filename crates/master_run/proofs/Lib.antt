@@ -1,4 +1,13 @@
 pub mod StageSteps
-pub mod Cuts
-pub mod Endings
+pub mod Folders
+pub mod Fitted
 pub mod Printed
+pub mod Moved
+pub mod Faults
+pub mod Reading
+pub mod Ran
+pub mod Cared
+pub mod Works
+pub mod Reprinted
+pub mod Refusals
+pub mod Unread

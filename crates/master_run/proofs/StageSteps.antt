@@ -3,12 +3,6 @@ use Rattle.std.proofs.Common.{◌≡◌, ℕ, suc, zero, ◌+◌, ◌<◌, Bool,
 use Rattle.std.specs.Prelude.{is_some}
 use Rattle.std.specs.Option.{option_map_or}
 use Rattle.flow_types.specs.declared.plan.Plan.{Plan}
-use Rattle.flow_types.specs.declared.plan.FileRow.{FileRow}
-use Rattle.flow_types.specs.Plans.{is_source}
-use Rattle.outside.specs.Files.{Files}
-use Rattle.plan_run.specs.Placed.{file_name}
-use Rattle.plan_run.specs.Sources.{first_some, fault_in, fault_at, fault_among, source_fault}
-use Rattle.plan_run.specs.Course.{HasSources}
 use Rattle.report.specs.declared.cause.Cause.{Cause}
 use Rattle.master_run.specs.declared.asking.Refusal.{Refusal}
 use Rattle.master_run.specs.declared.asking.Refusal.TheVariants.{Said, Site, Memory}
@@ -122,32 +116,3 @@ words_of_flow words options name result is named says = let P : Result Options C
     by_result (Err (Said cause)) says = says
     by_result (Err Site) says = refl
     by_result (Err Memory) says = tt
-
-some_is_none : {A : Type 0} (x : A) → (let none : Option A = None in Some x ≡ none) → ⊥
-some_is_none x wrong = cc
-
-first_none : {A : Type 0} (first : Option A) (rest : List (Option A)) → first_some (first ∷ rest) ≡ None → (first ≡ None) × (first_some rest ≡ None)
-first_none None rest none = (refl, none)
-first_none (Some x) rest none = absurd (some_is_none x none)
-
-none_wrong : (files : Files) (n f : ℕ) (rows : List FileRow) (row : FileRow) → fault_among files n rows ≡ None → slice_get rows f ≡ Some row → (m : ℕ) × (fault_at files m row ≡ None)
-none_wrong files n f [] row none is = absurd (none_is_some row is)
-none_wrong files n zero (first ∷ rows) row none is =
-    let parts = first_none (fault_at files n first) _ none in
-    let same : first ≡ row = cc in (n, ap (fault_at files n) (sym same) ∙ parts.0)
-none_wrong files n (suc f) (first ∷ rows) row none is = none_wrong files (n + 1) f rows row (first_none (fault_at files n first) _ none).1 is
-
-there : (f : ℕ) (o : Option (List ℕ)) → fault_in f o ≡ None → is_some o ≡ true
-there f None wrong = absurd (some_is_none _ wrong)
-there f (Some bytes) right = refl
-
--- the sources are there where nothing is wrong with any
-pub has_sources : (P : Plan) (files : Files) → source_fault P files ≡ None → HasSources P files
-has_sources P files none f source = by_row (slice_get P.files f) refl source
-  where
-    in_row : (m : ℕ) (row : FileRow) → is_none row.maker ≡ true → fault_at files m row ≡ None → is_some (files row.name) ≡ true
-    in_row m row made right = there m (files row.name) (ap (λ b. if b then fault_in m (files row.name) else None) (sym made) ∙ right)
-
-    by_row : (found : Option FileRow) → slice_get P.files f ≡ found → option_map_or (λ row. is_none row.maker) found false ≡ true → is_some (files (option_map_or (λ row. row.name) found [])) ≡ true
-    by_row None at source = absurd (true_is_false (sym source))
-    by_row (Some row) at source = let right = none_wrong files 0 f P.files row none at in in_row right.0 row source right.1

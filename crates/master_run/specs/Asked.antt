@@ -1,6 +1,5 @@
--- What words, environment and files ask for: a plan to run, or the first refusal. Each stage is asked once the ones before it let
--- pass.
-use Rattle.std.specs.Prelude.{ℕ, List, map, string_bytes, Option, Some, None, Result, Ok, Err, ok_or}
+-- What words, environment and files ask for, or the first refusal. Each stage is asked once the ones before it let pass.
+use Rattle.std.specs.Prelude.{◌≡◌, ℕ, List, map, string_bytes, None, false, Result, Ok, Err, ok_or}
 use Rattle.std.proofs.Common.{String, Global}
 use Rattle.flow_types.specs.declared.numbers.Amounts.{Amounts}
 use Rattle.flow_types.specs.declared.flow.RawFlow.{RawFlow}
@@ -12,16 +11,17 @@ use Rattle.jx_flow.specs.Flow.{flow_of_text}
 use Rattle.rule_graph.specs.declared.faults.GraphFault.{GraphFault}
 use Rattle.rule_graph.specs.Faults.{plan_of}
 use Rattle.outside.specs.Files.{Files}
-use Rattle.plan_run.specs.declared.sources.SourceFault.{SourceFault}
-use Rattle.plan_run.specs.declared.sources.SourceFault.TheVariants.{Missing, TooLarge}
-use Rattle.plan_run.specs.Sources.{source_fault}
+use Rattle.run_history.specs.declared.options.Options.{Options as RunOptions}
+use Rattle.run_history.specs.declared.options.Mode.TheVariants.{Never}
 use Rattle.command_words.specs.declared.options.Options.{Options}
 use Rattle.command_words.specs.declared.options.Language.{Language}
 use Rattle.command_words.specs.declared.options.Language.TheVariants as language
 use Rattle.report.specs.declared.cause.FlowFault.TheVariants.{Make, Jx, Graph}
 use Rattle.report.specs.declared.cause.Cause.{Cause}
-use Rattle.report.specs.declared.cause.Cause.TheVariants.{FlowMissing, FlowRefused, SourceMissing, SourceTooLarge}
+use Rattle.report.specs.declared.cause.Cause.TheVariants.{FlowMissing, FlowRefused}
+use Rattle.master_run.specs.declared.ask.Ask.{Ask}
 use Rattle.master_run.specs.Words.{and_then, chosen, flow_name, flow_language}
+use Rattle.master_run.specs.LogNames.{with_log_name}
 use Rattle.master_run.specs.Needs.{with_needs}
 
 -- the text of the flow file
@@ -52,38 +52,40 @@ read_rules name (Err fault) = Err (FlowRefused name (Graph fault))
 abbrev pub flow_plan : Language → List (List ℕ × List ℕ) → List ℕ → List ℕ → Result Plan Cause
 flow_plan language env name text = and_then (read_flow language env name text) (λ flow. read_rules name (plan_of flow))
 
--- the plan of the flow file of this name, if its rules need no more than these amounts
-abbrev pub file_plan : Language → List (List ℕ × List ℕ) → Files → List ℕ → Amounts → Result Plan Cause
-file_plan language env files name total = and_then (and_then (flow_text files name) (flow_plan language env name)) (with_needs total)
+-- the plan, where the log can have its name and no rule needs more than these amounts
+abbrev pub checked : List ℕ → List ℕ → Amounts → Plan → Result Plan Cause
+checked log name total P = and_then (with_log_name log name P) (with_needs total)
 
--- the plan that words, environment and files give, or the first refusal
-abbrev pub planned : List (List ℕ) → List (List ℕ × List ℕ) → Files → Result Plan Cause
-planned words env files = and_then (chosen words) (λ options. file_plan (flow_language options.flow) env files (flow_name options.flow) options.local)
+-- the plan of the flow file of this name, where its log and its needs let it be run
+abbrev pub file_plan : Language → List (List ℕ × List ℕ) → Files → List ℕ → List ℕ → Amounts → Result Plan Cause
+file_plan language env files name log total = and_then (and_then (flow_text files name) (flow_plan language env name)) (checked log name total)
 
--- the plan, or what is wrong with its sources
-abbrev pub sources_checked : Plan → Option SourceFault → Result Plan Cause
-sources_checked P None = Ok P
-sources_checked P (Some (Missing file)) = Err (SourceMissing file)
-sources_checked P (Some (TooLarge file size)) = Err (SourceTooLarge file size)
+-- what a run goes by: no file is collected, the storage has no limit, and every rule runs here
+abbrev pub run_options : Options → RunOptions
+run_options options = record { mode = Never; limit = None; retries = options.limits.retries; wq = false; local = options.local }
 
--- the plan, where nothing is wrong with its sources
-abbrev pub with_sources : Files → Plan → Result Plan Cause
-with_sources files P = sources_checked P (source_fault P files)
+-- what is asked for of this plan
+abbrev pub ask_of : Options → Plan → Ask
+ask_of options P = record { plan = P; work = options.work; log = options.log; options = run_options options }
+
+-- the same where there is a plan
+abbrev pub ask_by : Options → Result Plan Cause → Result Ask Cause
+ask_by options (Ok P) = Ok (ask_of options P)
+ask_by options (Err cause) = Err cause
+
+-- what these options ask for
+abbrev pub asked_by : List (List ℕ × List ℕ) → Files → Options → Result Ask Cause
+asked_by env files options = ask_by options (file_plan (flow_language options.flow) env files (flow_name options.flow) options.log options.local)
 
 -- what words, environment and files ask for
-abbrev pub asked : List (List ℕ) → List (List ℕ × List ℕ) → Files → Result Plan Cause
-asked words env files = and_then (planned words env files) (with_sources files)
+abbrev pub asked : List (List ℕ) → List (List ℕ × List ℕ) → Files → Result Ask Cause
+asked words env files = and_then (chosen words) (asked_by env files)
 
 -- what the words of a call choose
 abbrev pub choice : List (String Global) → Result Options Cause
 choice words = chosen (map string_bytes words)
 
--- the plan that the words and the environment of a call give over these files, or the first refusal
-abbrev pub call_plan : List (String Global) → List (String Global × String Global) → Files
-    → Result Plan Cause
-call_plan words env files = planned (map string_bytes words) (given_pairs env) files
-
 -- what a call with these words and this environment asks for over these files
 abbrev pub request : List (String Global) → List (String Global × String Global) → Files
-    → Result Plan Cause
+    → Result Ask Cause
 request words env files = asked (map string_bytes words) (given_pairs env) files

@@ -1,87 +1,136 @@
--- What the end of a call means.
-use Rattle.std.specs.Prelude.{◌≡◌, ℕ, ◌+◌, ◌<◌, ◌≤◌, Bool, true, false, List, ◌++◌, length, take, Option, Some, None, Result, Ok, Err, IsTrue, IsFalse}
+-- How a call ends: by the first refusal, or by what was asked for.
+use Rattle.std.specs.Prelude.{◌≡◌, ◌⊎◌, ◌<◌, ℕ, Bool, true, false, List, [], length, Option, Some, None, Result, Ok, Err, IsTrue, IsFalse, option_map}
 use Rattle.flow_types.specs.declared.plan.Plan.{Plan}
-use Rattle.flow_types.specs.declared.job.Job.{Job}
-use Rattle.flow_types.specs.declared.job.Failure.{Failure}
-use Rattle.flow_types.specs.Serial.{Function, serial_order}
+use Rattle.flow_types.specs.declared.records.Record.{Record}
+use Rattle.flow_types.specs.Plans.{is_source}
+use Rattle.run_history.specs.declared.answers.Check.{Check}
+use Rattle.run_history.specs.declared.answers.Check.TheVariants as check
+use Rattle.run_history.specs.declared.options.Options.{Options as RunOptions}
+use Rattle.run_history.specs.History.{part}
+use Rattle.run_history.specs.Answers.{before_end, end_over}
 use Rattle.outside.specs.Files.{Files}
-use Rattle.plan_run.specs.declared.halt.Halt.{Halt}
-use Rattle.plan_run.specs.declared.halt.Halt.TheVariants as halts
-use Rattle.plan_run.specs.Course.{RunEnds, IsMadeName}
-use Rattle.report.specs.declared.cause.Cause.{Cause}
-use Rattle.report.specs.declared.cause.Cause.TheVariants.{Complete, CommandFailed, Usage, FlowMissing, FlowRefused, Unbuilt, InputsTooLarge, SiteFault, RunnerFault, SinkFault, Memory}
+use Rattle.txn_log.specs.Spells.{Spells}
+use Rattle.log_recover.specs.Recovery.{HasBadHeader, HasBadRecord}
+use Rattle.desk.specs.declared.answers.StartFault.{StartFault}
+use Rattle.desk.specs.declared.answers.StartFault.TheVariants as faults
+use Rattle.desk.specs.Histories.{history_fault}
 use Rattle.command_words.specs.declared.options.Options.{Options}
-use Rattle.master_run.specs.Words.{flow_name}
+use Rattle.command_words.specs.declared.options.Work.{Work}
+use Rattle.command_words.specs.declared.options.Work.TheVariants as works
+use Rattle.local_run.specs.Ends.{IsDamaged, IsRunEnd, run_fault}
+use Rattle.cleaning.specs.Cleanings.{SpellsSome, clean_fault, made_count}
+use Rattle.report.specs.declared.cause.Cause.{Cause}
+use Rattle.report.specs.declared.cause.Cause.TheVariants as causes
 use Rattle.report.specs.declared.cause.Kind.{Kind}
-use Rattle.report.specs.declared.cause.Kind.TheVariants.{Completed, RuleFailed, WrongSource, PastLimit, SiteBroke, RunnerBroke, SinkBroke, NoMemory}
-use Rattle.report.specs.Causes.{kind_of}
-use Rattle.report.specs.Lines.{line_of}
+use Rattle.report.specs.declared.cause.Kind.TheVariants.{SinkBroke}
+use Rattle.report.specs.Causes.{is_end, kind_of, may_replace}
+use Rattle.master_run.specs.declared.ask.Ask.{Ask}
 use Rattle.master_run.specs.declared.counts.Counts.{Counts}
+use Rattle.master_run.specs.Prints.{is_no_memory}
+use Rattle.master_run.specs.Words.{flow_name}
 
--- what may come in the place of a refusal
-abbrev pub may_replace : Kind → Bool
-may_replace SiteBroke = true
-may_replace NoMemory = true
-may_replace _ = false
+-- The cause is this one; where it is the end of what was asked for it may also be that its line wasn't taken.
+abbrev pub IsCause : Cause → Cause → Type 0
+IsCause expected cause = (cause ≡ expected) ⊎ (IsTrue (is_end (kind_of expected)) × (kind_of cause ≡ SinkBroke))
 
--- a run that came to its end: all rules ran, a command failed, or the inputs of a ready rule were too large
-abbrev pub is_ended : Result (Unit {0}) Halt → Bool
-is_ended (Ok done) = true
-is_ended (Err (halts.CommandFailed r why)) = true
-is_ended (Err (halts.InputsTooLarge r total)) = true
-is_ended (Err _) = false
+-- The cause is this one, but for a fault of the site and want of memory, which may come in its place.
+abbrev pub Answers : Cause → Cause → Type 0
+Answers expected cause = IsFalse (may_replace (kind_of cause)) → IsCause expected cause
 
--- The run came to its end, in one of these three ways.
-pub record CameToEnd (P : Plan) (gives : Function) (may_fail : Job → Failure → Type 0) (tells : Job → Type 0) (before after : Files) : Type 0 where
-  pub result : Result (Unit {0}) Halt
-  pub is_end : IsTrue (is_ended result)
-  pub ends : RunEnds P gives may_fail tells before after result
+-- The cause is this one where there is one, else this holds of it.
+abbrev pub Yields : Option Cause → Cause → Type 0 → Type 0
+Yields (Some refusal) cause rest = Answers refusal cause
+Yields None cause rest = rest
 
--- How the call ends whose plan was run. Where the sink didn't take the line, the run came to its end before.
-abbrev pub RunIs : Plan → Function → (Job → Failure → Type 0) → (Job → Type 0) → Files → Files → Cause → Type 0
-RunIs P gives may_fail tells before after (Complete rules collected) =
-    (rules ≡ length P.rules) × (collected ≡ 0) × RunEnds P gives may_fail tells before after (Ok tt)
-RunIs P gives may_fail tells before after (CommandFailed r why) = RunEnds P gives may_fail tells before after (Err (halts.CommandFailed r why))
-RunIs P gives may_fail tells before after (InputsTooLarge r total) = RunEnds P gives may_fail tells before after (Err (halts.InputsTooLarge r total))
-RunIs P gives may_fail tells before after (SiteFault old new) = RunEnds P gives may_fail tells before after (Err halts.Site)
-RunIs P gives may_fail tells before after (RunnerFault old new) = RunEnds P gives may_fail tells before after (Err halts.Runner)
-RunIs P gives may_fail tells before after (SinkFault old new) = CameToEnd P gives may_fail tells before after
-RunIs P gives may_fail tells before after Memory = RunEnds P gives may_fail tells before after (Err halts.Memory)
-RunIs P gives may_fail tells before after _ = ⊥
+-- the cause of what stands in the way of a run, a look or a cleaning
+abbrev pub start_cause : StartFault → Cause
+start_cause (faults.OtherFlow logged found) = causes.OtherFlow logged found
+start_cause (faults.NotLegal at) = causes.NotLegal at
+start_cause (faults.LogFull records) = causes.LogFull records
+start_cause (faults.StoredAboveLimit stored limit) = causes.StoredAboveLimit stored limit
+start_cause (faults.SourceMissing file) = causes.SourceMissing file
+start_cause (faults.SourceTooLarge file size) = causes.SourceTooLarge file size
+start_cause (faults.SourceChanged file logged found) = causes.SourceChanged file logged found
+start_cause (faults.FileDamaged file logged found) = causes.FileDamaged file logged found
+start_cause (faults.Site before after) = causes.SiteFault before after
+start_cause faults.Memory = causes.Memory
 
--- How a call ends of which this was asked: by the refusal, with all files as before, where one is owed; else as the plan's
--- run may end.
-abbrev pub CallEnds : Function → (Job → Failure → Type 0) → (Job → Type 0) → Result Plan Cause → Files → Files → Cause → Type 0
-CallEnds gives may_fail tells (Ok P) before after cause = RunIs P gives may_fail tells before after cause
-CallEnds gives may_fail tells (Err refusal) before after cause = (IsFalse (may_replace (kind_of cause)) → cause ≡ refusal) × (after ≡ before)
+-- why a log isn't printed: it is of another flow, or a record may not stand where it does
+abbrev pub log_refusal : Plan → List Record → Option Cause
+log_refusal P H = option_map start_cause (history_fault P H)
 
--- However the call ends, only files that the plan's rules make were written.
-abbrev pub OthersStay : Result Plan Cause → Files → Files → Type 0
-OthersStay (Ok P) before after = (name : List ℕ) → (IsMadeName P (serial_order P) name → ⊥) → after name ≡ before name
-OthersStay (Err refusal) before after = (name : List ℕ) → after name ≡ before name
+-- why a part isn't cleaned
+abbrev pub clean_refusal : Plan → List Record → Option Cause
+clean_refusal P H = option_map start_cause (clean_fault P H)
 
--- the end of a run: only of these the sink's fault takes the place
-abbrev pub is_run_end : Kind → Bool
-is_run_end Completed = true
-is_run_end RuleFailed = true
-is_run_end PastLimit = true
-is_run_end _ = false
+-- why a run doesn't start
+abbrev pub run_refusal : Plan → RunOptions → List Record → Files → Option Cause
+run_refusal P O H files = option_map start_cause (run_fault P O H files)
 
--- whether memory was wanting
-abbrev pub is_no_memory : Kind → Bool
-is_no_memory NoMemory = true
-is_no_memory _ = false
+-- the cause of an end of a run; of the others there is none
+abbrev pub end_cause : ℕ → Check → Cause
+end_cause rules (check.Complete collected) = causes.Complete rules collected
+end_cause rules (check.CommandFailed rule why) = causes.CommandFailed rule why
+end_cause rules (check.InputsTooLarge rule total) = causes.InputsTooLarge rule total
+end_cause rules (check.LogFull records) = causes.LogFull records
+end_cause rules _ = causes.Memory
+
+-- The cause is that of this end of a run.
+abbrev pub EndsBy : Plan → Check → Cause → Type 0
+EndsBy P ended cause = IsRunEnd ended × IsCause (end_cause (length P.rules) ended) cause
+
+-- A run was stopped before its end: a file that it took in isn't what was logged, or there was a fault, or want of memory.
+abbrev pub IsStop : Plan → List Record → Files → Cause → Type 0
+IsStop P records after (causes.SourceChanged file logged found) = (is_source P file.0 ≡ true) × IsDamaged P records after file logged found
+IsStop P records after (causes.FileDamaged file logged found) = (is_source P file.0 ≡ false) × IsDamaged P records after file logged found
+IsStop P records after (causes.SiteFault old new) = Unit {0}
+IsStop P records after (causes.RunnerFault old new) = Unit {0}
+IsStop P records after causes.Memory = Unit {0}
+IsStop P records after _ = ⊥
+
+-- A run came to its end, by what the definition of an end answers over its records, or was stopped before.
+abbrev pub RunEnds : Ask → List Record → Files → Cause → Type 0
+RunEnds ask records after cause = EndsBy ask.plan (end_over ask.plan ask.options (before_end records) None) cause ⊎ IsStop ask.plan records after cause
+
+-- how the call goes on over these records of the log
+abbrev pub GoesOn : Work → Ask → List Record → Files → Files → List Record → Cause → Type 0
+GoesOn works.Run ask H before after records cause = Yields (run_refusal ask.plan ask.options H before) cause (RunEnds ask records after cause)
+GoesOn works.Clean ask H before after records cause = Yields (clean_refusal ask.plan H) cause (Answers (causes.Cleaned (made_count ask.plan H)) cause)
+GoesOn works.PrintLog ask H before after records cause = Yields (log_refusal ask.plan H) cause (Answers (causes.Printed (length (part H))) cause)
+
+-- it is told that the log is damaged
+abbrev pub IsLogDamaged : Cause → Type 0
+IsLogDamaged cause = (at : ℕ) × (cause ≡ causes.LogDamaged at)
+
+-- the log is damaged, here
+abbrev pub IsDamagedAt : Option (List ℕ) → ℕ → Type 0
+IsDamagedAt file at = (HasBadHeader file × (at ≡ 0)) ⊎ HasBadRecord file at
+
+-- The log was read, or is damaged and that is told; or the site failed, or memory was wanting.
+abbrev pub IsReadOr : Option (List ℕ) → Cause → Type 0
+IsReadOr file cause = SpellsSome file ⊎ IsLogDamaged cause ⊎ IsTrue (may_replace (kind_of cause))
+
+-- How the call ends that asks for this: the log is damaged, and that is told, or it goes on over the records that it spells.
+pub record LogEnds (ask : Ask) (before after : Files) (records : List Record) (cause : Cause) : Type 0 where
+  pub damaged : (at : ℕ) → cause ≡ causes.LogDamaged at → IsDamagedAt (before ask.log) at
+  pub read : IsReadOr (before ask.log) cause
+  pub whole : (H : List Record) → Spells H (before ask.log) → GoesOn ask.work ask H before after records cause
+
+-- How a call ends of which this was asked: by the refusal, with all files as before, where one is owed.
+abbrev pub CallEnds : Result Ask Cause → Files → Files → List Record → Cause → Type 0
+CallEnds (Err refusal) before after records cause = Answers refusal cause × (after ≡ before) × (records ≡ [])
+CallEnds (Ok ask) before after records cause = LogEnds ask before after records cause
 
 -- refused by the words alone
 abbrev pub is_words_refusal : Cause → Bool
-is_words_refusal Usage = true
-is_words_refusal (Unbuilt line) = true
+is_words_refusal causes.Usage = true
+is_words_refusal (causes.Unbuilt line) = true
 is_words_refusal _ = false
 
 -- What is said of a flow has its name, and nothing is said of the words.
 abbrev pub SaysOfFlow : List ℕ → Cause → Type 0
-SaysOfFlow name (FlowMissing missing) = missing ≡ name
-SaysOfFlow name (FlowRefused refused fault) = refused ≡ name
+SaysOfFlow name (causes.FlowMissing missing) = missing ≡ name
+SaysOfFlow name (causes.FlowRefused refused fault) = refused ≡ name
 SaysOfFlow name cause = IsFalse (is_words_refusal cause)
 
 -- Words that are refused are refused whatever the objects do, and no others are.
@@ -95,70 +144,10 @@ Rose told_before told_after before after = (told_before ≡ before) × (told_aft
 
 -- A fault is told only where that object's count rose in the call, and with both counts.
 abbrev pub FaultEnd : Counts → Counts → Cause → Type 0
-FaultEnd before after (SiteFault old new) = Rose old new before.site after.site
-FaultEnd before after (RunnerFault old new) = Rose old new before.runner after.runner
-FaultEnd before after (SinkFault old new) = Rose old new before.sink after.sink
+FaultEnd before after (causes.SiteFault old new) = Rose old new before.site after.site
+FaultEnd before after (causes.RunnerFault old new) = Rose old new before.runner after.runner
+FaultEnd before after (causes.SinkFault old new) = Rose old new before.sink after.sink
 FaultEnd before after cause = Unit {0}
-
--- whether a command failed
-abbrev pub is_rule_failed : Kind → Bool
-is_rule_failed RuleFailed = true
-is_rule_failed _ = false
-
--- how a call ends in which a command failed: so, or its line wasn't printed
-abbrev pub is_failure_end : Kind → Bool
-is_failure_end RuleFailed = true
-is_failure_end SinkBroke = true
-is_failure_end NoMemory = true
-is_failure_end _ = false
-
--- A failed command ends the call so, nothing else does, and no second command fails.
-pub record FailureEnd (before after : ℕ) (cause : Cause) : Type 0 where
-  pub only : IsTrue (is_rule_failed (kind_of cause)) → after ≡ before + 1
-  pub always : before < after → IsTrue (is_failure_end (kind_of cause))
-  pub once : after ≤ before + 1
-
--- a cause whose line names files of the plan
-abbrev pub is_of_plan : Kind → Bool
-is_of_plan RuleFailed = true
-is_of_plan WrongSource = true
-is_of_plan _ = false
-
--- how a call ends whose own line may not have been printed
-abbrev pub is_unprinted : Kind → Bool
-is_unprinted SinkBroke = true
-is_unprinted NoMemory = true
-is_unprinted _ = false
-
--- What was printed over this plan: the line of the cause or that of want of memory, whole unless the sink's count rose or memory
--- was wanting, and then that of the cause that stands. The end of a run stands only where its line was printed whole, and unless the sink's fault or
--- want of memory stands, no other line was begun.
-pub record Told (P : Plan) (count_before count_after : ℕ) (old new : List ℕ) (cause stands : Cause) : Type 0 where
-  pub told : Cause
-  pub is_own : IsTrue (is_of_plan (kind_of told)) → told ≡ cause
-  pub is_standing : IsFalse (is_unprinted (kind_of stands)) → told ≡ stands
-  pub whole : count_after ≡ count_before → IsFalse (is_no_memory (kind_of stands)) → (told ≡ stands) × (new ≡ old ++ line_of P told)
-  pub of_end : IsTrue (is_run_end (kind_of stands)) → (told ≡ stands) × (new ≡ old ++ line_of P told)
-  pub part : (n : ℕ) × (new ≡ old ++ take n (line_of P told))
-
--- What was printed: the line of a cause, whole unless the sink's count rose or memory was wanting, and then the call's own. The
--- end of a run is answered only where its line was printed whole, and unless the call ends by the sink's fault or want of
--- memory, no other line was begun.
-pub record Prints (is_planned : Plan → Type 0) (count_before count_after : ℕ) (old new : List ℕ) (cause : Cause) : Type 0 where
-  pub plan : Plan
-  pub told : Cause
-  pub is_read : IsTrue (is_of_plan (kind_of told)) → is_planned plan
-  pub is_standing : IsFalse (is_unprinted (kind_of cause)) → told ≡ cause
-  pub whole : count_after ≡ count_before → IsFalse (is_no_memory (kind_of cause)) → (told ≡ cause) × (new ≡ old ++ line_of plan told)
-  pub of_end : IsTrue (is_run_end (kind_of cause)) → (told ≡ cause) × (new ≡ old ++ line_of plan told)
-  pub part : (n : ℕ) × (new ≡ old ++ take n (line_of plan told))
-
--- how a run may end in which nothing failed: it is complete, its next rules would pass a limit, or memory was wanting
-abbrev pub is_unfailed_end : Kind → Bool
-is_unfailed_end Completed = true
-is_unfailed_end PastLimit = true
-is_unfailed_end NoMemory = true
-is_unfailed_end _ = false
 
 -- counts of these numbers
 abbrev pub counts : ℕ → ℕ → ℕ → Counts

@@ -1,6 +1,10 @@
 pub mod Words
+pub mod LogNames
 pub mod Needs
 pub mod Asked
+pub mod Prints
 pub mod Ends
+pub mod Headline
+pub mod Serves
 pub mod Stages
 pub mod Runs

@@ -1,5 +1,5 @@
 -- What rules need, against what there is on this machine.
-use Rattle.std.specs.Prelude.{ℕ, List, nat_lt, Option, Some, None, Result, Ok, Err, if◌then◌else◌}
+use Rattle.std.specs.Prelude.{◌≡◌, ◌<◌, true, length, ℕ, List, nat_lt, Option, Some, None, Result, Ok, Err, if◌then◌else◌}
 use Rattle.std.specs.List.{enumerate_from}
 use Rattle.flow_types.specs.declared.numbers.Amounts.{Amounts}
 use Rattle.flow_types.specs.declared.numbers.Needs.{Needs}
@@ -7,6 +7,7 @@ use Rattle.flow_types.specs.declared.numbers.Needs.TheVariants.{Whole, Stated}
 use Rattle.flow_types.specs.declared.plan.Plan.{Plan}
 use Rattle.flow_types.specs.declared.plan.Rule.{Rule}
 use Rattle.rule_graph.specs.Faults.{first_said}
+use Rattle.run_history.specs.Links.{amounts_on, is_at_most, needs_of}
 use Rattle.report.specs.declared.cause.Cause.{Cause}
 use Rattle.report.specs.declared.cause.Cause.TheVariants.{NeedsTooMuch}
 use Rattle.master_run.specs.declared.needs.Excess.{Excess}
@@ -44,3 +45,7 @@ needs_checked P (Some over) = Err (NeedsTooMuch over.rule over.need over.total)
 -- the plan, where no rule needs more than these amounts
 abbrev pub with_needs : Amounts → Plan → Result Plan Cause
 with_needs total P = needs_checked P (excess_among total 0 P.rules)
+
+-- No rule needs more of this machine than there is.
+abbrev pub NeedsFit : Amounts → Plan → Type 0
+NeedsFit total P = (r : ℕ) → r < length P.rules → is_at_most (amounts_on 0 total (needs_of P r)) total ≡ true

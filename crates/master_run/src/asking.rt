@@ -1,27 +1,28 @@
-//! From the words and the flow file to the plan.
-ghost use Rattle.std.specs.Prelude.{◌≡◌, ◌≤◌, ◌<◌, ℕ, List, [], IfOk, IsErrOf, Err};
-ghost use Rattle.flow_types.specs.Flows.{FitsLimits};
+//! From the words and the flow file to what is asked for.
+ghost use Rattle.std.specs.Prelude.{◌≡◌, ◌≢◌, ◌≤◌, ◌<◌, ℕ, List, IfOk, IsErrOf, Err};
 ghost use Rattle.flow_types.specs.Plans.{IsValid};
 ghost use Rattle.mf_rules.specs.Flow.{given_pairs};
+ghost use Rattle.outside.specs.Disk.{IsImage, LeavesOnly, Within};
+ghost use Rattle.file_store.specs.Outputs.{file_name};
+ghost use Rattle.run_history.specs.declared.options.Mode.TheVariants.{Never};
+ghost use Rattle.local_run.specs.Ends.{FitsHere};
+ghost use Rattle.std.specs.Prelude.{None};
 ghost use Rattle.master_run.specs.declared.asking.Refusal.{Refusal as RefusalValue};
-ghost use Rattle.rule_graph.specs.Faults as graph;
-ghost use Rattle.command_words.specs.declared.options.Language.TheVariants.{Make, Jx};
-ghost use Rattle.master_run.specs.Asked.{flow_plan, file_plan, call_plan, choice, read_rules};
-ghost use Rattle.master_run.specs.Needs.{with_needs};
+ghost use Rattle.master_run.specs.Asked.{checked, file_plan, choice, request, run_options};
+ghost use Rattle.master_run.specs.Needs.{NeedsFit, with_needs};
 ghost use Rattle.master_run.specs.Stages.{Stage, WordsStage, OfFlow, SaysRefusal, SiteTrace};
-ghost use Rattle.master_run.specs.Stages.{make_refusal, jx_refusal, graph_refusal};
 ghost use Rattle.master_run.specs.Words.{flow_language, flow_name};
 
+use crate::ask::Ask;
+use crate::flow_file::read_file;
+use crate::flow_plan::flow_plan;
+use crate::log_name::with_log_name;
 use crate::needs::{Excess, least_excess};
 use command_words::{Flow, Language, Options, WordsFault, read_words};
-use flow_types::{Amounts, Bytes, Name, Plan, RawFlow};
-use jx_flow::{JxFlowFault, read_jx};
-use mf_rules::read_make;
-use mf_text::MakeFault;
+use flow_types::{Amounts, Memory, Name, Plan};
 use outside::{Fault, Site};
-use plan_run::read_file;
-use report::{Cause, FlowFault};
-use rule_graph::{GraphFault, plan_of};
+use report::Cause;
+use run_history::Mode;
 use std::alloc::Global;
 
 /// Why there is no plan.
@@ -77,122 +78,14 @@ fn name_of_flow(alloc: Global, flow: Flow) -> Result<Name, Refusal>
     }
 }
 
-fn make_refusal(name: Name, fault: MakeFault) -> Refusal
-    ensures { result ≡ make_refusal name fault }
-{
-    match fault {
-        MakeFault::Memory => Refusal::Memory,
-        fault => Refusal::Said(Cause::FlowRefused {
-            flow: name,
-            fault: FlowFault::Make(fault),
-        }),
-    }
-}
-
-fn jx_refusal(name: Name, fault: JxFlowFault) -> Refusal
-    ensures { result ≡ jx_refusal name fault }
-{
-    match fault {
-        JxFlowFault::Memory => Refusal::Memory,
-        fault => Refusal::Said(Cause::FlowRefused {
-            flow: name,
-            fault: FlowFault::Jx(fault),
-        }),
-    }
-}
-
-fn graph_refusal(name: Name, fault: GraphFault) -> Refusal
-    ensures { result ≡ graph_refusal name fault }
-{
-    match fault {
-        GraphFault::Memory => Refusal::Memory,
-        fault => Refusal::Said(Cause::FlowRefused {
-            flow: name,
-            fault: FlowFault::Graph(fault),
-        }),
-    }
-}
-
-// The plan of the rules of the flow of this name.
-fn rules_plan(alloc: Global, name: Name, flow: RawFlow) -> Result<Plan, Refusal>
-    requires { FitsLimits flow }
-    ensures stage { Stage (read_rules name (graph.plan_of flow)) result }
-    ensures flow { OfFlow name result }
-    ensures kind { SaysRefusal result }
-    ensures valid { IfOk result IsValid }
-    ensures no_site { IsErrOf result Refusal.Site → ⊥ }
-{
-    match plan_of(alloc, flow) {
-        Ok(plan) => Ok(plan),
-        Err(fault) => Err(graph_refusal(name, fault)),
-    }
-}
-
-// The plan of the Makeflow text of the flow of this name. The text is let go before the plan is
-// made.
-fn make_plan(
-    alloc: Global,
-    name: Name,
-    text: Bytes,
-    env: &[(String, String)],
-) -> Result<Plan, Refusal>
-    ensures stage { Stage (flow_plan Make (given_pairs env.now) name text) result }
-    ensures flow { OfFlow name result }
-    ensures kind { SaysRefusal result }
-    ensures valid { IfOk result IsValid }
-    ensures no_site { IsErrOf result Refusal.Site → ⊥ }
-{
-    let flow = match read_make(alloc, text.as_slice(), env) {
-        Ok(flow) => flow,
-        Err(fault) => return Err(make_refusal(name, fault)),
-    };
-    drop(text);
-    rules_plan(alloc, name, flow)
-}
-
-// The plan of the JX text of the flow of this name. The text is let go before the plan is made.
-fn jx_plan(alloc: Global, name: Name, text: Bytes) -> Result<Plan, Refusal>
-    ensures stage { Stage (flow_plan Jx [] name text) result }
-    ensures flow { OfFlow name result }
-    ensures kind { SaysRefusal result }
-    ensures valid { IfOk result IsValid }
-    ensures no_site { IsErrOf result Refusal.Site → ⊥ }
-{
-    let flow = match read_jx(alloc, text.as_slice()) {
-        Ok(flow) => flow,
-        Err(fault) => return Err(jx_refusal(name, fault)),
-    };
-    drop(text);
-    rules_plan(alloc, name, flow)
-}
-
-// The plan of the text of the flow of this name, in this language.
-fn flow_plan(
-    alloc: Global,
-    language: Language,
-    name: Name,
-    text: Bytes,
-    env: &[(String, String)],
-) -> Result<Plan, Refusal>
-    ensures stage { Stage (flow_plan language (given_pairs env.now) name text) result }
-    ensures flow { OfFlow name result }
-    ensures kind { SaysRefusal result }
-    ensures valid { IfOk result IsValid }
-    ensures no_site { IsErrOf result Refusal.Site → ⊥ }
-{
-    match language {
-        Language::Make => make_plan(alloc, name, text, env),
-        Language::Jx => jx_plan(alloc, name, text),
-    }
-}
-
 // The plan, if its rules need no more than these amounts.
 fn with_needs(plan: Plan, total: Amounts) -> Result<Plan, Refusal>
     requires { IsValid plan }
     ensures stage { Stage (with_needs total plan) result }
     ensures flow { (name : List ℕ) → OfFlow name result }
     ensures kind { SaysRefusal result }
-    ensures valid { IfOk result IsValid }
+    ensures same { IfOk result (λ p. p ≡ plan) }
+    ensures fits { IfOk result (NeedsFit total) }
     ensures no_site { IsErrOf result Refusal.Site → ⊥ }
 {
     match least_excess(total, plan.rules.as_slice()) {
@@ -203,23 +96,55 @@ fn with_needs(plan: Plan, total: Amounts) -> Result<Plan, Refusal>
     }
 }
 
-// The plan of the flow file of this name, if its rules need no more than these amounts.
+// The plan, where the log can have its name and no rule needs more than these amounts.
+fn checked(
+    alloc: Global,
+    log: &Name,
+    flow: Name,
+    total: Amounts,
+    plan: Plan,
+) -> Result<Plan, Refusal>
+    requires { IsValid plan }
+    ensures stage { Stage (checked log.now flow total plan) result }
+    ensures flow { (name : List ℕ) → OfFlow name result }
+    ensures kind { SaysRefusal result }
+    ensures valid { IfOk result IsValid }
+    ensures apart { IfOk result (λ plan. (f : ℕ) → file_name plan f ≢ log.now) }
+    ensures fits { IfOk result (NeedsFit total) }
+    ensures no_site { IsErrOf result Refusal.Site → ⊥ }
+{
+    match with_log_name(alloc, log, flow, plan) {
+        Ok(plan) => with_needs(plan, total),
+        Err(refusal) => Err(refusal),
+    }
+}
+
+// The plan of the flow file of this name, where its log and its needs let it be run.
 fn file_plan<S: Site>(
     alloc: Global,
     language: Language,
     name: Name,
+    log: &Name,
     total: Amounts,
     env: &[(String, String)],
     site: &mut S,
 ) -> Result<Plan, Refusal>
-    ensures stage { S.tells
-        → Stage (file_plan language (given_pairs env.now) (S.files site.old) name total) result }
+    ensures stage { S.tells → Stage
+        (file_plan language (given_pairs env.now) (S.files site.old) name log.now total) result }
     ensures flow { OfFlow name result }
     ensures kind { SaysRefusal result }
     ensures valid { IfOk result IsValid }
+    ensures apart { IfOk result (λ plan. (f : ℕ) → file_name plan f ≢ log.now) }
+    ensures fits { IfOk result (NeedsFit total) }
     ensures files { S.tells → S.files site.new ≡ S.files site.old }
+    ensures crash { S.tells → Within (S.may_leave site.old) (S.may_leave site.new) }
+    ensures any_moment { S.tells → LeavesOnly S.moment S.images_since site.old site.new
+        (IsImage (S.may_leave site.old)) }
     ensures trace { SiteTrace (S.count site.old) (S.count site.new) result }
 {
+    let Ok(flow) = name.copy(alloc) else {
+        return Err(Refusal::Memory);
+    };
     let text = match read_file(alloc, site, &name) {
         Ok(Some(text)) => text,
         Ok(None) => return Err(Refusal::Said(Cause::FlowMissing { name })),
@@ -227,33 +152,69 @@ fn file_plan<S: Site>(
         Err(Fault::Memory) => return Err(Refusal::Memory),
     };
     match flow_plan(alloc, language, name, text, env) {
-        Ok(plan) => with_needs(plan, total),
+        Ok(plan) => checked(alloc, log, flow, total, plan),
         Err(refusal) => Err(refusal),
     }
 }
 
-/// The plan that words, environment and files give.
-pub fn read_plan<S: Site>(
+// What a run goes by.
+fn run_options(options: &Options) -> run_history::Options
+    ensures { result ≡ run_options options.now }
+{
+    run_history::Options {
+        mode: Mode::Never,
+        limit: None,
+        retries: options.limits.retries,
+        wq: false,
+        local: options.local,
+    }
+}
+
+/// What words, environment and files ask for.
+pub fn read_ask<S: Site>(
     alloc: Global,
     words: &[String],
     env: &[(String, String)],
     site: &mut S,
-) -> Result<Plan, Refusal>
-    ensures stage { S.tells → Stage (call_plan words.now env.now (S.files site.old)) result }
+) -> Result<Ask, Refusal>
+    ensures stage { S.tells → Stage (request words.now env.now (S.files site.old)) result }
     ensures words { WordsStage (choice words.now) result }
     ensures kind { SaysRefusal result }
-    ensures valid { IfOk result IsValid }
+    ensures valid { IfOk result (λ ask. IsValid ask.plan) }
+    ensures apart { IfOk result (λ ask. (f : ℕ) → file_name ask.plan f ≢ ask.log) }
+    ensures mode { IfOk result (λ ask. ask.options.mode ≡ Never) }
+    ensures limit { IfOk result (λ ask. ask.options.limit ≡ None) }
+    ensures fits { IfOk result (λ ask. FitsHere ask.plan ask.options) }
     ensures files { S.tells → S.files site.new ≡ S.files site.old }
+    ensures crash { S.tells → Within (S.may_leave site.old) (S.may_leave site.new) }
+    ensures any_moment { S.tells → LeavesOnly S.moment S.images_since site.old site.new
+        (IsImage (S.may_leave site.old)) }
     ensures trace { SiteTrace (S.count site.old) (S.count site.new) result }
 {
     let options = match chosen(alloc, words) {
         Ok(options) => options,
         Err(refusal) => return Err(refusal),
     };
-    let total = options.local;
-    let language = language_of_flow(&options.flow);
-    match name_of_flow(alloc, options.flow) {
-        Ok(name) => file_plan(alloc, language, name, total, env, site),
+    let goes_by = run_options(&options);
+    let Options {
+        local,
+        work,
+        flow,
+        log,
+        ..
+    } = options;
+    let language = language_of_flow(&flow);
+    let name = match name_of_flow(alloc, flow) {
+        Ok(name) => name,
+        Err(refusal) => return Err(refusal),
+    };
+    match file_plan(alloc, language, name, &log, local, env, site) {
+        Ok(plan) => Ok(Ask {
+            plan,
+            work,
+            log,
+            options: goes_by,
+        }),
         Err(refusal) => Err(refusal),
     }
 }

@@ -1,8 +1,15 @@
-//! The top call of `makeflow`: reads a flow, runs its rules and prints how that ended.
+//! The top call of `makeflow`: reads a flow, does what is asked for, and prints how that ended.
 #![tactic(auto)]
 
+mod ask;
 mod asking;
+mod caring;
+mod causes;
 mod counts;
+mod course;
+mod flow_file;
+mod flow_plan;
+mod log_name;
 mod needs;
 mod printing;
 mod running;

@@ -1,17 +1,26 @@
-//! Prints the line of a cause.
-ghost use Rattle.std.specs.Prelude.{◌≡◌, ◌≤◌, List, ℕ};
-ghost use Rattle.master_run.specs.Ends.{is_run_end, Told};
-ghost use Rattle.master_run.specs.Runs.{IsPrinted, printed_cause};
+//! Prints the text of a cause.
+ghost use Rattle.std.specs.Prelude.{◌≡◌, ◌≤◌, IfOk, IsTrue, List, ℕ};
+ghost use Rattle.flow_types.specs.Plans.{IsValid};
+ghost use Rattle.desk.specs.Kept.{IsLegal};
+ghost use Rattle.report.specs.Causes.{kind_of};
+ghost use Rattle.master_run.specs.Prints.{IsPrinted, Told, is_log, printed_cause, text_of};
 
-use flow_types::Plan;
+use flow_types::{Bytes, Memory, Plan, Record};
+use log_text::print_log;
 use outside::{Fault, Sink};
 use report::{Cause, Kind};
 use std::alloc::Global;
 
-fn is_run_end(kind: Kind) -> bool
-    ensures { result ≡ is_run_end kind }
+fn text_of(alloc: Global, plan: &Plan, records: &[Record], cause: &Cause) -> Result<Bytes, Memory>
+    requires valid { IsTrue (is_log (kind_of cause.now)) → IsValid plan.now }
+    requires legal { IsTrue (is_log (kind_of cause.now)) → IsLegal plan.now records.now }
+    ensures { IfOk result (λ text. text ≡ text_of plan.now records.now cause.now) }
 {
-    matches!(kind, Kind::Completed | Kind::RuleFailed | Kind::PastLimit)
+    if cause.kind() == Kind::LogPrinted {
+        print_log(alloc, plan, records)
+    } else {
+        cause.line(alloc, plan)
+    }
 }
 
 fn printed_cause(cause: Cause, before: u64, after: u64, printed: Result<(), Fault>) -> Cause
@@ -21,7 +30,7 @@ fn printed_cause(cause: Cause, before: u64, after: u64, printed: Result<(), Faul
         Ok(()) => cause,
         Err(Fault::Memory) => Cause::Memory,
         Err(Fault::Failed) => {
-            if is_run_end(cause.kind()) {
+            if cause.kind().is_end() {
                 Cause::SinkFault { before, after }
             } else {
                 cause
@@ -30,17 +39,25 @@ fn printed_cause(cause: Cause, before: u64, after: u64, printed: Result<(), Faul
     }
 }
 
-/// Prints the line of the cause, and answers the cause that stands then.
-pub fn tell<O: Sink>(alloc: Global, plan: &Plan, cause: Cause, out: &mut O) -> Cause
-    ensures told { O.tells → Told plan.now
+/// Prints the text of the cause, and answers the cause that stands then.
+pub fn tell<O: Sink>(
+    alloc: Global,
+    plan: &Plan,
+    records: &[Record],
+    cause: Cause,
+    out: &mut O,
+) -> Cause
+    requires valid { IsTrue (is_log (kind_of cause)) → IsValid plan.now }
+    requires legal { IsTrue (is_log (kind_of cause)) → IsLegal plan.now records.now }
+    ensures told { O.tells → Told plan.now records.now
         (O.count out.old) (O.count out.new) (O.bytes out.old) (O.bytes out.new) cause result }
     ensures stands { IsPrinted (O.count out.old) (O.count out.new) cause result }
     ensures later { O.count out.old ≤ O.count out.new }
 {
     let before = out.faults();
-    match cause.line(alloc, plan) {
-        Ok(line) => {
-            let printed = out.write(line.as_slice());
+    match text_of(alloc, plan, records, &cause) {
+        Ok(text) => {
+            let printed = out.write(text.as_slice());
             printed_cause(cause, before, out.faults(), printed)
         }
         Err(_) => {

@@ -1,94 +1,87 @@
-//! The run of a plan, with the check of its sources before it.
-ghost use Rattle.std.specs.Prelude.{◌≡◌, false};
+//! The run of a plan over its log.
+ghost use Rattle.std.specs.Prelude.{◌≡◌, ◌≢◌, ◌≤◌, ℕ, None};
 ghost use Rattle.flow_types.specs.Plans.{IsValid};
-ghost use Rattle.flow_types.specs.Serial.{serial_order};
-ghost use Rattle.plan_run.specs.Course.{KeepsUnmade};
-ghost use Rattle.plan_run.specs.Sources.{source_fault};
-ghost use Rattle.plan_run.specs.Steps.{HasCauses, CountsFailures, is_by_runner};
-ghost use Rattle.master_run.specs.Runs.{PerformEnds, halt_cause, run_cause, refusal_cause};
+ghost use Rattle.run_history.specs.declared.options.Mode.TheVariants.{Never};
+ghost use Rattle.file_store.specs.Outputs.{file_name};
+ghost use Rattle.local_run.specs.Ends.{FitsHere};
+ghost use Rattle.command_words.specs.declared.options.Work.TheVariants.{Run};
+ghost use Rattle.report.specs.Causes.{kind_of};
+ghost use Rattle.master_run.specs.Ends.{counts};
+ghost use Rattle.master_run.specs.Headline.{FailureEnd};
+ghost use Rattle.master_run.specs.Serves.{Serves};
 
-use crate::asking::Refusal;
+use crate::ask::Ask;
+use crate::causes::{run_cause, unread_cause};
 use crate::counts::Counts;
-use flow_types::{Memory, Plan};
-use outside::{Commands, Fault, Runner, Site};
-use plan_run::{Halt, SourceFault, run_rules, source_fault};
+use crate::course::{Course, counts_of};
+use flow_types::Rows;
+use local_run::{Born, ResumeRefused, RunEnded, resume};
+use log_recover::files_spell_one_list;
+use outside::{Clock, Commands, Runner, Site};
 use report::Cause;
-use rule_graph::serial_order;
 use std::alloc::Global;
 
-/// Runs a plan, if its sources are all there and within their limit.
-pub fn perform<F: Commands, S: Site, R: Runner<F>>(
+/// Runs the plan over its log.
+pub fn run_flow<F: Commands, S: Site, R: Runner<F>, C: Clock, B: Born>(
     alloc: Global,
-    plan: &Plan,
-    site: &mut S,
+    before: Counts,
+    ask: Ask,
+    site: S,
     runner: &mut R,
-) -> Result<(), Halt>
-    requires { IsValid plan.now }
-    ensures told { S.tells → PerformEnds plan.now F.gives F.may_fail (R.tells runner.old)
-        (source_fault plan.now (S.files site.old)) (S.files site.old) (S.files site.new) result }
-    ensures others { S.tells
-        → KeepsUnmade plan.now (serial_order plan.now) (S.files site.old) (S.files site.new) }
-    ensures sure { R.sure runner.old → is_by_runner result ≡ false }
-    ensures failures { CountsFailures (R.failures runner.old) (R.failures runner.new) result }
-    ensures causes { HasCauses (S.count site.old) (S.count site.new)
-        (R.count runner.old) (R.count runner.new) result }
+    clock: &C,
+) -> Course<S>
+    requires valid { IsValid ask.plan }
+    requires apart { (f : ℕ) → file_name ask.plan f ≢ ask.log }
+    requires mode { ask.options.mode ≡ Never }
+    requires limit { ask.options.limit ≡ None }
+    requires fits { FitsHere ask.plan ask.options }
+    requires later { S.tells → B.born ≤ S.moment site }
+    requires work { ask.work ≡ Run }
+    requires counted { before.site ≤ S.count site }
+    requires runner { before.runner ≡ R.count runner.old }
+    ensures serves { Serves S.tells S.files S.may_leave S.moment S.images_since B.born
+        F.gives F.may_fail (R.tells runner.old) (R.sure runner.old)
+        before (counts (S.count result.site) (R.count runner.new) 0)
+        ask site result.site result.records result.cause }
+    ensures failures { FailureEnd (R.failures runner.old) (R.failures runner.new)
+        (kind_of result.cause) }
+    ensures plan { result.plan ≡ ask.plan }
 {
-    let order = match serial_order(alloc, plan) {
-        Ok(order) => order,
-        Err(Memory) => return Err(Halt::Memory),
+    files_spell_one_list();
+    let Ask {
+        plan,
+        log,
+        options,
+        ..
+    } = ask;
+    let Ok(copied) = plan.copy(alloc) else {
+        return Course {
+            cause: Cause::Memory,
+            site,
+            records: Rows::new(alloc),
+            plan,
+        };
     };
-    match source_fault(site, plan.files.as_slice()) {
-        Ok(None) => run_rules(alloc, plan, order.as_slice(), site, runner),
-        Ok(Some(SourceFault::Missing(file))) => Err(Halt::InputMissing(file)),
-        Ok(Some(SourceFault::TooLarge { file, size })) => Err(Halt::SourceTooLarge { file, size }),
-        Err(Fault::Failed) => Err(Halt::Site),
-        Err(Fault::Memory) => Err(Halt::Memory),
-    }
-}
-
-fn halt_cause(halt: Halt, before: Counts, after: Counts) -> Cause
-    ensures { result ≡ halt_cause before after halt }
-{
-    match halt {
-        Halt::CommandFailed { rule, why } => Cause::CommandFailed { rule, why },
-        Halt::InputMissing(file) => Cause::SourceMissing { file },
-        Halt::SourceTooLarge { file, size } => Cause::SourceTooLarge { file, size },
-        Halt::InputsTooLarge { rule, total } => Cause::InputsTooLarge { rule, total },
-        Halt::Site => Cause::SiteFault {
-            before: before.site,
-            after: after.site,
-        },
-        Halt::Runner => Cause::RunnerFault {
-            before: before.runner,
-            after: after.runner,
-        },
-        Halt::Memory => Cause::Memory,
-    }
-}
-
-/// The cause of a run's end.
-pub fn run_cause(rules: u32, before: Counts, after: Counts, done: Result<(), Halt>) -> Cause
-    ensures { result ≡ run_cause rules before after done }
-{
-    match done {
-        Ok(()) => Cause::Complete {
-            rules,
-            collected: 0,
-        },
-        Err(halt) => halt_cause(halt, before, after),
-    }
-}
-
-/// The cause of a refusal.
-pub fn refusal_cause(refusal: Refusal, before: Counts, after: Counts) -> Cause
-    ensures { result ≡ refusal_cause before after refusal }
-{
-    match refusal {
-        Refusal::Said(cause) => cause,
-        Refusal::Site => Cause::SiteFault {
-            before: before.site,
-            after: after.site,
-        },
-        Refusal::Memory => Cause::Memory,
+    match resume::<F, S, R, C, B>(alloc, plan, site, log, options, runner, clock) {
+        Ok(ended) => {
+            let RunEnded { site, records, how } = ended;
+            let after = counts_of::<F, _, _>(&site, runner);
+            Course {
+                cause: run_cause(before, after, &copied, how),
+                site,
+                records,
+                plan: copied,
+            }
+        }
+        Err(refused) => {
+            let ResumeRefused { why, site } = refused;
+            let after = counts_of::<F, _, _>(&site, runner);
+            Course {
+                cause: unread_cause(before, after, why),
+                site,
+                records: Rows::new(alloc),
+                plan: copied,
+            }
+        }
     }
 }

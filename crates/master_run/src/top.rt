@@ -1,21 +1,44 @@
 //! The top call.
-ghost use Rattle.std.specs.Prelude.{◌≡◌, ◌≤◌, [], Some, Ok, Result, IsTrue, IsOk, length};
-ghost use Rattle.flow_types.specs.declared.plan.Plan.{Plan as PlanValue};
-ghost use Rattle.report.specs.Causes.{kind_of, status_of};
-ghost use Rattle.master_run.specs.Asked.{call_plan, choice, request};
-ghost use Rattle.master_run.specs.Ends.{CallEnds, OthersStay, WordsEnd, FaultEnd};
-ghost use Rattle.master_run.specs.Ends.{FailureEnd, Prints, NoneRose, is_of_plan};
-ghost use Rattle.master_run.specs.Ends.{is_unfailed_end, is_rule_failed, counts};
-ghost use Rattle.std.specs.Prelude.{IsFalse};
+ghost use Rattle.std.specs.Prelude.{◌≡◌, ◌≢◌, ◌≤◌, ℕ, [], None, Ok, IsTrue, IsFalse};
+ghost use Rattle.flow_types.specs.Plans.{IsValid};
+ghost use Rattle.flow_types.specs.Serial.{serial};
+ghost use Rattle.run_history.specs.History.{since_opening};
+ghost use Rattle.run_history.specs.Spent.{SpentOnce};
+ghost use Rattle.outside.specs.Disk.{IsImage};
+ghost use Rattle.outside.specs.Files.{Files};
+ghost use Rattle.desk.specs.Kept.{IsLegal, Keeps, StaysBeside};
+ghost use Rattle.file_store.specs.Outputs.{file_name};
+ghost use Rattle.run_history.specs.declared.options.Mode.TheVariants.{Never};
+ghost use Rattle.local_run.specs.Ends.{FitsHere};
+ghost use Rattle.local_run.specs.Course.{IsUnmade, TellsJobs};
+ghost use Rattle.local_run.specs.Moments.{IsMoment, IsResumable, KeepsSome};
+ghost use Rattle.local_run.specs.Runs.{Adds, BeginsWith, Held, LosesNone, SerialFits};
+ghost use Rattle.local_run.specs.Runs.{read_sources};
+ghost use Rattle.report.specs.Causes.{is_failing, is_refusal, kind_of, may_lose, status_of};
+ghost use Rattle.report.specs.Causes.{was_read};
+ghost use Rattle.master_run.specs.declared.ask.Ask.{Ask as AskValue};
+ghost use Rattle.master_run.specs.Asked.{choice, request};
+ghost use Rattle.master_run.specs.Ends.{CallEnds, FaultEnd, WordsEnd, counts};
+ghost use Rattle.master_run.specs.Headline.{FailureEnd, HasLog, IsLegalEnd, IsLegalOr};
+ghost use Rattle.master_run.specs.Headline.{IsPlanOf, IsSpentBy, OfLog, is_run_end};
+ghost use Rattle.master_run.specs.Prints.{Prints};
+ghost use Rattle.master_run.specs.Serves.{CanComplete, IsCut, Serves};
 
-use crate::asking::read_plan;
+use crate::ask::Ask;
+use crate::asking::read_ask;
+use crate::caring::{clean_flow, read_log};
+use crate::causes::refusal_cause;
 use crate::counts::Counts;
+use crate::course::{Course, counts_of};
 use crate::printing::tell;
-use crate::running::{perform, refusal_cause, run_cause};
+use crate::running::run_flow;
+use command_words::Work;
 use flow_types::{Plan, Record, Rows};
-use outside::{Commands, Runner, Sink, Site};
+use local_run::Born;
+use outside::{Clock, Commands, Runner, Sink, Site};
 use report::Cause;
 use std::alloc::Global;
+use std::marker::Brand;
 
 /// How a call ended.
 #[derive(Drop)]
@@ -26,25 +49,8 @@ pub struct Ended<S: Site> {
     pub cause: Cause,
     /// The files, as the call left them.
     pub site: S,
-    /// What was logged.
+    /// What the log has. Where it wasn't read there is nothing.
     pub records: Rows<Record>,
-}
-
-// How a call went, before its line is printed.
-#[derive(Drop)]
-struct Course {
-    cause: Cause,
-    plan: Plan,
-}
-
-fn counts_of<F: Commands, S: Site, R: Runner<F>>(site: &S, runner: &R) -> Counts
-    ensures { result ≡ counts (S.count site.now) (R.count runner.now) 0 }
-{
-    Counts {
-        site: site.faults(),
-        runner: runner.faults(),
-        sink: 0,
-    }
 }
 
 fn no_plan(alloc: Global) -> Plan
@@ -57,104 +63,211 @@ fn no_plan(alloc: Global) -> Plan
     }
 }
 
-fn follow<F: Commands, S: Site, R: Runner<F>>(
+// Does what is asked for.
+fn serve<F: Commands, S: Site, R: Runner<F>, C: Clock, B: Born>(
+    alloc: Global,
+    before: Counts,
+    ask: Ask,
+    site: S,
+    runner: &mut R,
+    clock: &C,
+) -> Course<S>
+    requires valid { IsValid ask.plan }
+    requires apart { (f : ℕ) → file_name ask.plan f ≢ ask.log }
+    requires mode { ask.options.mode ≡ Never }
+    requires limit { ask.options.limit ≡ None }
+    requires fits { FitsHere ask.plan ask.options }
+    requires later { S.tells → B.born ≤ S.moment site }
+    requires counted { before.site ≤ S.count site }
+    requires runner { before.runner ≡ R.count runner.old }
+    ensures serves { Serves S.tells S.files S.may_leave S.moment S.images_since B.born
+        F.gives F.may_fail (R.tells runner.old) (R.sure runner.old)
+        before (counts (S.count result.site) (R.count runner.new) 0)
+        ask site result.site result.records result.cause }
+    ensures failures { FailureEnd (R.failures runner.old) (R.failures runner.new)
+        (kind_of result.cause) }
+    ensures plan { result.plan ≡ ask.plan }
+{
+    match ask.work {
+        Work::Run => run_flow::<F, S, R, C, B>(alloc, before, ask, site, runner, clock),
+        Work::Clean => clean_flow::<F, S, R, B>(alloc, before, ask, site, runner, clock.now()),
+        Work::PrintLog => read_log::<F, S, R, B>(alloc, before, ask, site, runner),
+    }
+}
+
+fn follow<F: Commands, S: Site, R: Runner<F>, C: Clock, B: Born>(
     alloc: Global,
     words: &[String],
     env: &[(String, String)],
-    site: &mut S,
+    site: S,
     runner: &mut R,
-) -> Course
-    ensures ends { S.tells → CallEnds F.gives F.may_fail (R.tells runner.old)
-        (request words.now env.now (S.files site.old)) (S.files site.old) (S.files site.new)
-        result.cause }
-    ensures others { S.tells → OthersStay (request words.now env.now (S.files site.old))
-        (S.files site.old) (S.files site.new) }
-    ensures plan { S.tells → IsTrue (is_of_plan (kind_of result.cause))
-        → call_plan words.now env.now (S.files site.old) ≡ Ok result.plan }
+    clock: &C,
+) -> Course<S>
+    requires later { S.tells → B.born ≤ S.moment site }
+    ensures ends { S.tells → CallEnds (request words.now env.now (S.files site))
+        (S.files site) (S.files result.site) result.records result.cause }
+    ensures serves { S.tells → (ask : AskValue)
+        → request words.now env.now (S.files site) ≡ Ok ask
+        → Serves S.tells S.files S.may_leave S.moment S.images_since B.born
+        F.gives F.may_fail (R.tells runner.old) (R.sure runner.old)
+        (counts (S.count site) (R.count runner.old) 0)
+        (counts (S.count result.site) (R.count runner.new) 0)
+        ask site result.site result.records result.cause }
     ensures words { WordsEnd (choice words.now) result.cause }
-    ensures faults { FaultEnd (counts (S.count site.old) (R.count runner.old) 0)
-        (counts (S.count site.new) (R.count runner.new) 0) result.cause }
-    ensures failures { FailureEnd (R.failures runner.old) (R.failures runner.new) result.cause }
-    ensures sure { R.sure runner.old → IsFalse (is_rule_failed (kind_of result.cause)) }
-    ensures site_later { S.count site.old ≤ S.count site.new }
-    ensures runner_later { R.count runner.old ≤ R.count runner.new }
+    ensures faults { FaultEnd (counts (S.count site) (R.count runner.old) 0)
+        (counts (S.count result.site) (R.count runner.new) 0) result.cause }
+    ensures legal { IsTrue (was_read (kind_of result.cause))
+        → IsLegal result.plan result.records }
+    ensures valid { IsTrue (was_read (kind_of result.cause)) → IsValid result.plan }
+    ensures planned { S.tells → IsTrue (was_read (kind_of result.cause))
+        → IsPlanOf (request words.now env.now (S.files site)) result.plan }
+    ensures untouched { S.tells → IsTrue (is_refusal (kind_of result.cause))
+        → S.files result.site ≡ S.files site }
+    ensures closed { IsTrue (is_run_end (kind_of result.cause))
+        → SpentOnce (since_opening result.records) }
+    ensures sure { R.sure runner.old → IsFalse (is_failing (kind_of result.cause)) }
+    ensures failures { FailureEnd (R.failures runner.old) (R.failures runner.new)
+        (kind_of result.cause) }
 {
-    let before = counts_of::<F, _, _>(site, runner);
-    match read_plan(alloc, words, env, site) {
-        Ok(plan) => {
-            let done = perform(alloc, &plan, site, runner);
-            let after = counts_of::<F, _, _>(site, runner);
-            let cause = run_cause(plan.rules.len() as u32, before, after, done);
-            Course { cause, plan }
-        }
+    let mut site = site;
+    let before = counts_of::<F, _, _>(&site, runner);
+    match read_ask(alloc, words, env, &mut site) {
+        Ok(ask) => serve::<F, S, R, C, B>(alloc, before, ask, site, runner, clock),
         Err(refusal) => {
-            let after = counts_of::<F, _, _>(site, runner);
+            let after = counts_of::<F, _, _>(&site, runner);
             Course {
-                cause: refusal_cause(refusal, before, after),
+                cause: refusal_cause(before, after, refusal),
+                site,
+                records: Rows::new(alloc),
                 plan: no_plan(alloc),
             }
         }
     }
 }
 
-/// Reads the flow that the words name, runs its rules in the order of the serial run and prints one
-/// line about how that ended.
-pub fn makeflow_top<F: Commands, S: Site, R: Runner<F>, O: Sink>(
+/// Reads the flow that the words name and does what they ask for: runs its rules over the log,
+/// removes what they made, or prints the log. At the end one text is printed about it.
+///
+/// The clauses speak of the records that the log's file spells at the entry, of which there is one
+/// list at most. A crash at any moment leaves a site from which the same call goes on.
+pub fn makeflow_top<F: Commands, S: Site, R: Runner<F>, C: Clock, O: Sink>(
     alloc: Global,
     words: &[String],
     env: &[(String, String)],
     site: S,
     runner: &mut R,
+    clock: &C,
     out: &mut O,
 ) -> Ended<S>
     ensures status { result.status ≡ status_of result.cause }
-    ensures records { result.records ≡ [] }
 
-    // Where the site tells its files: the refusals that are asked for, in their order; else the end
-    // of the plan's run, with the serial run's contents.
-    ensures ends { S.tells → CallEnds F.gives F.may_fail (R.tells runner.old)
-        (request words.now env.now (S.files site)) (S.files site) (S.files result.site)
-        result.cause }
-
-    // However it ends, only files that the plan's rules make were written.
-    ensures others { S.tells → OthersStay (request words.now env.now (S.files site))
-        (S.files site) (S.files result.site) }
+    // Where the site tells its files, each cause exactly where it belongs, in their order. A fault
+    // of the site and want of memory may come in the place of another, and a fault of the sink in
+    // that of the end of what was asked for.
+    ensures ends { S.tells → CallEnds (request words.now env.now (S.files site))
+        (S.files site) (S.files result.site) result.records result.cause }
 
     // Over every site: words that are no command line, or that ask for what isn't built, are
-    // refused, and no others.
+    // refused, and no others; each fault comes only where that object's count rose in this call.
     ensures words { WordsEnd (choice words.now) result.cause }
-
-    // Each fault only where that object's count rose in this call.
     ensures faults { FaultEnd (counts (S.count site) (R.count runner.old) (O.count out.old))
         (counts (S.count result.site) (R.count runner.new) (O.count out.new)) result.cause }
 
-    // CommandFailed exactly where the runner answered that a command failed, which it does once at
-    // most.
-    ensures failures { FailureEnd (R.failures runner.old) (R.failures runner.new) result.cause }
+    // The records of the log stay, those that were added stand behind them, and together they may
+    // stand in a log of the plan.
+    ensures records { S.tells → OfLog (request words.now env.now (S.files site)) (S.files site)
+        (λ ask H. HasLog H result.records (kind_of result.cause)) }
+    ensures logged { S.tells → OfLog (request words.now env.now (S.files site)) (S.files site)
+        (λ ask H. IsLegalOr ask.plan H result.records (kind_of result.cause)) }
+    ensures legal { IsLegalEnd
+        (λ plan. S.tells → IsPlanOf (request words.now env.now (S.files site)) plan)
+        (kind_of result.cause) result.records }
 
-    // Where the sink tells its bytes, they grew by the cause's line, whole unless the sink's count
-    // rose or memory was wanting, and then by a first part of a line. Complete, CommandFailed and
-    // InputsTooLarge are answered only where their line was printed whole.
+    // Each attempt of this call is closed once, and given up only where a fault ended the call.
+    ensures closed { IsTrue (is_run_end (kind_of result.cause))
+        → SpentOnce (since_opening result.records) }
+    ensures spent { S.tells → OfLog (request words.now env.now (S.files site)) (S.files site)
+        (λ ask H. (IsCut result.cause → ⊥) → IsSpentBy H result.records) }
+    ensures lost { S.tells → OfLog (request words.now env.now (S.files site)) (S.files site)
+        (λ ask H. IsFalse (may_lose (kind_of result.cause)) → LosesNone H result.records) }
+
+    // A crash at any moment since the entry leaves what it might have left before the log was read,
+    // or the records that stood then and the first of those that were added, with every file that
+    // they say is present. So the same call can go on from it.
+    ensures moments { S.tells → OfLog (request words.now env.now (S.files site)) (S.files site)
+        (λ ask H. IsResumable Held ask.plan ask.log H (S.may_leave site)
+        → (image : Files) → S.images_since result.site (S.moment site) image
+        → IsMoment Held ask.plan ask.log (S.files site) (S.may_leave site) H result.records
+        (IsCut result.cause) image) }
+    ensures resumable { S.tells → (ask : AskValue)
+        → request words.now env.now (S.files site) ≡ Ok ask
+        → ((image : Files) → IsImage (S.may_leave site) image
+        → KeepsSome Held ask.plan ask.log image)
+        → (image : Files) → S.images_since result.site (S.moment site) image
+        → KeepsSome Held ask.plan ask.log image }
+    ensures now { S.tells → OfLog (request words.now env.now (S.files site)) (S.files site)
+        (λ ask H. IsResumable Held ask.plan ask.log H (S.may_leave site)
+        → (IsCut result.cause → ⊥) → (image : Files) → IsImage (S.may_leave result.site) image
+        → Keeps Held ask.plan ask.log result.records image) }
+
+    // A refusal changes no file, and no call changes one that no rule makes, but the log.
+    ensures untouched { S.tells → IsTrue (is_refusal (kind_of result.cause))
+        → S.files result.site ≡ S.files site }
+    ensures others { S.tells → (ask : AskValue)
+        → request words.now env.now (S.files site) ≡ Ok ask
+        → StaysBeside S.may_leave S.moment S.images_since (IsUnmade ask.plan ask.log)
+        site result.site }
+
+    // Where the commands are functions of their inputs, every present file has the content of the
+    // serial run at every moment, and each failure is one that its rule's job may have.
+    ensures contents { S.tells → OfLog (request words.now env.now (S.files site)) (S.files site)
+        (λ ask H. let sources = read_sources ask.plan (S.files site) in
+        IsResumable (SerialFits F.gives sources) ask.plan ask.log H (S.may_leave site)
+        → TellsJobs ask.plan (R.tells runner.old) (serial ask.plan F.gives sources)
+        → (image : Files) → S.images_since result.site (S.moment site) image
+        → IsMoment (SerialFits F.gives sources) ask.plan ask.log (S.files site)
+        (S.may_leave site) H result.records (IsCut result.cause) image) }
+    ensures honest { S.tells → OfLog (request words.now env.now (S.files site)) (S.files site)
+        (λ ask H. let sources = read_sources ask.plan (S.files site) in
+        IsResumable (SerialFits F.gives sources) ask.plan ask.log H (S.may_leave site)
+        → TellsJobs ask.plan (R.tells runner.old) (serial ask.plan F.gives sources)
+        → BeginsWith H result.records
+        → Adds (Unit {0}) F.gives F.may_fail sources ask.plan H result.records) }
+
+    // Where the sink tells its bytes, they grew by the text of the cause, whole unless the sink's
+    // count rose or memory was wanting, and then by a first part of a text. The end of what was
+    // asked for is answered only where its text was printed whole.
     ensures text { O.tells → Prints
-        (λ plan. S.tells → call_plan words.now env.now (S.files site) ≡ Ok plan)
-        (O.count out.old) (O.count out.new) (O.bytes out.old) (O.bytes out.new) result.cause }
+        (λ plan. S.tells → IsPlanOf (request words.now env.now (S.files site)) plan)
+        result.records (O.count out.old) (O.count out.new) (O.bytes out.old) (O.bytes out.new)
+        result.cause }
 
-    // What can be run is run: over a sure runner and with no count rising it ends Complete, stops
-    // since the inputs of a ready rule are too large, or wants memory.
-    ensures completes { S.tells → R.sure runner.old
-        → IsOk (request words.now env.now (S.files site))
-        → NoneRose (counts (S.count site) (R.count runner.old) (O.count out.old))
-        (counts (S.count result.site) (R.count runner.new) (O.count out.new))
-        → IsTrue (is_unfailed_end (kind_of result.cause)) }
+    // CommandFailed only where the runner answered that a command failed; over a sure runner
+    // neither that nor its fault.
+    ensures failures { FailureEnd (R.failures runner.old) (R.failures runner.new)
+        (kind_of result.cause) }
+    ensures sure { R.sure runner.old → IsFalse (is_failing (kind_of result.cause)) }
+
+    // What can come to its end does: over a sure runner that tells, with nothing in its way, room
+    // in the log and no count rising, every rule is complete, or memory was wanting.
+    ensures completes { S.tells → OfLog (request words.now env.now (S.files site)) (S.files site)
+        (λ ask H. CanComplete F.gives (R.tells runner.old) (R.sure runner.old) ask (S.files site)
+        (S.may_leave site) H
+        (counts (S.count site) (R.count runner.old) (O.count out.old))
+        (counts (S.count result.site) (R.count runner.new) (O.count out.new)) result.cause) }
 {
-    let mut site = site;
-    let course = follow(alloc, words, env, &mut site, runner);
-    let Course { cause, plan } = course;
-    let cause = tell(alloc, &plan, cause, out);
+    let course = follow::<F, S, R, C, Brand>(alloc, words, env, site, runner, clock);
+    let Course {
+        cause,
+        site,
+        records,
+        plan,
+    } = course;
+    let cause = tell(alloc, &plan, records.as_slice(), cause, out);
     Ended {
         status: cause.status(),
         cause,
         site,
-        records: Rows::new(alloc),
+        records,
     }
 }

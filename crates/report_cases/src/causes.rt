@@ -1,9 +1,11 @@
-//! Causes by their words: `complete RULES COLLECTED`; `failed RULE status STATUS`, `failed RULE
-//! missing OUTPUT` and `failed RULE long OUTPUT SIZE`; `usage`; `missing FLOW`; `unbuilt LINE`;
-//! `source FILE` and `large FILE SIZE`; `needs RULE NEED TOTAL`; `inputs RULE TOTAL`; `site BEFORE
-//! AFTER`, `runner ..` and `sink ..`; `memory`; and, for a flow that is refused, the words of
-//! `flow_faults.rt`.
+//! Causes by their words: `complete RULES COLLECTED`, `cleaned REMOVED` and `printed LINES`; `failed
+//! RULE status STATUS`, `failed RULE missing OUTPUT` and `failed RULE long OUTPUT SIZE`; `usage`;
+//! `missing FLOW`; `unbuilt LINE`; `source FILE` and `large FILE SIZE`; `needs RULE NEED TOTAL`;
+//! `inputs RULE TOTAL`; `stored STORED LIMIT`; `site BEFORE AFTER`, `runner ..` and `sink ..`;
+//! `memory`; for a log, and for a file that isn't what was logged, the words of `log_faults.rt`; and,
+//! for a flow that is refused, those of `flow_faults.rt`.
 use crate::flow_faults::{graph_fault, jx_fault, make_fault};
+use crate::log_faults::{log_fault, unlike};
 use crate::words::{first, name, number, rule, two, whole};
 use flow_types::{Failure, FileNo};
 use report::{Cause, FlowFault};
@@ -48,6 +50,11 @@ fn large_source(line: &str) -> Option<Cause> {
         file: FileNo(number(file)?),
         size: whole(size)?,
     })
+}
+
+fn stored(line: &str) -> Option<Cause> {
+    let (stored, limit) = two(line)?;
+    Some(Cause::StoredAboveLimit { stored, limit })
 }
 
 fn needs(line: &str) -> Option<Cause> {
@@ -96,6 +103,12 @@ pub fn cause_of(alloc: Global, line: &str) -> Option<Cause> {
     let (word, rest) = first(line);
     match word {
         "complete" => complete(rest),
+        "cleaned" => Some(Cause::Cleaned {
+            removed: number(rest)?,
+        }),
+        "printed" => Some(Cause::Printed {
+            lines: number(rest)?,
+        }),
         "failed" => failed(rest),
         "usage" => Some(Cause::Usage),
         "missing" => Some(Cause::FlowMissing {
@@ -108,9 +121,12 @@ pub fn cause_of(alloc: Global, line: &str) -> Option<Cause> {
             file: FileNo(number(rest)?),
         }),
         "large" => large_source(rest),
+        "stored" => stored(rest),
         "needs" => needs(rest),
         "inputs" => inputs(rest),
         "memory" => Some(Cause::Memory),
+        "log" => log_fault(alloc, rest),
+        "changed" | "damaged" => unlike(word, rest),
         "make" | "jx" | "graph" => refused(alloc, word, rest),
         _ => broken(word, rest),
     }

@@ -7,6 +7,7 @@
 
 mod causes;
 mod flow_faults;
+mod log_faults;
 mod words;
 
 use crate::causes::cause_of;

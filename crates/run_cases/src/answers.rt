@@ -9,11 +9,15 @@ use std::alloc::{AllocError, Global};
 fn shown_kind(kind: Kind) -> &'static str {
     match kind {
         Kind::Completed => "complete",
+        Kind::Told => "cleaned",
+        Kind::LogPrinted => "printed",
         Kind::RuleFailed => "rule failed",
         Kind::WrongWords => "wrong words",
         Kind::WrongFlow => "wrong flow",
-        Kind::WrongSource => "wrong source",
+        Kind::WrongLog => "wrong log",
+        Kind::WrongFile => "wrong file",
         Kind::PastLimit => "past a limit",
+        Kind::LogFilled => "log full",
         Kind::SiteBroke => "site fault",
         Kind::RunnerBroke => "runner fault",
         Kind::SinkBroke => "sink fault",
@@ -21,11 +25,22 @@ fn shown_kind(kind: Kind) -> &'static str {
     }
 }
 
-// The kind of a cause, with the counts that it has.
+// The kind of a cause, with the numbers and names that it has.
 fn shown_cause(alloc: Global, cause: &Cause) -> Result<String, AllocError> {
     let kind = shown_kind(cause.kind());
     match cause {
         Cause::Complete { rules, collected } => format!(in alloc; "{kind} {rules} {collected}"),
+        Cause::Cleaned { removed: count } | Cause::Printed { lines: count } => {
+            format!(in alloc; "{kind} {count}")
+        }
+        Cause::LogNameTaken { file } => {
+            let file = shown(alloc, file.as_bytes())?;
+            format!(in alloc; "{kind} {file}")
+        }
+        Cause::SourceChanged { file, logged, .. } | Cause::FileDamaged { file, logged, .. } => {
+            let (file, size) = (file.0, logged.size);
+            format!(in alloc; "{kind} {file} {size}")
+        }
         Cause::SiteFault { before, after }
         | Cause::RunnerFault { before, after }
         | Cause::SinkFault { before, after } => format!(in alloc; "{kind} {before} {after}"),
@@ -43,6 +58,14 @@ pub fn shown_end(
     let cause = shown_cause(alloc, &ended.cause)?;
     let printed = shown(alloc, printed)?;
     format!(in alloc; "{status} {cause} [{printed}]\n")
+}
+
+/// The status, the cause and the number of records.
+pub fn shown_outcome(alloc: Global, ended: &Ended<MemSite>) -> Result<String, AllocError> {
+    let status = ended.status;
+    let cause = shown_cause(alloc, &ended.cause)?;
+    let records = ended.records.len();
+    format!(in alloc; "{status} {cause}, records {records}")
 }
 
 /// The line of the records, and of how often the site, the runner and the sink have failed.

@@ -47,6 +47,16 @@ impl Files {
         }
         Ok(text)
     }
+
+    /// The files that stand otherwise in the site than they were put or shown last.
+    pub fn changes(&self, alloc: Global, site: &MemSite) -> Result<String, AllocError> {
+        let mut text = String::new(alloc);
+        for file in self.seen.iter() {
+            let change = shown_change(alloc, file, site)?;
+            text.push_str(&change)?;
+        }
+        Ok(text)
+    }
 }
 
 fn is_named(file: &Seen, name: &Name) -> bool {
@@ -62,6 +72,16 @@ fn shown_file(alloc: Global, file: &mut Seen, site: &MemSite) -> Result<String, 
     let text = shown_content(alloc, content)?;
     file.content = copy_of(alloc, content)?;
     format!(in alloc; "{name} {text}\n")
+}
+
+fn shown_change(alloc: Global, file: &Seen, site: &MemSite) -> Result<String, AllocError> {
+    let content = site.get(file.name.as_bytes());
+    if file.content.as_deref() == content {
+        return Ok(String::new(alloc));
+    }
+    let name = shown(alloc, file.name.as_bytes())?;
+    let text = shown_content(alloc, content)?;
+    format!(in alloc; ", {name} {text}")
 }
 
 fn copy_of(alloc: Global, content: Option<&[u8]>) -> Result<Option<Vec<u8>>, AllocError> {

@@ -6,13 +6,17 @@
 //!
 //! A run is answered by the status, the cause and all that was printed; then by the number of
 //! records and how often the site, the runner and the sink failed in all; then by each file that
-//! the case names, as the run left it.
+//! the case names, as the run left it. A crash is answered by these files alone. Calls over each
+//! crash or fault are answered by a line for each whose outcome isn't that of the one before it:
+//! the number of the crash or fault, the status, the cause, the number of records, and the files
+//! that stand otherwise than they were shown last.
 #![tactic(auto)]
 
 mod answers;
 mod files;
 mod jobs;
 mod scene;
+mod steps;
 mod words;
 
 use crate::scene::Scene;

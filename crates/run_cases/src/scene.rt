@@ -2,24 +2,36 @@
 //!
 //! `file NAME CONTENT` puts a file, `show NAME` names one that no line puts, and `env NAME VALUE`
 //! adds a variable of the environment. `job COMMAND => OUTCOME` is a row of the runner's table, by
-//! `jobs.rt`. `site fails CALL`, `runner fails CALL` and `sink fails CALL` say that a call of that
-//! object is to fail; they are numbered from 0, and go on over the runs of a case. CONTENT is
-//! spelled with the escapes of a `=~` case.
+//! `jobs.rt`. `clock MOMENT` sets the clock, which stands at 7 before. `site fails CALL`, `runner
+//! fails CALL` and `sink fails CALL` say that a call of that object is to fail; they are numbered
+//! from 0, and go on over the runs of a case. CONTENT is spelled with the escapes of a `=~` case.
+//!
+//! `crash CALL CHOICE` puts in the site's place what a crash behind that call of it leaves, or one
+//! now where there was none: at choice 0 each file as it was when it was last synced, at 1 all that
+//! was written. The calls of that site are numbered from 0 again, and none of them is to fail.
+//!
+//! `each-crash CHOICE CALLS WORD..` makes a call with these words over what each crash behind the
+//! first so many calls leaves, and `each-fault CALLS WORD..` makes one over the files of now for
+//! each of its first so many calls, which is to fail. The site stays as it was.
+mod trials;
+
 use crate::answers::{shown_counts, shown_end};
 use crate::files::Files;
 use crate::jobs::put_job;
-use crate::words::{first, spelled, words_of};
+use crate::words::{first, number_of, spelled, words_of};
 use flow_types::{Memory, Name};
 use master_run::{Ended, makeflow_top};
-use mem_outside::{Blank, MemSink, MemSite, TableRunner};
+use mem_outside::{Blank, FixedClock, MemSink, MemSite, TableRunner};
 use std::alloc::{AllocError, Global};
 use std::mem;
 
-/// A site, a runner, a sink and an environment, and the files that are shown after each run.
+/// A site, a runner, a clock, a sink and an environment, and the files that are shown after each
+/// run.
 #[derive(Drop)]
 pub struct Scene {
     site: MemSite,
     runner: TableRunner<Blank>,
+    clock: FixedClock,
     sink: MemSink,
     env: Vec<(String, String)>,
     files: Files,
@@ -31,22 +43,40 @@ impl Scene {
         Scene {
             site: MemSite::new(alloc),
             runner: TableRunner::new(alloc),
+            clock: FixedClock(7),
             sink: MemSink::new(alloc),
             env: Vec::new(alloc),
             files: Files::new(alloc),
         }
     }
 
-    /// Does what a line says. Only a run has an answer, and a line out of form.
+    /// Does what a line says. Only a run and a crash have an answer, and a line out of form.
     pub fn answer(&mut self, alloc: Global, line: &str) -> Result<String, AllocError> {
         let (kind, rest) = first(line);
-        if kind == "run" {
-            return self.run(alloc, rest);
+        let answer = match kind {
+            "run" => Some(self.run(alloc, rest)?),
+            "crash" => self.crash(alloc, rest)?,
+            "each-crash" => self.each_crash(alloc, rest)?,
+            "each-fault" => self.each_fault(alloc, rest)?,
+            _ => self.set_silently(alloc, kind, rest)?,
+        };
+        match answer {
+            Some(text) => Ok(text),
+            None => format!(in alloc; "no such line: {line}\n"),
         }
-        if self.set(alloc, kind, rest)? {
-            return Ok(String::new(alloc));
+    }
+
+    // No answer, where the line is in form.
+    fn set_silently(
+        &mut self,
+        alloc: Global,
+        kind: &str,
+        line: &str,
+    ) -> Result<Option<String>, AllocError> {
+        if self.set(alloc, kind, line)? {
+            return Ok(Some(String::new(alloc)));
         }
-        format!(in alloc; "no such line: {line}\n")
+        Ok(None)
     }
 
     // Sets what a line of this kind says, and tells whether it is in form.
@@ -56,6 +86,7 @@ impl Scene {
             "show" => self.show(alloc, line),
             "env" => self.add_variable(alloc, line),
             "job" => put_job(alloc, &mut self.runner, line),
+            "clock" => Ok(self.set_clock(line)),
             _ => self.fail(kind, line),
         }
     }
@@ -93,12 +124,22 @@ impl Scene {
         Ok(true)
     }
 
+    fn set_clock(&mut self, line: &str) -> bool {
+        match number_of(line) {
+            Some(moment) => {
+                self.clock = FixedClock(moment);
+                true
+            }
+            None => false,
+        }
+    }
+
     // A call of this object is to fail.
     fn fail(&mut self, object: &str, line: &str) -> Result<bool, AllocError> {
         let ("fails", word) = first(line) else {
             return Ok(false);
         };
-        let Ok(call) = word.parse::<u64>() else {
+        let Some(call) = number_of(word) else {
             return Ok(false);
         };
         let noted = match object {
@@ -124,6 +165,7 @@ impl Scene {
             &self.env,
             site,
             &mut self.runner,
+            &self.clock,
             &mut self.sink,
         );
         let printed = self.sink.bytes().get(before..).unwrap_or(&[]);
@@ -135,6 +177,24 @@ impl Scene {
         self.site = ended.site;
         Ok(text)
     }
+
+    // What a crash behind a call leaves, at this choice.
+    fn image(&self, alloc: Global, call: u64, choice: u64) -> Result<MemSite, AllocError> {
+        match self.site.image(alloc, call, choice) {
+            Ok(site) => Ok(site),
+            Err(Memory) => Err(AllocError),
+        }
+    }
+
+    // Goes on with what a crash leaves.
+    fn crash(&mut self, alloc: Global, line: &str) -> Result<Option<String>, AllocError> {
+        let (call, choice) = first(line);
+        let (Some(call), Some(choice)) = (number_of(call), number_of(choice)) else {
+            return Ok(None);
+        };
+        self.site = self.image(alloc, call, choice)?;
+        Ok(Some(self.files.shown(alloc, &self.site)?))
+    }
 }
 
 // The one call of what the table is about.
@@ -144,7 +204,8 @@ fn call(
     env: &[(String, String)],
     site: MemSite,
     runner: &mut TableRunner<Blank>,
+    clock: &FixedClock,
     sink: &mut MemSink,
 ) -> Ended<MemSite> {
-    makeflow_top(alloc, words, env, site, runner, sink)
+    makeflow_top(alloc, words, env, site, runner, clock, sink)
 }

@@ -10,6 +10,11 @@ pub fn first(line: &str) -> (&str, &str) {
     }
 }
 
+/// The number that a word writes.
+pub fn number_of(word: &str) -> Option<u64> {
+    word.parse::<u64>().ok()
+}
+
 /// The bytes that a text spells with the escapes of a `=~` case, None where they are out of form.
 pub fn spelled(alloc: Global, text: &str) -> Result<Option<Vec<u8>>, AllocError> {
     // The dot keeps a text that begins with `==` from being the head of a case.

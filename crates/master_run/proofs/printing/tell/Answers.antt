@@ -22,5 +22,5 @@ returns-in-Err-clause-stands g c = record { printed = Err faults.Memory; is_caus
 
 pub returns-in-Ok-clause-told : goal.returns-in-Ok-clause-told
 returns-in-Ok-clause-told g c = λ tells.
-    told_printed c.args.plan.now (g.O.Sink.count c.args.out.now) (g.O.Sink.count c.write-printed.new.self) c.as_slice.result.now (g.O.Sink.bytes c.args.out.now) (g.O.Sink.bytes c.write-printed.new.self)
-    c.args.cause c.printed_cause.result c.write-printed.result (c.as_slice.ensures ∙ c.in-Ok.ensures.bytes) (rw c.faults-before.ensures at (rw c.faults.ensures at c.printed_cause.ensures)) (c.write-printed.ensures.bytes tells) c.write-printed.ensures.cause.failed
+    told_printed c.args.plan.now c.args.records.now (g.O.Sink.count c.args.out.now) (g.O.Sink.count c.write-printed.new.self) c.as_slice.result.now (g.O.Sink.bytes c.args.out.now) (g.O.Sink.bytes c.write-printed.new.self)
+    c.args.cause c.printed_cause.result c.write-printed.result (c.as_slice.ensures ∙ c.in-Ok.ensures) (rw c.faults-before.ensures at (rw c.faults.ensures at c.printed_cause.ensures)) (c.write-printed.ensures.bytes tells) c.write-printed.ensures.cause.failed

@@ -1,97 +1,109 @@
-use Rattle.std.proofs.Common.{◌≡◌, ◌∙◌, ◌<◌, ◌≤◌, ℕ, List, Ok, Err, Result, map, string_bytes, length, true, false, arith, ap, sym, refl, subst, IsTrue, IsFalse, IsErrOf}
-use Rattle.flow_types.specs.declared.plan.Plan.{Plan}
+use Rattle.std.proofs.Common.{◌≡◌, ◌≤◌, ◌<◌, ◌∙◌, ℕ, List, [], Ok, Err, Result, ap, sym, subst, refl, arith, true, true≢false}
 use Rattle.outside.specs.Files.{Files}
-use Rattle.plan_run.specs.Sources.{source_fault}
+use Rattle.flow_types.specs.declared.plan.Plan.{Plan}
+use Rattle.flow_types.specs.declared.records.Record.{Record}
+use Rattle.desk.specs.Kept.{IsLegal}
 use Rattle.report.specs.declared.cause.Cause.{Cause}
-use Rattle.report.specs.Causes.{kind_of}
+use Rattle.report.specs.Causes.{kind_of, was_read}
+use Rattle.master_run.specs.declared.ask.Ask.{Ask}
 use Rattle.master_run.specs.declared.asking.Refusal.{Refusal}
 use Rattle.master_run.specs.declared.counts.Counts.{Counts}
-use Rattle.mf_rules.specs.Flow.{given_pairs}
-use Rattle.master_run.specs.Words.{chosen}
-use Rattle.master_run.specs.Asked.{asked}
-use Rattle.master_run.specs.Ends.{CallEnds, WordsEnd, FaultEnd, counts}
-use Rattle.master_run.specs.Runs.{PerformEnds, refusal_cause}
-use Rattle.master_run.proofs.Endings.{performed, others_stay, all_stay, refused, words_after, words_refused, refused_fault, refused_kind}
+use Rattle.master_run.specs.Asked.{choice, request}
+use Rattle.master_run.specs.Ends.{CallEnds, FaultEnd, WordsEnd, counts}
+use Rattle.master_run.specs.Headline.{FailureEnd}
+use Rattle.master_run.specs.Runs.{refusal_cause}
+use Rattle.master_run.specs.Serves.{Serves}
+use Rattle.master_run.proofs.Reading.{serves_from}
+use Rattle.master_run.proofs.Refusals.{late_words, refused_ends, refused_fault, refused_kind, refused_serves, refused_words, same_ask}
 use Rattle.master_run.proofs.top.follow.Goals as goal
 
 pub returns-in-Ok-clause-ends : goal.returns-in-Ok-clause-ends
-returns-in-Ok-clause-ends g c = λ tells.
-    let words : List (List ℕ) = map string_bytes c.args.words.now in
-    let env : List (List ℕ × List ℕ) = given_pairs c.args.env.now in
-    let files = g.S.Site.files c.args.site.now in
-    let after = g.S.Site.files c.perform-done.new.site in
-    let same : g.S.Site.files c.read_plan.new.site ≡ files = c.in-Ok.ensures.files tells in
-    let run : PerformEnds c.in-Ok.plan g.F.Commands.gives g.F.Commands.may_fail (g.R.Runner.tells c.args.runner.now) (source_fault c.in-Ok.plan files) files after c.perform-done.result =
-    subst (λ (before : Files). PerformEnds c.in-Ok.plan g.F.Commands.gives g.F.Commands.may_fail (g.R.Runner.tells c.args.runner.now) (source_fault c.in-Ok.plan before) before after c.perform-done.result) same (c.perform-done.ensures.told tells) in
-    subst (λ (cause : Cause). CallEnds g.F.Commands.gives g.F.Commands.may_fail (g.R.Runner.tells c.args.runner.now) (asked words env files) files after cause) (sym c.run_cause-cause.ensures)
-    (performed g.F.Commands.gives g.F.Commands.may_fail (g.R.Runner.tells c.args.runner.now) words env c.in-Ok.plan files after _ c.counts_of-before.result c.counts_of-after.result c.perform-done.result
-    (c.in-Ok.ensures.stage tells) c.len.ensures run)
+returns-in-Ok-clause-ends g c told =
+    subst (λ (e : Result Ask Cause). CallEnds e (g.S.Site.files c.args.site) (g.S.Site.files c.serve.result.site) c.serve.result.records c.serve.result.cause) (sym (c.in-Ok.ensures.stage told)) ((serves_from g.S.Site.tells g.S.Site.files g.S.Site.may_leave g.S.Site.moment g.S.Site.images_since g.B.Born.born g.F.Commands.gives g.F.Commands.may_fail (g.R.Runner.tells c.args.runner.now) (g.R.Runner.sure c.args.runner.now) (counts (g.S.Site.count c.args.site) (g.R.Runner.count c.args.runner.now) 0) (counts (g.S.Site.count c.serve.result.site) (g.R.Runner.count c.serve.new.runner) 0) c.in-Ok.ask c.args.site c.read_ask.new.site c.serve.result.site c.serve.result.records c.serve.result.cause c.requires.later (λ t. record { same = c.in-Ok.ensures.files t; within = c.in-Ok.ensures.crash t; only = c.in-Ok.ensures.any_moment t })
+    (subst (λ (b : Counts). Serves g.S.Site.tells g.S.Site.files g.S.Site.may_leave g.S.Site.moment g.S.Site.images_since g.B.Born.born g.F.Commands.gives g.F.Commands.may_fail (g.R.Runner.tells c.args.runner.now) (g.R.Runner.sure c.args.runner.now) b (counts (g.S.Site.count c.serve.result.site) (g.R.Runner.count c.serve.new.runner) 0) c.in-Ok.ask c.read_ask.new.site c.serve.result.site c.serve.result.records c.serve.result.cause) c.counts_of-before.ensures c.serve.ensures.serves)).ends told)
 
-pub returns-in-Ok-clause-others : goal.returns-in-Ok-clause-others
-returns-in-Ok-clause-others g c = λ tells.
-    let words : List (List ℕ) = map string_bytes c.args.words.now in
-    let env : List (List ℕ × List ℕ) = given_pairs c.args.env.now in
-    let files = g.S.Site.files c.args.site.now in
-    let after = g.S.Site.files c.perform-done.new.site in
-    let same : g.S.Site.files c.read_plan.new.site ≡ files = c.in-Ok.ensures.files tells in
-    let run : PerformEnds c.in-Ok.plan g.F.Commands.gives g.F.Commands.may_fail (g.R.Runner.tells c.args.runner.now) (source_fault c.in-Ok.plan files) files after c.perform-done.result =
-    subst (λ (before : Files). PerformEnds c.in-Ok.plan g.F.Commands.gives g.F.Commands.may_fail (g.R.Runner.tells c.args.runner.now) (source_fault c.in-Ok.plan before) before after c.perform-done.result) same (c.perform-done.ensures.told tells) in
-    others_stay g.F.Commands.gives g.F.Commands.may_fail (g.R.Runner.tells c.args.runner.now) words env c.in-Ok.plan files after c.perform-done.result (c.in-Ok.ensures.stage tells) run
-    (λ name none. c.perform-done.ensures.others tells name none ∙ ap (λ (fs : Files). fs name) same)
+pub returns-in-Ok-clause-serves : goal.returns-in-Ok-clause-serves
+returns-in-Ok-clause-serves g c told ask asked =
+    subst (λ (a : Ask). Serves g.S.Site.tells g.S.Site.files g.S.Site.may_leave g.S.Site.moment g.S.Site.images_since g.B.Born.born g.F.Commands.gives g.F.Commands.may_fail (g.R.Runner.tells c.args.runner.now) (g.R.Runner.sure c.args.runner.now) (counts (g.S.Site.count c.args.site) (g.R.Runner.count c.args.runner.now) 0) (counts (g.S.Site.count c.serve.result.site) (g.R.Runner.count c.serve.new.runner) 0) a c.args.site c.serve.result.site c.serve.result.records c.serve.result.cause) (same_ask c.in-Ok.ask ask (sym (c.in-Ok.ensures.stage told) ∙ asked)) (serves_from g.S.Site.tells g.S.Site.files g.S.Site.may_leave g.S.Site.moment g.S.Site.images_since g.B.Born.born g.F.Commands.gives g.F.Commands.may_fail (g.R.Runner.tells c.args.runner.now) (g.R.Runner.sure c.args.runner.now) (counts (g.S.Site.count c.args.site) (g.R.Runner.count c.args.runner.now) 0) (counts (g.S.Site.count c.serve.result.site) (g.R.Runner.count c.serve.new.runner) 0) c.in-Ok.ask c.args.site c.read_ask.new.site c.serve.result.site c.serve.result.records c.serve.result.cause c.requires.later (λ t. record { same = c.in-Ok.ensures.files t; within = c.in-Ok.ensures.crash t; only = c.in-Ok.ensures.any_moment t })
+    (subst (λ (b : Counts). Serves g.S.Site.tells g.S.Site.files g.S.Site.may_leave g.S.Site.moment g.S.Site.images_since g.B.Born.born g.F.Commands.gives g.F.Commands.may_fail (g.R.Runner.tells c.args.runner.now) (g.R.Runner.sure c.args.runner.now) b (counts (g.S.Site.count c.serve.result.site) (g.R.Runner.count c.serve.new.runner) 0) c.in-Ok.ask c.read_ask.new.site c.serve.result.site c.serve.result.records c.serve.result.cause) c.counts_of-before.ensures c.serve.ensures.serves))
 
 pub returns-in-Ok-clause-words : goal.returns-in-Ok-clause-words
 returns-in-Ok-clause-words g c =
-    let words : List (List ℕ) = map string_bytes c.args.words.now in
-    let env : List (List ℕ × List ℕ) = given_pairs c.args.env.now in
-    subst (λ (cause : Cause). WordsEnd (chosen words) cause) (sym c.run_cause-cause.ensures)
-    (words_after (chosen words) _ c.counts_of-before.result c.counts_of-after.result c.perform-done.result c.in-Ok.ensures.words)
+    late_words (choice c.args.words.now) c.serve.result.cause c.in-Ok.ensures.words c.serve.ensures.serves.late
+
+pub returns-in-Ok-clause-faults : goal.returns-in-Ok-clause-faults
+returns-in-Ok-clause-faults g c =
+    (serves_from g.S.Site.tells g.S.Site.files g.S.Site.may_leave g.S.Site.moment g.S.Site.images_since g.B.Born.born g.F.Commands.gives g.F.Commands.may_fail (g.R.Runner.tells c.args.runner.now) (g.R.Runner.sure c.args.runner.now) (counts (g.S.Site.count c.args.site) (g.R.Runner.count c.args.runner.now) 0) (counts (g.S.Site.count c.serve.result.site) (g.R.Runner.count c.serve.new.runner) 0) c.in-Ok.ask c.args.site c.read_ask.new.site c.serve.result.site c.serve.result.records c.serve.result.cause c.requires.later (λ t. record { same = c.in-Ok.ensures.files t; within = c.in-Ok.ensures.crash t; only = c.in-Ok.ensures.any_moment t })
+    (subst (λ (b : Counts). Serves g.S.Site.tells g.S.Site.files g.S.Site.may_leave g.S.Site.moment g.S.Site.images_since g.B.Born.born g.F.Commands.gives g.F.Commands.may_fail (g.R.Runner.tells c.args.runner.now) (g.R.Runner.sure c.args.runner.now) b (counts (g.S.Site.count c.serve.result.site) (g.R.Runner.count c.serve.new.runner) 0) c.in-Ok.ask c.read_ask.new.site c.serve.result.site c.serve.result.records c.serve.result.cause) c.counts_of-before.ensures c.serve.ensures.serves)).faults
+
+pub returns-in-Ok-clause-legal : goal.returns-in-Ok-clause-legal
+returns-in-Ok-clause-legal g c read =
+    subst (λ (P : Plan). IsLegal P c.serve.result.records) (sym c.serve.ensures.plan) (c.serve.ensures.serves.legal read)
+
+pub returns-in-Ok-clause-planned : goal.returns-in-Ok-clause-planned
+returns-in-Ok-clause-planned g c told read =
+    (c.in-Ok.ask, c.in-Ok.ensures.stage told, sym c.serve.ensures.plan)
+
+pub returns-in-Ok-clause-untouched : goal.returns-in-Ok-clause-untouched
+returns-in-Ok-clause-untouched g c told refused =
+    (serves_from g.S.Site.tells g.S.Site.files g.S.Site.may_leave g.S.Site.moment g.S.Site.images_since g.B.Born.born g.F.Commands.gives g.F.Commands.may_fail (g.R.Runner.tells c.args.runner.now) (g.R.Runner.sure c.args.runner.now) (counts (g.S.Site.count c.args.site) (g.R.Runner.count c.args.runner.now) 0) (counts (g.S.Site.count c.serve.result.site) (g.R.Runner.count c.serve.new.runner) 0) c.in-Ok.ask c.args.site c.read_ask.new.site c.serve.result.site c.serve.result.records c.serve.result.cause c.requires.later (λ t. record { same = c.in-Ok.ensures.files t; within = c.in-Ok.ensures.crash t; only = c.in-Ok.ensures.any_moment t })
+    (subst (λ (b : Counts). Serves g.S.Site.tells g.S.Site.files g.S.Site.may_leave g.S.Site.moment g.S.Site.images_since g.B.Born.born g.F.Commands.gives g.F.Commands.may_fail (g.R.Runner.tells c.args.runner.now) (g.R.Runner.sure c.args.runner.now) b (counts (g.S.Site.count c.serve.result.site) (g.R.Runner.count c.serve.new.runner) 0) c.in-Ok.ask c.read_ask.new.site c.serve.result.site c.serve.result.records c.serve.result.cause) c.counts_of-before.ensures c.serve.ensures.serves)).untouched told refused
+
+pub returns-in-Ok-clause-closed : goal.returns-in-Ok-clause-closed
+returns-in-Ok-clause-closed g c ends =
+    c.serve.ensures.serves.closed ends
+
+pub returns-in-Ok-clause-sure : goal.returns-in-Ok-clause-sure
+returns-in-Ok-clause-sure g c is =
+    c.serve.ensures.serves.sure_end is
 
 pub returns-in-Err-clause-ends : goal.returns-in-Err-clause-ends
-returns-in-Err-clause-ends g c = λ tells.
-    let words : List (List ℕ) = map string_bytes c.args.words.now in
-    let env : List (List ℕ × List ℕ) = given_pairs c.args.env.now in
-    let files = g.S.Site.files c.args.site.now in
-    subst (λ (cause : Cause). CallEnds g.F.Commands.gives g.F.Commands.may_fail (g.R.Runner.tells c.args.runner.now) (asked words env files) files (g.S.Site.files c.read_plan.new.site) cause) (sym c.refusal_cause.ensures)
-    (refused g.F.Commands.gives g.F.Commands.may_fail (g.R.Runner.tells c.args.runner.now) words env files (g.S.Site.files c.read_plan.new.site) c.counts_of-before.result c.counts_of-after-in-Err.result c.in-Err.refusal
-    (c.in-Err.ensures.stage tells) (c.in-Err.ensures.files tells))
+returns-in-Err-clause-ends g c told =
+    subst (λ (xs : List Record). CallEnds (request c.args.words.now c.args.env.now (g.S.Site.files c.args.site)) (g.S.Site.files c.args.site) (g.S.Site.files c.read_ask.new.site) xs c.refusal_cause.result) (sym c.new.ensures)
+    (subst (λ (cause : Cause). CallEnds (request c.args.words.now c.args.env.now (g.S.Site.files c.args.site)) (g.S.Site.files c.args.site) (g.S.Site.files c.read_ask.new.site) [] cause) (sym c.refusal_cause.ensures) (refused_ends (request c.args.words.now c.args.env.now (g.S.Site.files c.args.site)) (g.S.Site.files c.args.site) (g.S.Site.files c.read_ask.new.site) c.counts_of-before.result c.counts_of-after.result c.in-Err.refusal (c.in-Err.ensures.stage told) (c.in-Err.ensures.files told)))
 
-pub returns-in-Err-clause-others : goal.returns-in-Err-clause-others
-returns-in-Err-clause-others g c = λ tells.
-    all_stay (asked (map string_bytes c.args.words.now) (given_pairs c.args.env.now) (g.S.Site.files c.args.site.now)) (g.S.Site.files c.args.site.now) (g.S.Site.files c.read_plan.new.site) (c.in-Err.ensures.files tells)
-
-pub returns-in-Err-clause-plan : goal.returns-in-Err-clause-plan
-returns-in-Err-clause-plan g c = λ tells own.
-    let kind = refused_kind c.counts_of-before.result c.counts_of-after-in-Err.result c.in-Err.refusal c.in-Err.ensures.kind in
-    absurd (let wrong : true ≡ false = sym (rw c.refusal_cause.ensures at own) ∙ kind.0 in cc)
+pub returns-in-Err-clause-serves : goal.returns-in-Err-clause-serves
+returns-in-Err-clause-serves g c told ask asked =
+    subst (λ (xs : List Record). Serves g.S.Site.tells g.S.Site.files g.S.Site.may_leave g.S.Site.moment g.S.Site.images_since g.B.Born.born g.F.Commands.gives g.F.Commands.may_fail (g.R.Runner.tells c.args.runner.now) (g.R.Runner.sure c.args.runner.now) (counts (g.S.Site.count c.args.site) (g.R.Runner.count c.args.runner.now) 0) (counts (g.S.Site.count c.read_ask.new.site) (g.R.Runner.count c.args.runner.now) 0) ask c.args.site c.read_ask.new.site xs c.refusal_cause.result) (sym c.new.ensures)
+    (subst (λ (b : Counts). Serves g.S.Site.tells g.S.Site.files g.S.Site.may_leave g.S.Site.moment g.S.Site.images_since g.B.Born.born g.F.Commands.gives g.F.Commands.may_fail (g.R.Runner.tells c.args.runner.now) (g.R.Runner.sure c.args.runner.now) b (counts (g.S.Site.count c.read_ask.new.site) (g.R.Runner.count c.args.runner.now) 0) ask c.args.site c.read_ask.new.site [] c.refusal_cause.result) c.counts_of-before.ensures
+    (subst (λ (a : Counts). Serves g.S.Site.tells g.S.Site.files g.S.Site.may_leave g.S.Site.moment g.S.Site.images_since g.B.Born.born g.F.Commands.gives g.F.Commands.may_fail (g.R.Runner.tells c.args.runner.now) (g.R.Runner.sure c.args.runner.now) c.counts_of-before.result a ask c.args.site c.read_ask.new.site [] c.refusal_cause.result) c.counts_of-after.ensures
+    (subst (λ (cause : Cause). Serves g.S.Site.tells g.S.Site.files g.S.Site.may_leave g.S.Site.moment g.S.Site.images_since g.B.Born.born g.F.Commands.gives g.F.Commands.may_fail (g.R.Runner.tells c.args.runner.now) (g.R.Runner.sure c.args.runner.now) c.counts_of-before.result c.counts_of-after.result ask c.args.site c.read_ask.new.site [] cause) (sym c.refusal_cause.ensures)
+    (refused_serves g.S.Site.tells g.S.Site.files g.S.Site.may_leave g.S.Site.moment g.S.Site.images_since g.B.Born.born g.F.Commands.gives g.F.Commands.may_fail (g.R.Runner.tells c.args.runner.now) (g.R.Runner.sure c.args.runner.now) c.counts_of-before.result c.counts_of-after.result ask c.args.site c.read_ask.new.site c.requires.later (λ t. record { same = c.in-Err.ensures.files t; within = c.in-Err.ensures.crash t; only = c.in-Err.ensures.any_moment t }) c.in-Err.refusal (request c.args.words.now c.args.env.now (g.S.Site.files c.args.site)) (c.in-Err.ensures.stage told) asked (λ is. omega (arith, ap (λ (k : Counts). k.site) c.counts_of-before.ensures, ap (λ (k : Counts). k.site) c.counts_of-after.ensures, c.in-Err.ensures.trace.rose (ap (λ (r : Refusal). let answer : Result Ask Refusal = Err r in answer) is)))))))
 
 pub returns-in-Err-clause-words : goal.returns-in-Err-clause-words
 returns-in-Err-clause-words g c =
-    let words : List (List ℕ) = map string_bytes c.args.words.now in
-    let env : List (List ℕ × List ℕ) = given_pairs c.args.env.now in
-    subst (λ (cause : Cause). WordsEnd (chosen words) cause) (sym c.refusal_cause.ensures)
-    (words_refused (chosen words) c.counts_of-before.result c.counts_of-after-in-Err.result c.in-Err.refusal c.in-Err.ensures.words)
+    subst (λ (cause : Cause). WordsEnd (choice c.args.words.now) cause) (sym c.refusal_cause.ensures) (refused_words (choice c.args.words.now) c.counts_of-before.result c.counts_of-after.result c.in-Err.refusal c.in-Err.ensures.words)
 
 pub returns-in-Err-clause-faults : goal.returns-in-Err-clause-faults
 returns-in-Err-clause-faults g c =
-    let before = c.counts_of-before.result in
-    let now = c.counts_of-after-in-Err.result in
-    let told : FaultEnd before now (refusal_cause before now c.in-Err.refusal) =
-    refused_fault before now c.in-Err.refusal c.in-Err.ensures.kind
-    (λ is. omega (arith, ap (λ (k : Counts). k.site) c.counts_of-before.ensures, ap (λ (k : Counts). k.site) c.counts_of-after-in-Err.ensures, c.in-Err.ensures.trace.rose (ap (λ (r : Refusal). let answer : Result Plan Refusal = Err r in answer) is))) in
-    subst (λ (k : Counts). FaultEnd k (counts (g.S.Site.count c.read_plan.new.site) (g.R.Runner.count c.args.runner.now) 0) c.refusal_cause.result) c.counts_of-before.ensures
-    (subst (λ (k : Counts). FaultEnd before k c.refusal_cause.result) c.counts_of-after-in-Err.ensures
-    (subst (λ (cause : Cause). FaultEnd before now cause) (sym c.refusal_cause.ensures) told))
+    subst (λ (k : Counts). FaultEnd k (counts (g.S.Site.count c.read_ask.new.site) (g.R.Runner.count c.args.runner.now) 0) c.refusal_cause.result) c.counts_of-before.ensures
+    (subst (λ (k : Counts). FaultEnd c.counts_of-before.result k c.refusal_cause.result) c.counts_of-after.ensures
+    (subst (λ (cause : Cause). FaultEnd c.counts_of-before.result c.counts_of-after.result cause) (sym c.refusal_cause.ensures) (refused_fault c.counts_of-before.result c.counts_of-after.result c.in-Err.refusal c.in-Err.ensures.kind (λ is. omega (arith, ap (λ (k : Counts). k.site) c.counts_of-before.ensures, ap (λ (k : Counts). k.site) c.counts_of-after.ensures, c.in-Err.ensures.trace.rose (ap (λ (r : Refusal). let answer : Result Ask Refusal = Err r in answer) is))))))
+
+pub returns-in-Err-clause-legal : goal.returns-in-Err-clause-legal
+returns-in-Err-clause-legal g c read =
+    absurd (true≢false (sym (rw c.refusal_cause.ensures at read) ∙ (refused_kind c.counts_of-before.result c.counts_of-after.result c.in-Err.refusal c.in-Err.ensures.kind).unread))
+
+pub returns-in-Err-clause-valid : goal.returns-in-Err-clause-valid
+returns-in-Err-clause-valid g c read =
+    absurd (true≢false (sym (rw c.refusal_cause.ensures at read) ∙ (refused_kind c.counts_of-before.result c.counts_of-after.result c.in-Err.refusal c.in-Err.ensures.kind).unread))
+
+pub returns-in-Err-clause-planned : goal.returns-in-Err-clause-planned
+returns-in-Err-clause-planned g c told read =
+    absurd (true≢false (sym (rw c.refusal_cause.ensures at read) ∙ (refused_kind c.counts_of-before.result c.counts_of-after.result c.in-Err.refusal c.in-Err.ensures.kind).unread))
+
+pub returns-in-Err-clause-untouched : goal.returns-in-Err-clause-untouched
+returns-in-Err-clause-untouched g c told refused =
+    c.in-Err.ensures.files told
+
+pub returns-in-Err-clause-closed : goal.returns-in-Err-clause-closed
+returns-in-Err-clause-closed g c read =
+    absurd (true≢false (sym (rw c.refusal_cause.ensures at read) ∙ (refused_kind c.counts_of-before.result c.counts_of-after.result c.in-Err.refusal c.in-Err.ensures.kind).no_end))
+
+pub returns-in-Err-clause-sure : goal.returns-in-Err-clause-sure
+returns-in-Err-clause-sure g c is =
+    rw c.refusal_cause.ensures ((refused_kind c.counts_of-before.result c.counts_of-after.result c.in-Err.refusal c.in-Err.ensures.kind).sure)
 
 pub returns-in-Err-clause-failures : goal.returns-in-Err-clause-failures
 returns-in-Err-clause-failures g c =
-    let kind = refused_kind c.counts_of-before.result c.counts_of-after-in-Err.result c.in-Err.refusal c.in-Err.ensures.kind in
-    record {
-      only = λ failed. absurd (let wrong : true ≡ false = sym (rw c.refusal_cause.ensures at failed) ∙ kind.1 in cc);
-      always = λ lt. absurd (let wrong : ⊥ = omega (arith, lt) in wrong);
-      once = omega arith;
-    }
-
-pub returns-in-Err-clause-sure : goal.returns-in-Err-clause-sure
-returns-in-Err-clause-sure g c = λ sure.
-    let kind = refused_kind c.counts_of-before.result c.counts_of-after-in-Err.result c.in-Err.refusal c.in-Err.ensures.kind in
-    rw c.refusal_cause.ensures kind.1
+    record { later = omega arith; rose = λ failed. absurd ((refused_kind c.counts_of-before.result c.counts_of-after.result c.in-Err.refusal c.in-Err.ensures.kind).failed (rw c.refusal_cause.ensures at failed)) }

@@ -1,35 +1,136 @@
-use Rattle.std.proofs.Common.{◌≡◌, ◌∙◌, ℕ, List, map, string_bytes, ap, sym}
+use Rattle.std.proofs.Common.{◌≡◌, ◌∙◌, ◌⊎◌, ⊎_elim, inl, ℕ, List, Ok, Result, map, string_bytes, ap, sym, subst, refl, true, false, true≢false}
+use Rattle.outside.specs.Disk.{IsImage}
+use Rattle.outside.specs.Files.{Files}
+use Rattle.flow_types.specs.declared.plan.Plan.{Plan}
+use Rattle.flow_types.specs.declared.records.Record.{Record}
+use Rattle.local_run.specs.Moments.{IsMoment, KeepsSome}
+use Rattle.local_run.specs.Runs.{Held, SerialFits, read_sources}
 use Rattle.report.specs.declared.cause.Cause.{Cause}
-use Rattle.mf_rules.specs.Flow.{given_pairs}
-use Rattle.master_run.specs.Words.{chosen}
-use Rattle.master_run.specs.Asked.{asked}
-use Rattle.master_run.specs.Ends.{CallEnds, FaultEnd, counts}
-use Rattle.master_run.proofs.Endings.{printed_ends, printed_words, printed_failed, printed_fault, completes}
+use Rattle.report.specs.declared.cause.Kind.{Kind}
+use Rattle.report.specs.declared.cause.Kind.TheVariants as kinds
+use Rattle.report.specs.Causes.{kind_of, was_read}
+use Rattle.master_run.specs.Prints.{Told, is_of_plan}
+use Rattle.master_run.specs.declared.ask.Ask.{Ask}
+use Rattle.master_run.specs.Asked.{request}
+use Rattle.master_run.specs.Headline.{IsPlanOf}
+use Rattle.master_run.specs.Serves.{IsCut}
+use Rattle.master_run.proofs.Reading.{entry_before}
+use Rattle.master_run.proofs.Reprinted.{Stands, after_closed, after_failed, after_legal, after_planned, after_sure, after_untouched, printed_ends, printed_fault, printed_serves, printed_words, stands}
 use Rattle.master_run.proofs.top.makeflow_top.Goals as goal
 
 pub returns-clause-ends : goal.returns-clause-ends
-returns-clause-ends g c = λ tells.
-    printed_ends g.F.Commands.gives g.F.Commands.may_fail (g.R.Runner.tells c.args.runner.now) (map string_bytes c.args.words.now) (given_pairs c.args.env.now) (g.S.Site.files c.args.site) (g.S.Site.files c.follow-course.new.site)
-    (g.O.Sink.count c.args.out.now) (g.O.Sink.count c.tell-cause.new.out) c.follow-course.result.cause c.tell-cause.result c.tell-cause.ensures.stands.printed
-    c.tell-cause.ensures.stands.is_cause (c.follow-course.ensures.ends tells)
+returns-clause-ends g c told =
+    printed_ends (g.O.Sink.count c.args.out.now) (g.O.Sink.count c.tell-cause.new.out) (request c.args.words.now c.args.env.now (g.S.Site.files c.args.site)) (g.S.Site.files c.args.site) (g.S.Site.files c.follow-course.result.site) c.follow-course.result.records c.follow-course.result.cause c.tell-cause.result (stands (g.O.Sink.count c.args.out.now) (g.O.Sink.count c.tell-cause.new.out) c.follow-course.result.cause c.tell-cause.result c.tell-cause.ensures.stands) (c.follow-course.ensures.ends told)
 
 pub returns-clause-words : goal.returns-clause-words
 returns-clause-words g c =
-    printed_words (map string_bytes c.args.words.now) (g.O.Sink.count c.args.out.now) (g.O.Sink.count c.tell-cause.new.out) c.follow-course.result.cause c.tell-cause.result
-    c.tell-cause.ensures.stands.printed c.tell-cause.ensures.stands.is_cause c.follow-course.ensures.words
+    printed_words (map string_bytes c.args.words.now) (g.O.Sink.count c.args.out.now) (g.O.Sink.count c.tell-cause.new.out) c.follow-course.result.cause c.tell-cause.result (stands (g.O.Sink.count c.args.out.now) (g.O.Sink.count c.tell-cause.new.out) c.follow-course.result.cause c.tell-cause.result c.tell-cause.ensures.stands) c.follow-course.ensures.words
+
+pub returns-clause-faults : goal.returns-clause-faults
+returns-clause-faults g c =
+    printed_fault (g.S.Site.count c.args.site) (g.R.Runner.count c.args.runner.now) (g.O.Sink.count c.args.out.now) (g.S.Site.count c.follow-course.result.site) (g.R.Runner.count c.follow-course.new.runner) (g.O.Sink.count c.tell-cause.new.out) c.follow-course.result.cause c.tell-cause.result (stands (g.O.Sink.count c.args.out.now) (g.O.Sink.count c.tell-cause.new.out) c.follow-course.result.cause c.tell-cause.result c.tell-cause.ensures.stands) c.follow-course.ensures.faults
+
+pub returns-clause-records : goal.returns-clause-records
+returns-clause-records g c told ask asked H spelled =
+    (printed_serves g.S.Site.tells g.S.Site.files g.S.Site.may_leave g.S.Site.moment g.S.Site.images_since (g.S.Site.moment c.args.site) g.F.Commands.gives g.F.Commands.may_fail (g.R.Runner.tells c.args.runner.now) (g.R.Runner.sure c.args.runner.now)
+    (g.S.Site.count c.args.site) (g.R.Runner.count c.args.runner.now) (g.O.Sink.count c.args.out.now) (g.S.Site.count c.follow-course.result.site) (g.R.Runner.count c.follow-course.new.runner) (g.O.Sink.count c.tell-cause.new.out) ask c.args.site c.follow-course.result.site c.follow-course.result.records c.follow-course.result.cause c.tell-cause.result (stands (g.O.Sink.count c.args.out.now) (g.O.Sink.count c.tell-cause.new.out) c.follow-course.result.cause c.tell-cause.result c.tell-cause.ensures.stands) (c.follow-course.ensures.serves told ask asked)).has_log told H spelled
+
+pub returns-clause-logged : goal.returns-clause-logged
+returns-clause-logged g c told ask asked H spelled =
+    (printed_serves g.S.Site.tells g.S.Site.files g.S.Site.may_leave g.S.Site.moment g.S.Site.images_since (g.S.Site.moment c.args.site) g.F.Commands.gives g.F.Commands.may_fail (g.R.Runner.tells c.args.runner.now) (g.R.Runner.sure c.args.runner.now)
+    (g.S.Site.count c.args.site) (g.R.Runner.count c.args.runner.now) (g.O.Sink.count c.args.out.now) (g.S.Site.count c.follow-course.result.site) (g.R.Runner.count c.follow-course.new.runner) (g.O.Sink.count c.tell-cause.new.out) ask c.args.site c.follow-course.result.site c.follow-course.result.records c.follow-course.result.cause c.tell-cause.result (stands (g.O.Sink.count c.args.out.now) (g.O.Sink.count c.tell-cause.new.out) c.follow-course.result.cause c.tell-cause.result c.tell-cause.ensures.stands) (c.follow-course.ensures.serves told ask asked)).logged told H spelled
+
+pub returns-clause-legal : goal.returns-clause-legal
+returns-clause-legal g c =
+    record {
+      plan = c.follow-course.result.plan;
+      read = after_planned (g.S.Site.tells → IsPlanOf (request c.args.words.now c.args.env.now (g.S.Site.files c.args.site)) c.follow-course.result.plan) (g.O.Sink.count c.args.out.now) (g.O.Sink.count c.tell-cause.new.out) c.follow-course.result.cause c.tell-cause.result (stands (g.O.Sink.count c.args.out.now) (g.O.Sink.count c.tell-cause.new.out) c.follow-course.result.cause c.tell-cause.result c.tell-cause.ensures.stands) (λ read told. c.follow-course.ensures.planned told read);
+      legal = after_legal c.follow-course.result.plan c.follow-course.result.records (g.O.Sink.count c.args.out.now) (g.O.Sink.count c.tell-cause.new.out) c.follow-course.result.cause c.tell-cause.result (stands (g.O.Sink.count c.args.out.now) (g.O.Sink.count c.tell-cause.new.out) c.follow-course.result.cause c.tell-cause.result c.tell-cause.ensures.stands) c.follow-course.ensures.legal;
+    }
+
+pub returns-clause-closed : goal.returns-clause-closed
+returns-clause-closed g c ends =
+    after_closed c.follow-course.result.records (g.O.Sink.count c.args.out.now) (g.O.Sink.count c.tell-cause.new.out) c.follow-course.result.cause c.tell-cause.result (stands (g.O.Sink.count c.args.out.now) (g.O.Sink.count c.tell-cause.new.out) c.follow-course.result.cause c.tell-cause.result c.tell-cause.ensures.stands) c.follow-course.ensures.closed ends
+
+pub returns-clause-spent : goal.returns-clause-spent
+returns-clause-spent g c told ask asked H spelled whole =
+    (printed_serves g.S.Site.tells g.S.Site.files g.S.Site.may_leave g.S.Site.moment g.S.Site.images_since (g.S.Site.moment c.args.site) g.F.Commands.gives g.F.Commands.may_fail (g.R.Runner.tells c.args.runner.now) (g.R.Runner.sure c.args.runner.now)
+    (g.S.Site.count c.args.site) (g.R.Runner.count c.args.runner.now) (g.O.Sink.count c.args.out.now) (g.S.Site.count c.follow-course.result.site) (g.R.Runner.count c.follow-course.new.runner) (g.O.Sink.count c.tell-cause.new.out) ask c.args.site c.follow-course.result.site c.follow-course.result.records c.follow-course.result.cause c.tell-cause.result (stands (g.O.Sink.count c.args.out.now) (g.O.Sink.count c.tell-cause.new.out) c.follow-course.result.cause c.tell-cause.result c.tell-cause.ensures.stands) (c.follow-course.ensures.serves told ask asked)).spent told H spelled whole
+
+pub returns-clause-lost : goal.returns-clause-lost
+returns-clause-lost g c told ask asked H spelled keeps =
+    (printed_serves g.S.Site.tells g.S.Site.files g.S.Site.may_leave g.S.Site.moment g.S.Site.images_since (g.S.Site.moment c.args.site) g.F.Commands.gives g.F.Commands.may_fail (g.R.Runner.tells c.args.runner.now) (g.R.Runner.sure c.args.runner.now)
+    (g.S.Site.count c.args.site) (g.R.Runner.count c.args.runner.now) (g.O.Sink.count c.args.out.now) (g.S.Site.count c.follow-course.result.site) (g.R.Runner.count c.follow-course.new.runner) (g.O.Sink.count c.tell-cause.new.out) ask c.args.site c.follow-course.result.site c.follow-course.result.records c.follow-course.result.cause c.tell-cause.result (stands (g.O.Sink.count c.args.out.now) (g.O.Sink.count c.tell-cause.new.out) c.follow-course.result.cause c.tell-cause.result c.tell-cause.ensures.stands) (c.follow-course.ensures.serves told ask asked)).lost told H spelled keeps
+
+pub returns-clause-moments : goal.returns-clause-moments
+returns-clause-moments g c told ask asked H spelled resumable image left =
+    ⊎_elim (λ (was : g.S.Site.images_since c.args.site (g.S.Site.moment c.args.site) image). inl (entry_before ask.log (g.S.Site.files c.args.site ask.log) (g.S.Site.may_leave c.args.site) image (((g.met.S.Site g.world.𝓛 g.world.𝓜 g.world.𝓡 ((λ s x. x), (λ x. x), (λ x. x), λ x. x)).only_now told c.args.site image was))))
+    (λ (m : IsMoment Held ask.plan ask.log (g.S.Site.files c.args.site) (g.S.Site.may_leave c.args.site) H c.follow-course.result.records (IsCut c.tell-cause.result) image). m)
+    ((printed_serves g.S.Site.tells g.S.Site.files g.S.Site.may_leave g.S.Site.moment g.S.Site.images_since (g.S.Site.moment c.args.site) g.F.Commands.gives g.F.Commands.may_fail (g.R.Runner.tells c.args.runner.now) (g.R.Runner.sure c.args.runner.now)
+    (g.S.Site.count c.args.site) (g.R.Runner.count c.args.runner.now) (g.O.Sink.count c.args.out.now) (g.S.Site.count c.follow-course.result.site) (g.R.Runner.count c.follow-course.new.runner) (g.O.Sink.count c.tell-cause.new.out) ask c.args.site c.follow-course.result.site c.follow-course.result.records c.follow-course.result.cause c.tell-cause.result (stands (g.O.Sink.count c.args.out.now) (g.O.Sink.count c.tell-cause.new.out) c.follow-course.result.cause c.tell-cause.result c.tell-cause.ensures.stands) (c.follow-course.ensures.serves told ask asked)).moments told H spelled resumable image left)
+
+pub returns-clause-resumable : goal.returns-clause-resumable
+returns-clause-resumable g c told ask asked some image left =
+    ⊎_elim (λ (was : g.S.Site.images_since c.args.site (g.S.Site.moment c.args.site) image). some image (((g.met.S.Site g.world.𝓛 g.world.𝓜 g.world.𝓡 ((λ s x. x), (λ x. x), (λ x. x), λ x. x)).only_now told c.args.site image was)))
+    (λ (keeps : KeepsSome Held ask.plan ask.log image). keeps)
+    ((printed_serves g.S.Site.tells g.S.Site.files g.S.Site.may_leave g.S.Site.moment g.S.Site.images_since (g.S.Site.moment c.args.site) g.F.Commands.gives g.F.Commands.may_fail (g.R.Runner.tells c.args.runner.now) (g.R.Runner.sure c.args.runner.now)
+    (g.S.Site.count c.args.site) (g.R.Runner.count c.args.runner.now) (g.O.Sink.count c.args.out.now) (g.S.Site.count c.follow-course.result.site) (g.R.Runner.count c.follow-course.new.runner) (g.O.Sink.count c.tell-cause.new.out) ask c.args.site c.follow-course.result.site c.follow-course.result.records c.follow-course.result.cause c.tell-cause.result (stands (g.O.Sink.count c.args.out.now) (g.O.Sink.count c.tell-cause.new.out) c.follow-course.result.cause c.tell-cause.result c.tell-cause.ensures.stands) (c.follow-course.ensures.serves told ask asked)).resumable told some image left)
+
+pub returns-clause-now : goal.returns-clause-now
+returns-clause-now g c told ask asked H spelled resumable whole image left =
+    (printed_serves g.S.Site.tells g.S.Site.files g.S.Site.may_leave g.S.Site.moment g.S.Site.images_since (g.S.Site.moment c.args.site) g.F.Commands.gives g.F.Commands.may_fail (g.R.Runner.tells c.args.runner.now) (g.R.Runner.sure c.args.runner.now)
+    (g.S.Site.count c.args.site) (g.R.Runner.count c.args.runner.now) (g.O.Sink.count c.args.out.now) (g.S.Site.count c.follow-course.result.site) (g.R.Runner.count c.follow-course.new.runner) (g.O.Sink.count c.tell-cause.new.out) ask c.args.site c.follow-course.result.site c.follow-course.result.records c.follow-course.result.cause c.tell-cause.result (stands (g.O.Sink.count c.args.out.now) (g.O.Sink.count c.tell-cause.new.out) c.follow-course.result.cause c.tell-cause.result c.tell-cause.ensures.stands) (c.follow-course.ensures.serves told ask asked)).now told H spelled resumable whole image left
+
+pub returns-clause-untouched : goal.returns-clause-untouched
+returns-clause-untouched g c told refused =
+    after_untouched (g.S.Site.files c.args.site) (g.S.Site.files c.follow-course.result.site) (g.O.Sink.count c.args.out.now) (g.O.Sink.count c.tell-cause.new.out) c.follow-course.result.cause c.tell-cause.result (stands (g.O.Sink.count c.args.out.now) (g.O.Sink.count c.tell-cause.new.out) c.follow-course.result.cause c.tell-cause.result c.tell-cause.ensures.stands) (c.follow-course.ensures.untouched told) refused
+
+pub returns-clause-others : goal.returns-clause-others
+returns-clause-others g c told ask asked =
+    (printed_serves g.S.Site.tells g.S.Site.files g.S.Site.may_leave g.S.Site.moment g.S.Site.images_since (g.S.Site.moment c.args.site) g.F.Commands.gives g.F.Commands.may_fail (g.R.Runner.tells c.args.runner.now) (g.R.Runner.sure c.args.runner.now)
+    (g.S.Site.count c.args.site) (g.R.Runner.count c.args.runner.now) (g.O.Sink.count c.args.out.now) (g.S.Site.count c.follow-course.result.site) (g.R.Runner.count c.follow-course.new.runner) (g.O.Sink.count c.tell-cause.new.out) ask c.args.site c.follow-course.result.site c.follow-course.result.records c.follow-course.result.cause c.tell-cause.result (stands (g.O.Sink.count c.args.out.now) (g.O.Sink.count c.tell-cause.new.out) c.follow-course.result.cause c.tell-cause.result c.tell-cause.ensures.stands) (c.follow-course.ensures.serves told ask asked)).others told
+
+pub returns-clause-contents : goal.returns-clause-contents
+returns-clause-contents g c told ask asked H spelled resumable jobs image left =
+    ⊎_elim (λ (was : g.S.Site.images_since c.args.site (g.S.Site.moment c.args.site) image). inl (entry_before ask.log (g.S.Site.files c.args.site ask.log) (g.S.Site.may_leave c.args.site) image (((g.met.S.Site g.world.𝓛 g.world.𝓜 g.world.𝓡 ((λ s x. x), (λ x. x), (λ x. x), λ x. x)).only_now told c.args.site image was))))
+    (λ (m : IsMoment (SerialFits g.F.Commands.gives (read_sources ask.plan (g.S.Site.files c.args.site))) ask.plan ask.log (g.S.Site.files c.args.site) (g.S.Site.may_leave c.args.site) H c.follow-course.result.records (IsCut c.tell-cause.result) image). m)
+    ((printed_serves g.S.Site.tells g.S.Site.files g.S.Site.may_leave g.S.Site.moment g.S.Site.images_since (g.S.Site.moment c.args.site) g.F.Commands.gives g.F.Commands.may_fail (g.R.Runner.tells c.args.runner.now) (g.R.Runner.sure c.args.runner.now)
+    (g.S.Site.count c.args.site) (g.R.Runner.count c.args.runner.now) (g.O.Sink.count c.args.out.now) (g.S.Site.count c.follow-course.result.site) (g.R.Runner.count c.follow-course.new.runner) (g.O.Sink.count c.tell-cause.new.out) ask c.args.site c.follow-course.result.site c.follow-course.result.records c.follow-course.result.cause c.tell-cause.result (stands (g.O.Sink.count c.args.out.now) (g.O.Sink.count c.tell-cause.new.out) c.follow-course.result.cause c.tell-cause.result c.tell-cause.ensures.stands) (c.follow-course.ensures.serves told ask asked)).contents told H spelled jobs resumable image left)
+
+pub returns-clause-honest : goal.returns-clause-honest
+returns-clause-honest g c told ask asked H spelled resumable jobs begins =
+    (printed_serves g.S.Site.tells g.S.Site.files g.S.Site.may_leave g.S.Site.moment g.S.Site.images_since (g.S.Site.moment c.args.site) g.F.Commands.gives g.F.Commands.may_fail (g.R.Runner.tells c.args.runner.now) (g.R.Runner.sure c.args.runner.now)
+    (g.S.Site.count c.args.site) (g.R.Runner.count c.args.runner.now) (g.O.Sink.count c.args.out.now) (g.S.Site.count c.follow-course.result.site) (g.R.Runner.count c.follow-course.new.runner) (g.O.Sink.count c.tell-cause.new.out) ask c.args.site c.follow-course.result.site c.follow-course.result.records c.follow-course.result.cause c.tell-cause.result (stands (g.O.Sink.count c.args.out.now) (g.O.Sink.count c.tell-cause.new.out) c.follow-course.result.cause c.tell-cause.result c.tell-cause.ensures.stands) (c.follow-course.ensures.serves told ask asked)).honest told H spelled resumable jobs begins
+
+pub returns-clause-failures : goal.returns-clause-failures
+returns-clause-failures g c =
+    after_failed (g.R.Runner.failures c.args.runner.now) (g.R.Runner.failures c.follow-course.new.runner) (g.O.Sink.count c.args.out.now) (g.O.Sink.count c.tell-cause.new.out) c.follow-course.result.cause c.tell-cause.result (stands (g.O.Sink.count c.args.out.now) (g.O.Sink.count c.tell-cause.new.out) c.follow-course.result.cause c.tell-cause.result c.tell-cause.ensures.stands) c.follow-course.ensures.failures
+
+pub returns-clause-sure : goal.returns-clause-sure
+returns-clause-sure g c is =
+    after_sure (g.O.Sink.count c.args.out.now) (g.O.Sink.count c.tell-cause.new.out) c.follow-course.result.cause c.tell-cause.result (stands (g.O.Sink.count c.args.out.now) (g.O.Sink.count c.tell-cause.new.out) c.follow-course.result.cause c.tell-cause.result c.tell-cause.ensures.stands) (c.follow-course.ensures.sure is)
 
 pub returns-clause-completes : goal.returns-clause-completes
-returns-clause-completes g c = λ tells sure ok none.
-    let words : List (List ℕ) = map string_bytes c.args.words.now in
-    let env : List (List ℕ × List ℕ) = given_pairs c.args.env.now in
-    let stands = c.tell-cause.ensures.stands in
-    let call : CallEnds g.F.Commands.gives g.F.Commands.may_fail (g.R.Runner.tells c.args.runner.now) (asked words env (g.S.Site.files c.args.site)) (g.S.Site.files c.args.site) (g.S.Site.files c.follow-course.new.site) c.tell-cause.result =
-    printed_ends g.F.Commands.gives g.F.Commands.may_fail (g.R.Runner.tells c.args.runner.now) words env (g.S.Site.files c.args.site) (g.S.Site.files c.follow-course.new.site)
-    (g.O.Sink.count c.args.out.now) (g.O.Sink.count c.tell-cause.new.out) c.follow-course.result.cause c.tell-cause.result stands.printed stands.is_cause (c.follow-course.ensures.ends tells) in
-    completes (asked words env (g.S.Site.files c.args.site)) g.F.Commands.gives g.F.Commands.may_fail (g.R.Runner.tells c.args.runner.now) (g.S.Site.files c.args.site) (g.S.Site.files c.follow-course.new.site)
-    (counts (g.S.Site.count c.args.site) (g.R.Runner.count c.args.runner.now) (g.O.Sink.count c.args.out.now))
-    (counts (g.S.Site.count c.follow-course.new.site) (g.R.Runner.count c.follow-course.new.runner) (g.O.Sink.count c.tell-cause.new.out))
-    c.tell-cause.result ok call
-    (printed_fault (g.S.Site.count c.args.site) (g.R.Runner.count c.args.runner.now) (g.O.Sink.count c.args.out.now) (g.S.Site.count c.follow-course.new.site) (g.R.Runner.count c.follow-course.new.runner) (g.O.Sink.count c.tell-cause.new.out)
-    c.follow-course.result.cause c.tell-cause.result stands.printed stands.is_cause stands.rose c.follow-course.ensures.faults) none
-    (printed_failed (g.O.Sink.count c.args.out.now) (g.O.Sink.count c.tell-cause.new.out) c.follow-course.result.cause c.tell-cause.result stands.printed stands.is_cause (c.follow-course.ensures.sure sure))
+returns-clause-completes g c told ask asked H spelled =
+    (printed_serves g.S.Site.tells g.S.Site.files g.S.Site.may_leave g.S.Site.moment g.S.Site.images_since (g.S.Site.moment c.args.site) g.F.Commands.gives g.F.Commands.may_fail (g.R.Runner.tells c.args.runner.now) (g.R.Runner.sure c.args.runner.now)
+    (g.S.Site.count c.args.site) (g.R.Runner.count c.args.runner.now) (g.O.Sink.count c.args.out.now) (g.S.Site.count c.follow-course.result.site) (g.R.Runner.count c.follow-course.new.runner) (g.O.Sink.count c.tell-cause.new.out) ask c.args.site c.follow-course.result.site c.follow-course.result.records c.follow-course.result.cause c.tell-cause.result (stands (g.O.Sink.count c.args.out.now) (g.O.Sink.count c.tell-cause.new.out) c.follow-course.result.cause c.tell-cause.result c.tell-cause.ensures.stands) (c.follow-course.ensures.serves told ask asked)).completes told H spelled
+
+own_read : (kind : Kind) → is_of_plan kind ≡ true → was_read kind ≡ true
+own_read kinds.LogPrinted own = refl
+own_read kinds.RuleFailed own = refl
+own_read kinds.WrongFile own = refl
+own_read _ own = absurd (true≢false (sym own))
+
+pub returns-clause-text : goal.returns-clause-text
+returns-clause-text g c told =
+    let t : Told c.follow-course.result.plan c.follow-course.result.records (g.O.Sink.count c.args.out.now) (g.O.Sink.count c.tell-cause.new.out) (g.O.Sink.bytes c.args.out.now) (g.O.Sink.bytes c.tell-cause.new.out) c.follow-course.result.cause c.tell-cause.result =
+    subst (λ (xs : List Record). Told c.follow-course.result.plan xs (g.O.Sink.count c.args.out.now) (g.O.Sink.count c.tell-cause.new.out) (g.O.Sink.bytes c.args.out.now) (g.O.Sink.bytes c.tell-cause.new.out) c.follow-course.result.cause c.tell-cause.result) c.as_slice.ensures (c.tell-cause.ensures.told told) in
+    record {
+      plan = c.follow-course.result.plan;
+      told = t.told;
+      is_read = λ own tells. c.follow-course.ensures.planned tells (own_read (kind_of c.follow-course.result.cause) (subst (λ (cause : Cause). is_of_plan (kind_of cause) ≡ true) (t.is_own own) own));
+      is_standing = t.is_standing;
+      whole = λ same some. t.whole same some;
+      of_end = λ ends. t.of_end ends;
+      part = t.part;
+    }

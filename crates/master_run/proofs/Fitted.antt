@@ -1,0 +1,50 @@
+-- Rules that need no more than there is.
+use Rattle.std.proofs.Common.{◌≡◌, ◌<◌, ◌+◌, ◌∙◌, ℕ, zero, suc, Bool, true, false, ◌&&◌, List, [], ◌∷◌, length, Option, Some, None, refl, sym, ap, arith, if◌then◌else◌}
+use Rattle.std.specs.Prelude.{nat_le, nat_lt, slice_get}
+use Rattle.std.specs.List.{enumerate_from}
+use Rattle.std.specs.Option.{option_map_or}
+use Rattle.std.proofs.lemmas.Bool.{le-leb, ltb-false}
+use Rattle.flow_types.specs.declared.numbers.Amounts.{Amounts}
+use Rattle.flow_types.specs.declared.numbers.Needs.{Needs}
+use Rattle.flow_types.specs.declared.numbers.Needs.TheVariants.{Whole, Stated}
+use Rattle.flow_types.specs.declared.plan.Rule.{Rule}
+use Rattle.rule_graph.specs.Faults.{first_said, or_else}
+use Rattle.run_history.specs.Links.{amounts_on, is_at_most}
+use Rattle.master_run.specs.declared.needs.Excess.{Excess}
+use Rattle.master_run.specs.Needs.{exceeds, excess_among, excess_of, rule_excess, taken_here}
+
+taken_so : (total : Amounts) (needs : Needs) → amounts_on 0 total needs ≡ taken_here needs
+taken_so total Whole = refl
+taken_so total (Stated amounts) = refl
+
+some_is_none : {A : Type 0} {B : Type 0} (x : A) → (let none : Option A = None in Some x ≡ none) → B
+some_is_none x wrong = absurd (cc)
+
+by_test : (b : Bool) (r need total : ℕ) (rest : Option Excess) → (if b then exceeds r need total else rest) ≡ None → (b ≡ false) × (rest ≡ None)
+by_test true r need total rest is = some_is_none _ is
+by_test false r need total rest is = (refl, is)
+
+all_three : (a b c : Bool) → a ≡ true → b ≡ true → c ≡ true → (a && b && c) ≡ true
+all_three a b c is_a is_b is_c = ap (λ t. t && b && c) is_a ∙ ap (λ t. t && c) is_b ∙ is_c
+
+within : (r : ℕ) (need total : Amounts) → rule_excess r need total ≡ None → is_at_most need total ≡ true
+within r need total none =
+    let cores = by_test (nat_lt total.cores need.cores) r need.cores total.cores _ none in
+    let memory = by_test (nat_lt total.memory need.memory) r need.memory total.memory _ cores.1 in
+    let disk = by_test (nat_lt total.disk need.disk) r need.disk total.disk _ memory.1 in
+    all_three (nat_le need.cores total.cores) (nat_le need.memory total.memory) (nat_le need.disk total.disk)
+    (le-leb need.cores total.cores (ltb-false total.cores need.cores cores.0)) (le-leb need.memory total.memory (ltb-false total.memory need.memory memory.0)) (le-leb need.disk total.disk (ltb-false total.disk need.disk disk.0))
+
+first_none : {A : Type 0} (first rest : Option A) → or_else first rest ≡ None → (first ≡ None) × (rest ≡ None)
+first_none None rest none = (refl, none)
+first_none (Some x) rest none = some_is_none x none
+
+pub all_fit : (total : Amounts) (rules : List Rule) (first : ℕ) → excess_among total first rules ≡ None → (r : ℕ) → r < length rules
+    → is_at_most (amounts_on 0 total (option_map_or (λ (rule : Rule). rule.needs) (slice_get rules r) Whole)) total ≡ true
+all_fit total [] first none r inside = absurd (let wrong : ⊥ = omega (arith, inside) in wrong)
+all_fit total (rule ∷ rules) first none zero inside =
+    let parts = first_none (excess_of total first rule) _ none in
+    ap (λ (a : Amounts). is_at_most a total) (taken_so total rule.needs) ∙ within first (taken_here rule.needs) total parts.0
+all_fit total (rule ∷ rules) first none (suc r) inside =
+    let parts = first_none (excess_of total first rule) _ none in
+    all_fit total rules (first + 1) parts.1 r (omega (arith, inside))

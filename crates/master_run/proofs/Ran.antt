@@ -1,0 +1,466 @@
+-- What a call does that runs a plan, by how the run ended.
+use Rattle.std.proofs.Common.{◌≡◌, ◌≢◌, ◌≤◌, ◌<◌, ◌⊎◌, ⊎_elim, inl, inr, ◌∙◌, ℕ, Bool, true, false, List, [], ◌∷◌, ◌++◌, length, Option, Some, None, Result, Ok, Err, IfOk, OnOk, IsTrue, IsFalse, refl, sym, ap, subst, arith, true≢false, option_map, if◌then◌else◌}
+use Rattle.std.specs.List.{list_any}
+use Rattle.flow_types.specs.declared.plan.Plan.{Plan}
+use Rattle.flow_types.specs.declared.numbers.Content.{Content}
+use Rattle.flow_types.specs.declared.numbers.FileNo.{FileNo}
+use Rattle.flow_types.specs.declared.job.Job.{Job}
+use Rattle.flow_types.specs.declared.job.Failure.{Failure}
+use Rattle.flow_types.specs.declared.records.Record.{Record}
+use Rattle.flow_types.specs.Plans.{is_source}
+use Rattle.flow_types.specs.Serial.{Function, serial}
+use Rattle.run_history.specs.declared.answers.Check.{Check}
+use Rattle.run_history.specs.declared.answers.Check.TheVariants as check
+use Rattle.run_history.specs.declared.options.Options.{Options}
+use Rattle.run_history.specs.declared.states.Found.{Found}
+use Rattle.run_history.specs.Answers.{before_end, end_over}
+use Rattle.run_history.specs.History.{since_opening}
+use Rattle.run_history.specs.Spent.{SpentOnce}
+use Rattle.outside.specs.Disk.{IsImage, Outcomes}
+use Rattle.outside.specs.Files.{Files}
+use Rattle.txn_log.specs.Spells.{Spells}
+use Rattle.desk.specs.declared.answers.StartFault.{StartFault}
+use Rattle.desk.specs.declared.answers.StartFault.TheVariants as faults
+use Rattle.desk.specs.Begins.{IsUncutBy}
+use Rattle.desk.specs.Kept.{IsLegal, Keeps, StaysBeside, WasKept}
+use Rattle.local_run.specs.declared.halt.Halt.{Halt}
+use Rattle.local_run.specs.declared.halt.Halt.TheVariants as halts
+use Rattle.local_run.specs.declared.ended.Stopped.{Stopped}
+use Rattle.local_run.specs.declared.ended.Stopped.TheVariants as stopped
+use Rattle.local_run.specs.Completing.{HasRecordRoom, HasSources, SerialInputsFit}
+use Rattle.local_run.specs.Course.{IsUnmade, TellsJobs}
+use Rattle.local_run.specs.Ends.{HasFailed, IsDamaged, IsDone, IsRunEnd, IsSureEnd, RunDamage, StartEnds, run_fault}
+use Rattle.local_run.specs.Moments.{IsMoment, IsResumable, KeepsSome}
+use Rattle.local_run.specs.Runs.{Adds, BeginsWith, HasCauses, Held, IsAdmitted, IsClosedRun, IsCutRun, IsEarlyRun, IsRefusedRun, LosesNone, SerialFits, read_sources}
+use Rattle.command_words.specs.declared.options.Work.{Work}
+use Rattle.command_words.specs.declared.options.Work.TheVariants as works
+use Rattle.report.specs.declared.cause.Cause.{Cause}
+use Rattle.report.specs.declared.cause.Cause.TheVariants as causes
+use Rattle.report.specs.declared.cause.Kind.{Kind}
+use Rattle.report.specs.declared.cause.Kind.TheVariants as kinds
+use Rattle.report.specs.Causes.{is_completion, is_cut, is_failing, is_refusal, kind_of, may_lose, may_replace, was_read}
+use Rattle.master_run.specs.declared.ask.Ask.{Ask}
+use Rattle.master_run.specs.declared.counts.Counts.{Counts}
+use Rattle.master_run.specs.Ends.{FaultEnd, GoesOn, IsStop, LogEnds, NoneRose, RunEnds, Yields, end_cause, run_refusal, start_cause}
+use Rattle.master_run.specs.Headline.{FailureEnd, HasLog, IsLegalOr, IsSpentBy, StartsNone, is_early, is_run_end, is_started}
+use Rattle.master_run.specs.Runs.{damage_cause, halt_cause, refused_cause, run_cause}
+use Rattle.master_run.specs.Serves.{AllMoments, Fit, IsCut, Serves}
+use Rattle.master_run.proofs.Faults.{fault_goes}
+use Rattle.master_run.proofs.Moved.{append_nothing, moment_after}
+
+absent : {A : Type 0} → false ≡ true → A
+absent wrong = absurd (true≢false (sym wrong))
+
+present : {A : Type 0} → true ≡ false → A
+present wrong = absurd (true≢false wrong)
+
+-- kinds of an end, of a damaged input
+damage_kind : (source : Bool) (file : FileNo) (logged : Content) (found : Found) → kind_of (if source then causes.SourceChanged file logged found else causes.FileDamaged file logged found) ≡ kinds.WrongFile
+damage_kind true file logged found = refl
+damage_kind false file logged found = refl
+
+-- where a run was cut short the call is
+pub cut_run : (b a : Counts) (P : Plan) (how : Result Check Stopped) → IsCutRun how → is_cut (kind_of (run_cause b a P how)) ≡ true
+cut_run b a P (Ok ended) cut = absurd cut
+cut_run b a P (Err (stopped.Refused (faults.OtherFlow logged found))) cut = absurd cut
+cut_run b a P (Err (stopped.Refused (faults.NotLegal at))) cut = absurd cut
+cut_run b a P (Err (stopped.Refused (faults.LogFull count))) cut = absurd cut
+cut_run b a P (Err (stopped.Refused (faults.StoredAboveLimit bytes limit))) cut = absurd cut
+cut_run b a P (Err (stopped.Refused (faults.SourceMissing file))) cut = absurd cut
+cut_run b a P (Err (stopped.Refused (faults.SourceTooLarge file size))) cut = absurd cut
+cut_run b a P (Err (stopped.Refused (faults.SourceChanged file logged found))) cut = absurd cut
+cut_run b a P (Err (stopped.Refused (faults.FileDamaged file logged found))) cut = absurd cut
+cut_run b a P (Err (stopped.Refused (faults.Site old new))) cut = refl
+cut_run b a P (Err (stopped.Refused faults.Memory)) cut = refl
+cut_run b a P (Err (stopped.Halted (halts.Damaged file logged found))) cut = absurd cut
+cut_run b a P (Err (stopped.Halted halts.Runner)) cut = absurd cut
+cut_run b a P (Err (stopped.Halted halts.Site)) cut = refl
+cut_run b a P (Err (stopped.Halted halts.Memory)) cut = refl
+
+damage_faults : (b a : Counts) (source : Bool) (file : FileNo) (logged : Content) (found : Found) → FaultEnd b a (if source then causes.SourceChanged file logged found else causes.FileDamaged file logged found)
+damage_faults b a true file logged found = tt
+damage_faults b a false file logged found = tt
+
+end_faults : (b a : Counts) (rules : ℕ) (ended : Check) → FaultEnd b a (end_cause rules ended)
+end_faults b a rules (check.Complete collected) = tt
+end_faults b a rules (check.CommandFailed rule why) = tt
+end_faults b a rules (check.InputsTooLarge rule total) = tt
+end_faults b a rules (check.LogFull count) = tt
+end_faults b a rules _ = tt
+
+-- a fault is told only where that count rose
+pub run_faults : (b a : Counts) (P : Plan) (s0 s1 r0 r1 : ℕ) (how : Result Check Stopped) → b.site ≤ s0 → a.site ≡ s1 → b.runner ≡ r0 → a.runner ≡ r1 → HasCauses s0 s1 r0 r1 how → FaultEnd b a (run_cause b a P how)
+run_faults b a P s0 s1 r0 r1 (Ok ended) le same is is_now rises = end_faults b a (length P.rules) ended
+run_faults b a P s0 s1 r0 r1 (Err (stopped.Refused (faults.Site old new))) le same is is_now rises = (refl, refl, omega (arith, le, same, rises))
+run_faults b a P s0 s1 r0 r1 (Err (stopped.Refused faults.Memory)) le same is is_now rises = tt
+run_faults b a P s0 s1 r0 r1 (Err (stopped.Refused (faults.OtherFlow logged found))) le same is is_now rises = tt
+run_faults b a P s0 s1 r0 r1 (Err (stopped.Refused (faults.NotLegal at))) le same is is_now rises = tt
+run_faults b a P s0 s1 r0 r1 (Err (stopped.Refused (faults.LogFull count))) le same is is_now rises = tt
+run_faults b a P s0 s1 r0 r1 (Err (stopped.Refused (faults.StoredAboveLimit bytes limit))) le same is is_now rises = tt
+run_faults b a P s0 s1 r0 r1 (Err (stopped.Refused (faults.SourceMissing file))) le same is is_now rises = tt
+run_faults b a P s0 s1 r0 r1 (Err (stopped.Refused (faults.SourceTooLarge file size))) le same is is_now rises = tt
+run_faults b a P s0 s1 r0 r1 (Err (stopped.Refused (faults.SourceChanged file logged found))) le same is is_now rises = tt
+run_faults b a P s0 s1 r0 r1 (Err (stopped.Refused (faults.FileDamaged file logged found))) le same is is_now rises = tt
+run_faults b a P s0 s1 r0 r1 (Err (stopped.Halted (halts.Damaged file logged found))) le same is is_now rises = damage_faults b a (is_source P file.0) file logged found
+run_faults b a P s0 s1 r0 r1 (Err (stopped.Halted halts.Runner)) le same is is_now rises = (refl, refl, omega (arith, is, is_now, rises))
+run_faults b a P s0 s1 r0 r1 (Err (stopped.Halted halts.Site)) le same is is_now rises = (refl, refl, omega (arith, le, same, rises))
+run_faults b a P s0 s1 r0 r1 (Err (stopped.Halted halts.Memory)) le same is is_now rises = tt
+
+-- the records may stand in the log, or they are those of the log
+legal_run : (b a : Counts) (P : Plan) (H all : List Record) (how : Result Check Stopped) → (IsRefusedRun how → all ≡ H) → (IsAdmitted how → IsLegal P all) → IsLegalOr P H all (kind_of (run_cause b a P how))
+legal_run b a P H all (Err (stopped.Refused (faults.OtherFlow logged found))) same legal = inr (inl (same tt), refl)
+legal_run b a P H all (Err (stopped.Refused (faults.NotLegal at))) same legal = inr (inl (same tt), refl)
+legal_run b a P H all (Err (stopped.Refused faults.Memory)) same legal = inr (inl (same tt), refl)
+legal_run b a P H all (Err (stopped.Refused (faults.LogFull count))) same legal = inl (legal tt)
+legal_run b a P H all (Err (stopped.Refused (faults.StoredAboveLimit bytes limit))) same legal = inl (legal tt)
+legal_run b a P H all (Err (stopped.Refused (faults.SourceMissing file))) same legal = inl (legal tt)
+legal_run b a P H all (Err (stopped.Refused (faults.SourceTooLarge file size))) same legal = inl (legal tt)
+legal_run b a P H all (Err (stopped.Refused (faults.SourceChanged file logged found))) same legal = inl (legal tt)
+legal_run b a P H all (Err (stopped.Refused (faults.FileDamaged file logged found))) same legal = inl (legal tt)
+legal_run b a P H all (Err (stopped.Refused (faults.Site old new))) same legal = inl (legal tt)
+legal_run b a P H all (Ok ended) same legal = inl (legal tt)
+legal_run b a P H all (Err (stopped.Halted halt)) same legal = inl (legal tt)
+
+admitted_run : (b a : Counts) (P : Plan) (how : Result Check Stopped) → was_read (kind_of (run_cause b a P how)) ≡ true → IsAdmitted how
+admitted_run b a P (Err (stopped.Refused (faults.OtherFlow logged found))) read = absent read
+admitted_run b a P (Err (stopped.Refused (faults.NotLegal at))) read = absent read
+admitted_run b a P (Err (stopped.Refused faults.Memory)) read = absent read
+admitted_run b a P (Err (stopped.Refused (faults.LogFull count))) read = tt
+admitted_run b a P (Err (stopped.Refused (faults.StoredAboveLimit bytes limit))) read = tt
+admitted_run b a P (Err (stopped.Refused (faults.SourceMissing file))) read = tt
+admitted_run b a P (Err (stopped.Refused (faults.SourceTooLarge file size))) read = tt
+admitted_run b a P (Err (stopped.Refused (faults.SourceChanged file logged found))) read = tt
+admitted_run b a P (Err (stopped.Refused (faults.FileDamaged file logged found))) read = tt
+admitted_run b a P (Err (stopped.Refused (faults.Site old new))) read = tt
+admitted_run b a P (Ok ended) read = tt
+admitted_run b a P (Err (stopped.Halted halt)) read = tt
+
+closed_run : (b a : Counts) (P : Plan) (how : Result Check Stopped) → is_run_end (kind_of (run_cause b a P how)) ≡ true → IsClosedRun how
+closed_run b a P (Ok ended) ends = tt
+closed_run b a P (Err (stopped.Refused (faults.OtherFlow logged found))) ends = absent ends
+closed_run b a P (Err (stopped.Refused (faults.NotLegal at))) ends = absent ends
+closed_run b a P (Err (stopped.Refused (faults.LogFull count))) ends = absent ends
+closed_run b a P (Err (stopped.Refused (faults.StoredAboveLimit bytes limit))) ends = absent ends
+closed_run b a P (Err (stopped.Refused (faults.SourceMissing file))) ends = absent ends
+closed_run b a P (Err (stopped.Refused (faults.SourceTooLarge file size))) ends = absent ends
+closed_run b a P (Err (stopped.Refused (faults.SourceChanged file logged found))) ends = absent ends
+closed_run b a P (Err (stopped.Refused (faults.FileDamaged file logged found))) ends = absent ends
+closed_run b a P (Err (stopped.Refused (faults.Site old new))) ends = absent ends
+closed_run b a P (Err (stopped.Refused faults.Memory)) ends = absent ends
+closed_run b a P (Err (stopped.Halted (halts.Damaged file logged found))) ends = tt
+closed_run b a P (Err (stopped.Halted halts.Runner)) ends = tt
+closed_run b a P (Err (stopped.Halted halts.Site)) ends = absent ends
+closed_run b a P (Err (stopped.Halted halts.Memory)) ends = absent ends
+
+starts_none : (H all : List Record) → all ≡ H → StartsNone H all
+starts_none H all same = ([], same ∙ sym (append_nothing H), refl)
+
+loses_none : (H all : List Record) → all ≡ H → LosesNone H all
+loses_none H all same = ([], same ∙ sym (append_nothing H), refl)
+
+spent_run : (b a : Counts) (P : Plan) (H all : List Record) (how : Result Check Stopped) → (IsRefusedRun how → all ≡ H) → (IsClosedRun how → SpentOnce (since_opening all))
+    → (is_cut (kind_of (run_cause b a P how)) ≡ true → ⊥) → IsSpentBy H all
+spent_run b a P H all (Ok ended) same spent whole = inr (spent tt)
+spent_run b a P H all (Err (stopped.Refused why)) same spent whole = inl (starts_none H all (same tt))
+spent_run b a P H all (Err (stopped.Halted (halts.Damaged file logged found))) same spent whole = inr (spent tt)
+spent_run b a P H all (Err (stopped.Halted halts.Runner)) same spent whole = inr (spent tt)
+spent_run b a P H all (Err (stopped.Halted halts.Site)) same spent whole = absurd (whole refl)
+spent_run b a P H all (Err (stopped.Halted halts.Memory)) same spent whole = absurd (whole refl)
+
+damage_loses : (source : Bool) (file : FileNo) (logged : Content) (found : Found) → may_lose (kind_of (if source then causes.SourceChanged file logged found else causes.FileDamaged file logged found)) ≡ true
+damage_loses true file logged found = refl
+damage_loses false file logged found = refl
+
+lost_run : (b a : Counts) (P : Plan) (H all : List Record) (how : Result Check Stopped) → (IsRefusedRun how → all ≡ H) → OnOk how (LosesNone H all)
+    → may_lose (kind_of (run_cause b a P how)) ≡ false → LosesNone H all
+lost_run b a P H all (Ok ended) same lost keeps = lost
+lost_run b a P H all (Err (stopped.Refused why)) same lost keeps = loses_none H all (same tt)
+lost_run b a P H all (Err (stopped.Halted (halts.Damaged file logged found))) same lost keeps = present (sym (damage_loses (is_source P file.0) file logged found) ∙ keeps)
+lost_run b a P H all (Err (stopped.Halted halts.Runner)) same lost keeps = present keeps
+lost_run b a P H all (Err (stopped.Halted halts.Site)) same lost keeps = present keeps
+lost_run b a P H all (Err (stopped.Halted halts.Memory)) same lost keeps = present keeps
+
+end_refuses : (rules : ℕ) (ended : Check) → is_refusal (kind_of (end_cause rules ended)) ≡ false
+end_refuses rules (check.Complete collected) = refl
+end_refuses rules (check.CommandFailed rule why) = refl
+end_refuses rules (check.InputsTooLarge rule total) = refl
+end_refuses rules (check.LogFull count) = refl
+end_refuses rules _ = refl
+
+damage_refuses : (source : Bool) (file : FileNo) (logged : Content) (found : Found) → is_refusal (kind_of (if source then causes.SourceChanged file logged found else causes.FileDamaged file logged found)) ≡ false
+damage_refuses true file logged found = refl
+damage_refuses false file logged found = refl
+
+early_run : (b a : Counts) (P : Plan) (how : Result Check Stopped) → is_refusal (kind_of (run_cause b a P how)) ≡ true → IsEarlyRun how
+early_run b a P (Ok ended) refused = present (sym refused ∙ end_refuses (length P.rules) ended)
+early_run b a P (Err (stopped.Refused (faults.OtherFlow logged found))) refused = tt
+early_run b a P (Err (stopped.Refused (faults.NotLegal at))) refused = tt
+early_run b a P (Err (stopped.Refused (faults.LogFull count))) refused = absent refused
+early_run b a P (Err (stopped.Refused (faults.StoredAboveLimit bytes limit))) refused = absent refused
+early_run b a P (Err (stopped.Refused (faults.SourceMissing file))) refused = absent refused
+early_run b a P (Err (stopped.Refused (faults.SourceTooLarge file size))) refused = absent refused
+early_run b a P (Err (stopped.Refused (faults.SourceChanged file logged found))) refused = absent refused
+early_run b a P (Err (stopped.Refused (faults.FileDamaged file logged found))) refused = absent refused
+early_run b a P (Err (stopped.Refused (faults.Site old new))) refused = absent refused
+early_run b a P (Err (stopped.Refused faults.Memory)) refused = absent refused
+early_run b a P (Err (stopped.Halted (halts.Damaged file logged found))) refused = present (sym refused ∙ damage_refuses (is_source P file.0) file logged found)
+early_run b a P (Err (stopped.Halted halts.Runner)) refused = absent refused
+early_run b a P (Err (stopped.Halted halts.Site)) refused = absent refused
+early_run b a P (Err (stopped.Halted halts.Memory)) refused = absent refused
+
+abbrev tells_damage : Cause → Bool
+tells_damage (causes.LogDamaged at) = true
+tells_damage _ = false
+
+end_whole : (rules : ℕ) (ended : Check) → tells_damage (end_cause rules ended) ≡ false
+end_whole rules (check.Complete collected) = refl
+end_whole rules (check.CommandFailed rule why) = refl
+end_whole rules (check.InputsTooLarge rule total) = refl
+end_whole rules (check.LogFull count) = refl
+end_whole rules _ = refl
+
+input_whole : (source : Bool) (file : FileNo) (logged : Content) (found : Found) → tells_damage (if source then causes.SourceChanged file logged found else causes.FileDamaged file logged found) ≡ false
+input_whole true file logged found = refl
+input_whole false file logged found = refl
+
+run_whole : (b a : Counts) (P : Plan) (how : Result Check Stopped) → tells_damage (run_cause b a P how) ≡ false
+run_whole b a P (Ok ended) = end_whole (length P.rules) ended
+run_whole b a P (Err (stopped.Refused (faults.OtherFlow logged found))) = refl
+run_whole b a P (Err (stopped.Refused (faults.NotLegal at))) = refl
+run_whole b a P (Err (stopped.Refused (faults.LogFull count))) = refl
+run_whole b a P (Err (stopped.Refused (faults.StoredAboveLimit bytes limit))) = refl
+run_whole b a P (Err (stopped.Refused (faults.SourceMissing file))) = refl
+run_whole b a P (Err (stopped.Refused (faults.SourceTooLarge file size))) = refl
+run_whole b a P (Err (stopped.Refused (faults.SourceChanged file logged found))) = refl
+run_whole b a P (Err (stopped.Refused (faults.FileDamaged file logged found))) = refl
+run_whole b a P (Err (stopped.Refused (faults.Site old new))) = refl
+run_whole b a P (Err (stopped.Refused faults.Memory)) = refl
+run_whole b a P (Err (stopped.Halted (halts.Damaged file logged found))) = input_whole (is_source P file.0) file logged found
+run_whole b a P (Err (stopped.Halted halts.Runner)) = refl
+run_whole b a P (Err (stopped.Halted halts.Site)) = refl
+run_whole b a P (Err (stopped.Halted halts.Memory)) = refl
+
+-- where nothing stands in the way
+free_goes : (ask : Ask) (H : List Record) (before after : Files) (records : List Record) (cause : Cause) → run_fault ask.plan ask.options H before ≡ None → RunEnds ask records after cause
+    → GoesOn works.Run ask H before after records cause
+free_goes ask H before after records cause none ends = subst (λ (o : Option StartFault). Yields (option_map start_cause o) cause (RunEnds ask records after cause)) (sym none) ends
+
+uncut_goes : (ask : Ask) (H : List Record) (before after : Files) (records : List Record) (why : StartFault) → run_fault ask.plan ask.options H before ≡ Some why → GoesOn works.Run ask H before after records (start_cause why)
+uncut_goes ask H before after records why is = subst (λ (o : Option StartFault). Yields (option_map start_cause o) (start_cause why) (RunEnds ask records after (start_cause why))) (sym is) (λ stays. inl refl)
+
+damage_stops : (P : Plan) (records : List Record) (after : Files) (file : FileNo) (logged : Content) (found : Found) (source : Bool) → is_source P file.0 ≡ source → IsDamaged P records after file logged found
+    → IsStop P records after (if source then causes.SourceChanged file logged found else causes.FileDamaged file logged found)
+damage_stops P records after file logged found true is damage = (is, damage)
+damage_stops P records after file logged found false is damage = (is, damage)
+
+run_goes : (b a : Counts) (ask : Ask) (H : List Record) (before after : Files) (records : List Record) (how : Result Check Stopped) → StartEnds (run_fault ask.plan ask.options H before) how → IfOk how IsRunEnd
+    → IfOk how (λ ended. ended ≡ end_over ask.plan ask.options (before_end records) None) → RunDamage ask.plan records after how → GoesOn works.Run ask H before after records (run_cause b a ask.plan how)
+run_goes b a ask H before after records (Ok ended) starts closed ends damage =
+    free_goes ask H before after records (end_cause (length ask.plan.rules) ended) starts
+    (inl (subst IsRunEnd ends closed, inl (ap (end_cause (length ask.plan.rules)) ends)))
+run_goes b a ask H before after records (Err (stopped.Refused (faults.OtherFlow logged found))) starts closed ends damage = uncut_goes ask H before after records (faults.OtherFlow logged found) (starts tt)
+run_goes b a ask H before after records (Err (stopped.Refused (faults.NotLegal at))) starts closed ends damage = uncut_goes ask H before after records (faults.NotLegal at) (starts tt)
+run_goes b a ask H before after records (Err (stopped.Refused (faults.LogFull count))) starts closed ends damage = uncut_goes ask H before after records (faults.LogFull count) (starts tt)
+run_goes b a ask H before after records (Err (stopped.Refused (faults.StoredAboveLimit bytes limit))) starts closed ends damage = uncut_goes ask H before after records (faults.StoredAboveLimit bytes limit) (starts tt)
+run_goes b a ask H before after records (Err (stopped.Refused (faults.SourceMissing file))) starts closed ends damage = uncut_goes ask H before after records (faults.SourceMissing file) (starts tt)
+run_goes b a ask H before after records (Err (stopped.Refused (faults.SourceTooLarge file size))) starts closed ends damage = uncut_goes ask H before after records (faults.SourceTooLarge file size) (starts tt)
+run_goes b a ask H before after records (Err (stopped.Refused (faults.SourceChanged file logged found))) starts closed ends damage = uncut_goes ask H before after records (faults.SourceChanged file logged found) (starts tt)
+run_goes b a ask H before after records (Err (stopped.Refused (faults.FileDamaged file logged found))) starts closed ends damage = uncut_goes ask H before after records (faults.FileDamaged file logged found) (starts tt)
+run_goes b a ask H before after records (Err (stopped.Refused (faults.Site old new))) starts closed ends damage = fault_goes works.Run ask H before after records (causes.SiteFault b.site a.site) refl
+run_goes b a ask H before after records (Err (stopped.Refused faults.Memory)) starts closed ends damage = fault_goes works.Run ask H before after records causes.Memory refl
+run_goes b a ask H before after records (Err (stopped.Halted (halts.Damaged file logged found))) starts closed ends damage =
+    free_goes ask H before after records (damage_cause ask.plan file logged found) starts (inr (damage_stops ask.plan records after file logged found (is_source ask.plan file.0) refl damage))
+run_goes b a ask H before after records (Err (stopped.Halted halts.Runner)) starts closed ends damage = free_goes ask H before after records (causes.RunnerFault b.runner a.runner) starts (inr tt)
+run_goes b a ask H before after records (Err (stopped.Halted halts.Site)) starts closed ends damage = free_goes ask H before after records (causes.SiteFault b.site a.site) starts (inr tt)
+run_goes b a ask H before after records (Err (stopped.Halted halts.Memory)) starts closed ends damage = free_goes ask H before after records causes.Memory starts (inr tt)
+
+damage_sure : (source : Bool) (file : FileNo) (logged : Content) (found : Found) → is_failing (kind_of (if source then causes.SourceChanged file logged found else causes.FileDamaged file logged found)) ≡ false
+damage_sure true file logged found = refl
+damage_sure false file logged found = refl
+
+sure_run : (b a : Counts) (P : Plan) (how : Result Check Stopped) → IsSureEnd how → is_failing (kind_of (run_cause b a P how)) ≡ false
+sure_run b a P (Ok (check.CommandFailed rule why)) is = absurd is
+sure_run b a P (Ok (check.Complete collected)) is = refl
+sure_run b a P (Ok (check.InputsTooLarge rule total)) is = refl
+sure_run b a P (Ok (check.LogFull count)) is = refl
+sure_run b a P (Ok _) is = refl
+sure_run b a P (Err (stopped.Refused (faults.OtherFlow logged found))) is = refl
+sure_run b a P (Err (stopped.Refused (faults.NotLegal at))) is = refl
+sure_run b a P (Err (stopped.Refused (faults.LogFull count))) is = refl
+sure_run b a P (Err (stopped.Refused (faults.StoredAboveLimit bytes limit))) is = refl
+sure_run b a P (Err (stopped.Refused (faults.SourceMissing file))) is = refl
+sure_run b a P (Err (stopped.Refused (faults.SourceTooLarge file size))) is = refl
+sure_run b a P (Err (stopped.Refused (faults.SourceChanged file logged found))) is = refl
+sure_run b a P (Err (stopped.Refused (faults.FileDamaged file logged found))) is = refl
+sure_run b a P (Err (stopped.Refused (faults.Site old new))) is = refl
+sure_run b a P (Err (stopped.Refused faults.Memory)) is = refl
+sure_run b a P (Err (stopped.Halted (halts.Damaged file logged found))) is = damage_sure (is_source P file.0) file logged found
+sure_run b a P (Err (stopped.Halted halts.Runner)) is = absurd is
+sure_run b a P (Err (stopped.Halted halts.Site)) is = refl
+sure_run b a P (Err (stopped.Halted halts.Memory)) is = refl
+
+done_run : (b a : Counts) (P : Plan) (how : Result Check Stopped) → IsDone how → is_completion (kind_of (run_cause b a P how)) ≡ true
+done_run b a P (Ok (check.Complete collected)) done = refl
+done_run b a P (Ok (check.CommandFailed rule why)) done = absurd done
+done_run b a P (Ok (check.InputsTooLarge rule total)) done = absurd done
+done_run b a P (Ok (check.LogFull count)) done = absurd done
+done_run b a P (Ok check.Going) done = absurd done
+done_run b a P (Ok check.Halted) done = absurd done
+done_run b a P (Ok (check.NoRoom rule need bytes limit)) done = absurd done
+done_run b a P (Ok (check.Waited wait)) done = absurd done
+done_run b a P (Err (stopped.Refused (faults.OtherFlow logged found))) done = absurd done
+done_run b a P (Err (stopped.Refused (faults.NotLegal at))) done = absurd done
+done_run b a P (Err (stopped.Refused (faults.LogFull count))) done = absurd done
+done_run b a P (Err (stopped.Refused (faults.StoredAboveLimit bytes limit))) done = absurd done
+done_run b a P (Err (stopped.Refused (faults.SourceMissing file))) done = absurd done
+done_run b a P (Err (stopped.Refused (faults.SourceTooLarge file size))) done = absurd done
+done_run b a P (Err (stopped.Refused (faults.SourceChanged file logged found))) done = absurd done
+done_run b a P (Err (stopped.Refused (faults.FileDamaged file logged found))) done = absurd done
+done_run b a P (Err (stopped.Refused (faults.Site old new))) done = absurd done
+done_run b a P (Err (stopped.Refused faults.Memory)) done = refl
+done_run b a P (Err (stopped.Halted (halts.Damaged file logged found))) done = absurd done
+done_run b a P (Err (stopped.Halted halts.Runner)) done = absurd done
+done_run b a P (Err (stopped.Halted halts.Site)) done = absurd done
+done_run b a P (Err (stopped.Halted halts.Memory)) done = refl
+
+end_late : (rules : ℕ) (ended : Check) → is_early (kind_of (end_cause rules ended)) ≡ false
+end_late rules (check.Complete collected) = refl
+end_late rules (check.CommandFailed rule why) = refl
+end_late rules (check.InputsTooLarge rule total) = refl
+end_late rules (check.LogFull count) = refl
+end_late rules _ = refl
+
+damage_late : (source : Bool) (file : FileNo) (logged : Content) (found : Found) → is_early (kind_of (if source then causes.SourceChanged file logged found else causes.FileDamaged file logged found)) ≡ false
+damage_late true file logged found = refl
+damage_late false file logged found = refl
+
+run_late : (b a : Counts) (P : Plan) (how : Result Check Stopped) → is_early (kind_of (run_cause b a P how)) ≡ false
+run_late b a P (Ok ended) = end_late (length P.rules) ended
+run_late b a P (Err (stopped.Refused (faults.OtherFlow logged found))) = refl
+run_late b a P (Err (stopped.Refused (faults.NotLegal at))) = refl
+run_late b a P (Err (stopped.Refused (faults.LogFull count))) = refl
+run_late b a P (Err (stopped.Refused (faults.StoredAboveLimit bytes limit))) = refl
+run_late b a P (Err (stopped.Refused (faults.SourceMissing file))) = refl
+run_late b a P (Err (stopped.Refused (faults.SourceTooLarge file size))) = refl
+run_late b a P (Err (stopped.Refused (faults.SourceChanged file logged found))) = refl
+run_late b a P (Err (stopped.Refused (faults.FileDamaged file logged found))) = refl
+run_late b a P (Err (stopped.Refused (faults.Site old new))) = refl
+run_late b a P (Err (stopped.Refused faults.Memory)) = refl
+run_late b a P (Err (stopped.Halted (halts.Damaged file logged found))) = damage_late (is_source P file.0) file logged found
+run_late b a P (Err (stopped.Halted halts.Runner)) = refl
+run_late b a P (Err (stopped.Halted halts.Site)) = refl
+run_late b a P (Err (stopped.Halted halts.Memory)) = refl
+
+none_refused : (o : Option StartFault) → option_map start_cause o ≡ None → o ≡ None
+none_refused None is = refl
+none_refused (Some why) is = absurd (cc)
+
+-- the count of failed commands
+pub failed_run : (b a : Counts) (P : Plan) (f0 f1 : ℕ) (how : Result Check Stopped) → HasFailed f0 f1 how → FailureEnd f0 f1 (kind_of (run_cause b a P how))
+failed_run b a P f0 f1 (Ok (check.CommandFailed rule why)) failed = record { later = omega (arith, failed); rose = λ is. failed }
+failed_run b a P f0 f1 (Ok (check.Complete collected)) failed = record { later = failed; rose = λ wrong. absurd (cc) }
+failed_run b a P f0 f1 (Ok (check.InputsTooLarge rule total)) failed = record { later = failed; rose = λ wrong. absurd (cc) }
+failed_run b a P f0 f1 (Ok (check.LogFull count)) failed = record { later = failed; rose = λ wrong. absurd (cc) }
+failed_run b a P f0 f1 (Ok _) failed = record { later = failed; rose = λ wrong. absurd (cc) }
+failed_run b a P f0 f1 (Err (stopped.Refused (faults.OtherFlow logged found))) failed = record { later = failed; rose = λ wrong. absurd (cc) }
+failed_run b a P f0 f1 (Err (stopped.Refused (faults.NotLegal at))) failed = record { later = failed; rose = λ wrong. absurd (cc) }
+failed_run b a P f0 f1 (Err (stopped.Refused (faults.LogFull count))) failed = record { later = failed; rose = λ wrong. absurd (cc) }
+failed_run b a P f0 f1 (Err (stopped.Refused (faults.StoredAboveLimit bytes limit))) failed = record { later = failed; rose = λ wrong. absurd (cc) }
+failed_run b a P f0 f1 (Err (stopped.Refused (faults.SourceMissing file))) failed = record { later = failed; rose = λ wrong. absurd (cc) }
+failed_run b a P f0 f1 (Err (stopped.Refused (faults.SourceTooLarge file size))) failed = record { later = failed; rose = λ wrong. absurd (cc) }
+failed_run b a P f0 f1 (Err (stopped.Refused (faults.SourceChanged file logged found))) failed = record { later = failed; rose = λ wrong. absurd (cc) }
+failed_run b a P f0 f1 (Err (stopped.Refused (faults.FileDamaged file logged found))) failed = record { later = failed; rose = λ wrong. absurd (cc) }
+failed_run b a P f0 f1 (Err (stopped.Refused (faults.Site old new))) failed = record { later = failed; rose = λ wrong. absurd (cc) }
+failed_run b a P f0 f1 (Err (stopped.Refused faults.Memory)) failed = record { later = failed; rose = λ wrong. absurd (cc) }
+failed_run b a P f0 f1 (Err (stopped.Halted (halts.Damaged file logged found))) failed = record {
+  later = failed;
+  rose = λ is. absurd (let wrong : kinds.WrongFile ≡ kinds.RuleFailed = sym (damage_kind (is_source P file.0) file logged found) ∙ is in cc);
+}
+failed_run b a P f0 f1 (Err (stopped.Halted halts.Runner)) failed = record { later = failed; rose = λ wrong. absurd (cc) }
+failed_run b a P f0 f1 (Err (stopped.Halted halts.Site)) failed = record { later = failed; rose = λ wrong. absurd (cc) }
+failed_run b a P f0 f1 (Err (stopped.Halted halts.Memory)) failed = record { later = failed; rose = λ wrong. absurd (cc) }
+
+module _ {S : Type 0} (tells : Type 0) (files : S → Files) (may_leave : S → Outcomes) (moment : S → ℕ) (images_since : S → ℕ → Files → Type 0) (count : S → ℕ) (born : ℕ)
+    (gives : Function) (may_fail : Job → Failure → Type 0) (told : Job → Type 0) (sure : Type 0) (b a : Counts) (ask : Ask) (old new : S) (records : List Record) (how : Result Check Stopped) where
+  -- What is known of a run.
+  pub record Ran : Type 0 where
+    pub work : ask.work ≡ works.Run
+    pub le : b.site ≤ count old
+    pub now_site : a.site ≡ count new
+    pub faults : FaultEnd b a (run_cause b a ask.plan how)
+    pub log : tells → (H : List Record) × Spells H (files old ask.log)
+    pub grows : tells → (H : List Record) → Spells H (files old ask.log) → BeginsWith H records
+    pub same : tells → (H : List Record) → Spells H (files old ask.log) → IsRefusedRun how → records ≡ H
+    pub quiet : tells → IsEarlyRun how → (m : List ℕ) → files new m ≡ files old m
+    pub starts : tells → (H : List Record) → Spells H (files old ask.log) → StartEnds (run_fault ask.plan ask.options H (files old)) how
+    pub closed : IfOk how IsRunEnd
+    pub ends : IfOk how (λ ended. ended ≡ end_over ask.plan ask.options (before_end records) None)
+    pub damage : tells → RunDamage ask.plan records (files new) how
+    pub legal : IsAdmitted how → IsLegal ask.plan records
+    pub spent : IsClosedRun how → SpentOnce (since_opening records)
+    pub lost : OnOk how (tells → (H : List Record) → Spells H (files old ask.log) → LosesNone H records)
+    pub is_sure : sure → IsSureEnd how
+    pub others : tells → StaysBeside may_leave moment images_since (IsUnmade ask.plan ask.log) old new
+    pub moments : tells → (H : List Record) → Spells H (files old ask.log) → IsResumable Held ask.plan ask.log H (may_leave old)
+        → (image : Files) → images_since new born image → images_since old born image ⊎ IsMoment Held ask.plan ask.log (files old) (may_leave old) H records (IsCutRun how) image
+    pub resumable : tells → (H : List Record) → Spells H (files old ask.log) → ((image : Files) → IsImage (may_leave old) image → KeepsSome Held ask.plan ask.log image)
+        → (image : Files) → images_since new born image → images_since old born image ⊎ KeepsSome Held ask.plan ask.log image
+    pub contents : tells → (H : List Record) → Spells H (files old ask.log)
+        → IsResumable (SerialFits gives (read_sources ask.plan (files old))) ask.plan ask.log H (may_leave old)
+        → TellsJobs ask.plan told (serial ask.plan gives (read_sources ask.plan (files old)))
+        → (image : Files) → images_since new born image → images_since old born image ⊎ IsMoment (SerialFits gives (read_sources ask.plan (files old))) ask.plan ask.log (files old) (may_leave old) H records (IsCutRun how) image
+    pub honest : tells → (H : List Record) → Spells H (files old ask.log)
+        → IsResumable (SerialFits gives (read_sources ask.plan (files old))) ask.plan ask.log H (may_leave old)
+        → TellsJobs ask.plan told (serial ask.plan gives (read_sources ask.plan (files old)))
+        → Adds (Unit {0}) gives may_fail (read_sources ask.plan (files old)) ask.plan H records
+    pub at_end : tells → (H : List Record) → Spells H (files old ask.log) → IsResumable Held ask.plan ask.log H (may_leave old) → (IsCutRun how → ⊥)
+        → (image : Files) → IsImage (may_leave new) image → Keeps Held ask.plan ask.log records image
+    pub completes : tells → (H : List Record) → Spells H (files old ask.log)
+        → IsResumable (SerialFits gives (read_sources ask.plan (files old))) ask.plan ask.log H (may_leave old)
+        → TellsJobs ask.plan told (serial ask.plan gives (read_sources ask.plan (files old)))
+        → SerialInputsFit ask.plan gives (read_sources ask.plan (files old)) → HasRecordRoom ask.plan H → run_fault ask.plan ask.options H (files old) ≡ None
+        → sure → count new ≤ count old → IsDone how
+
+  on_told : OnOk how (tells → (H : List Record) → Spells H (files old ask.log) → LosesNone H records) → tells → (H : List Record) → Spells H (files old ask.log) → OnOk how (LosesNone H records)
+  on_told lost t H spelled = by_how how lost
+    where
+      by_how : (h : Result Check Stopped) → OnOk h (tells → (K : List Record) → Spells K (files old ask.log) → LosesNone K records) → OnOk h (LosesNone H records)
+      by_how (Ok ended) lost = lost t H spelled
+      by_how (Err why) lost = tt
+
+  -- what the call does
+  pub ran_serves : Ran → Serves tells files may_leave moment images_since born gives may_fail told sure b a ask old new records (run_cause b a ask.plan how)
+  ran_serves r = record {
+    ends = λ t. record {
+      damaged = λ at is. absurd (true≢false (ap tells_damage (sym is) ∙ run_whole b a ask.plan how));
+      read = inl (r.log t);
+      whole = λ H spelled. subst (λ (w : Work). GoesOn w ask H (files old) (files new) records (run_cause b a ask.plan how)) (sym r.work)
+          (run_goes b a ask H (files old) (files new) records how (r.starts t H spelled) r.closed r.ends (r.damage t));
+    };
+    late = run_late b a ask.plan how;
+    faults = r.faults;
+    has_log = λ t H spelled. inl (r.grows t H spelled);
+    legal = λ read. r.legal (admitted_run b a ask.plan how read);
+    logged = λ t H spelled. legal_run b a ask.plan H records how (r.same t H spelled) r.legal;
+    closed = λ ends. r.spent (closed_run b a ask.plan how ends);
+    spent = λ t H spelled whole. spent_run b a ask.plan H records how (r.same t H spelled) r.spent whole;
+    lost = λ t H spelled keeps. lost_run b a ask.plan H records how (r.same t H spelled) (on_told r.lost t H spelled) keeps;
+    moments = λ t H spelled resumable image left.
+        ⊎_elim (λ was. inl was)
+        (λ (m : IsMoment Held ask.plan ask.log (files old) (may_leave old) H records (IsCutRun how) image).
+        inr (moment_after Held ask.plan ask.log (files old) (may_leave old) H records (IsCutRun how) (IsCut (run_cause b a ask.plan how)) image (cut_run b a ask.plan how) m))
+        (r.moments t H spelled resumable image left);
+    resumable = λ t some image left. let log = r.log t in r.resumable t log.0 log.1 some image left;
+    now = λ t H spelled resumable whole. r.at_end t H spelled resumable (λ cut. whole (cut_run b a ask.plan how cut));
+    untouched = λ t refused. λ i m. r.quiet t (early_run b a ask.plan how refused) m i;
+    others = r.others;
+    contents = λ t H spelled jobs resumable image left.
+        ⊎_elim (λ was. inl was)
+        (λ (m : IsMoment (SerialFits gives (read_sources ask.plan (files old))) ask.plan ask.log (files old) (may_leave old) H records (IsCutRun how) image).
+        inr (moment_after (SerialFits gives (read_sources ask.plan (files old))) ask.plan ask.log (files old) (may_leave old) H records (IsCutRun how) (IsCut (run_cause b a ask.plan how)) image (cut_run b a ask.plan how) m))
+        (r.contents t H spelled resumable jobs image left);
+    honest = λ t H spelled resumable jobs begins. r.honest t H spelled resumable jobs;
+    sure_end = λ is. sure_run b a ask.plan how (r.is_sure is);
+    completes = λ t H spelled work resumable free there fit room is jobs none.
+        done_run b a ask.plan how (r.completes t H spelled resumable jobs fit room (none_refused (run_fault ask.plan ask.options H (files old)) free) is (omega (arith, r.le, r.now_site, none.site)));
+  }

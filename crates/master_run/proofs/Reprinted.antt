@@ -1,0 +1,324 @@
+-- What holds of a call holds of it once its text was printed.
+use Rattle.std.proofs.Common.{◌≡◌, ◌≤◌, ◌<◌, ◌⊎◌, ⊎_elim, inl, inr, ◌∙◌, ℕ, Bool, true, false, List, [], ◌∷◌, ◌++◌, length, ok_or, Option, Some, None, Result, Ok, Err, IsTrue, IsFalse, IsErrOf, refl, sym, ap, subst, arith, true≢false, if◌then◌else◌}
+use Rattle.flow_types.specs.declared.plan.Plan.{Plan}
+use Rattle.flow_types.specs.declared.records.Record.{Record}
+use Rattle.run_history.specs.declared.answers.Check.{Check}
+use Rattle.run_history.specs.Answers.{before_end, end_over}
+use Rattle.flow_types.specs.declared.job.Job.{Job}
+use Rattle.flow_types.specs.declared.job.Failure.{Failure}
+use Rattle.flow_types.specs.Serial.{Function}
+use Rattle.outside.specs.Disk.{Outcomes}
+use Rattle.outside.specs.Files.{Files}
+use Rattle.outside.specs.declared.fault.Fault.{Fault}
+use Rattle.outside.specs.declared.fault.Fault.TheVariants as faults
+use Rattle.command_words.specs.Choices.{options_of}
+use Rattle.command_words.specs.declared.options.Options.{Options}
+use Rattle.command_words.specs.declared.options.Work.{Work}
+use Rattle.command_words.specs.declared.options.Work.TheVariants as works
+use Rattle.report.specs.declared.cause.Cause.{Cause}
+use Rattle.report.specs.declared.cause.Cause.TheVariants as causes
+use Rattle.report.specs.declared.cause.Kind.{Kind}
+use Rattle.report.specs.declared.cause.Kind.TheVariants as kinds
+use Rattle.report.specs.Causes.{is_cut, is_end, is_failing, is_refusal, kind_of, may_lose, may_replace, was_read}
+use Rattle.desk.specs.Kept.{IsLegal}
+use Rattle.local_run.specs.Runs.{Held, SerialFits, read_sources}
+use Rattle.master_run.specs.declared.ask.Ask.{Ask}
+use Rattle.master_run.specs.declared.counts.Counts.{Counts}
+use Rattle.master_run.specs.Ends.{Answers, CallEnds, EndsBy, FaultEnd, GoesOn, IsCause, IsReadOr, IsStop, LogEnds, RunEnds, WordsEnd, Yields, clean_refusal, counts, end_cause, log_refusal, run_refusal}
+use Rattle.run_history.specs.History.{since_opening}
+use Rattle.run_history.specs.Spent.{SpentOnce}
+use Rattle.master_run.specs.Headline.{FailureEnd, HasLog, IsLegalOr, is_run_end}
+use Rattle.master_run.specs.Prints.{IsPrinted, is_no_memory, printed_cause}
+use Rattle.master_run.specs.Serves.{AllMoments, Fit, IsCut, Serves}
+use Rattle.master_run.specs.Words.{and_then, built, chosen}
+use Rattle.master_run.proofs.Moved.{all_after}
+
+-- The cause that stands is the same, or that of the sink's fault at the end of what was asked for, or want of memory.
+abbrev pub Stands : ℕ → ℕ → Cause → Cause → Type 0
+Stands b a cause stands = (stands ≡ cause) ⊎ (((stands ≡ causes.SinkFault b a) × (b < a) × (is_end (kind_of cause) ≡ true)) ⊎ (stands ≡ causes.Memory))
+
+by_end : (b a : ℕ) (cause : Cause) (ends : Bool) → is_end (kind_of cause) ≡ ends → b < a → Stands b a cause (if ends then causes.SinkFault b a else cause)
+by_end b a cause true is rose = inr (inl (refl, rose, is))
+by_end b a cause false is rose = inl refl
+
+by_answer : (b a : ℕ) (cause : Cause) (printed : Result (Unit {0}) Fault) → (IsErrOf printed faults.Failed → b < a) → Stands b a cause (printed_cause b a cause printed)
+by_answer b a cause (Ok done) rose = inl refl
+by_answer b a cause (Err faults.Failed) rose = by_end b a cause (is_end (kind_of cause)) refl (rose refl)
+by_answer b a cause (Err faults.Memory) rose = inr (inr refl)
+
+-- what stands once the sink answered
+pub stands : (b a : ℕ) (cause now : Cause) → IsPrinted b a cause now → Stands b a cause now
+stands b a cause now is = subst (Stands b a cause) (sym is.is_cause) (by_answer b a cause is.printed is.rose)
+
+-- what holds of each of the three that may stand
+pub of_each : (P : Cause → Type 0) (b a : ℕ) (cause now : Cause) → Stands b a cause now → P cause → (b < a → is_end (kind_of cause) ≡ true → P (causes.SinkFault b a)) → P causes.Memory → P now
+of_each P b a cause now stood own sink memory =
+    ⊎_elim (λ (same : now ≡ cause). subst P (sym same) own)
+    (λ rest. ⊎_elim (λ (it : (now ≡ causes.SinkFault b a) × (b < a) × (is_end (kind_of cause) ≡ true)). subst P (sym it.0) (sink it.1 it.2)) (λ (same : now ≡ causes.Memory). subst P (sym same) memory) rest) stood
+
+-- The end of what was asked for is what the definition says, so the sink's fault may come in its place.
+end_expected : (expected cause : Cause) → is_end (kind_of cause) ≡ true → IsCause expected cause → is_end (kind_of expected) ≡ true
+end_expected expected cause ends is =
+    ⊎_elim (λ (same : cause ≡ expected). ap (λ (c : Cause). is_end (kind_of c)) (sym same) ∙ ends)
+    (λ (sink : (is_end (kind_of expected) ≡ true) × (kind_of cause ≡ kinds.SinkBroke)). sink.0) is
+
+end_stays : (kind : Kind) → is_end kind ≡ true → may_replace kind ≡ false
+end_stays kinds.Completed ends = refl
+end_stays kinds.Told ends = refl
+end_stays kinds.LogPrinted ends = refl
+end_stays kinds.RuleFailed ends = refl
+end_stays kinds.WrongWords ends = refl
+end_stays kinds.WrongFlow ends = refl
+end_stays kinds.WrongLog ends = refl
+end_stays kinds.WrongFile ends = refl
+end_stays kinds.PastLimit ends = refl
+end_stays kinds.LogFilled ends = refl
+end_stays kinds.SiteBroke ends = absurd (true≢false (sym ends))
+end_stays kinds.RunnerBroke ends = refl
+end_stays kinds.SinkBroke ends = refl
+end_stays kinds.NoMemory ends = absurd (true≢false (sym ends))
+
+-- the sink's fault in the place of an answer
+sink_answers : (b a : ℕ) (expected cause : Cause) → is_end (kind_of cause) ≡ true → Answers expected cause → Answers expected (causes.SinkFault b a)
+sink_answers b a expected cause ends answers = λ stays. inr (end_expected expected cause ends (answers (end_stays (kind_of cause) ends)), refl)
+
+memory_answers : (expected : Cause) → Answers expected causes.Memory
+memory_answers expected = λ stays. absurd (true≢false stays)
+
+sink_yields : (b a : ℕ) (refusal : Option Cause) (cause : Cause) (rest now : Type 0) → is_end (kind_of cause) ≡ true → (rest → now) → Yields refusal cause rest → Yields refusal (causes.SinkFault b a) now
+sink_yields b a None cause rest now ends goes yields = goes yields
+sink_yields b a (Some refusal) cause rest now ends goes yields = sink_answers b a refusal cause ends yields
+
+memory_yields : (refusal : Option Cause) (rest : Type 0) → rest → Yields refusal causes.Memory rest
+memory_yields None rest holds = holds
+memory_yields (Some refusal) rest holds = memory_answers refusal
+
+no_stop : (P : Plan) (records : List Record) (after : Files) (cause : Cause) → is_end (kind_of cause) ≡ true → IsStop P records after cause → ⊥
+no_stop P records after (causes.SourceChanged file logged found) ends stop = true≢false (sym ends)
+no_stop P records after (causes.FileDamaged file logged found) ends stop = true≢false (sym ends)
+no_stop P records after (causes.SiteFault old new) ends stop = true≢false (sym ends)
+no_stop P records after (causes.RunnerFault old new) ends stop = true≢false (sym ends)
+no_stop P records after causes.Memory ends stop = true≢false (sym ends)
+no_stop P records after _ ends stop = stop
+
+sink_run : (b a : ℕ) (ask : Ask) (records : List Record) (after : Files) (cause : Cause) → is_end (kind_of cause) ≡ true → RunEnds ask records after cause → RunEnds ask records after (causes.SinkFault b a)
+sink_run b a ask records after cause ends run =
+    ⊎_elim (λ (by : EndsBy ask.plan (end_over ask.plan ask.options (before_end records) None) cause).
+    inl (by.0, inr (end_expected (end_cause (length ask.plan.rules) (end_over ask.plan ask.options (before_end records) None)) cause ends by.1, refl)))
+    (λ (stop : IsStop ask.plan records after cause). absurd (no_stop ask.plan records after cause ends stop)) run
+
+sink_goes : (b a : ℕ) (work : Work) (ask : Ask) (H : List Record) (before after : Files) (records : List Record) (cause : Cause) → is_end (kind_of cause) ≡ true
+    → GoesOn work ask H before after records cause → GoesOn work ask H before after records (causes.SinkFault b a)
+sink_goes b a works.Run ask H before after records cause ends goes =
+    sink_yields b a (run_refusal ask.plan ask.options H before) cause (RunEnds ask records after cause) (RunEnds ask records after (causes.SinkFault b a)) ends (sink_run b a ask records after cause ends) goes
+sink_goes b a works.Clean ask H before after records cause ends goes =
+    sink_yields b a (clean_refusal ask.plan H) cause _ _ ends (sink_answers b a _ cause ends) goes
+sink_goes b a works.PrintLog ask H before after records cause ends goes =
+    sink_yields b a (log_refusal ask.plan H) cause _ _ ends (sink_answers b a _ cause ends) goes
+
+memory_goes : (work : Work) (ask : Ask) (H : List Record) (before after : Files) (records : List Record) → GoesOn work ask H before after records causes.Memory
+memory_goes works.Run ask H before after records = memory_yields (run_refusal ask.plan ask.options H before) (RunEnds ask records after causes.Memory) (inr tt)
+memory_goes works.Clean ask H before after records = memory_yields (clean_refusal ask.plan H) _ (memory_answers _)
+memory_goes works.PrintLog ask H before after records = memory_yields (log_refusal ask.plan H) _ (memory_answers _)
+
+sink_read : (b a : ℕ) (file : Option (List ℕ)) (cause : Cause) → is_end (kind_of cause) ≡ true → IsReadOr file cause → IsReadOr file (causes.SinkFault b a)
+sink_read b a file cause ends read =
+    ⊎_elim (λ spelled. inl spelled)
+    (λ rest. ⊎_elim (λ (damaged : (at : ℕ) × (cause ≡ causes.LogDamaged at)). absurd (true≢false (sym ends ∙ ap (λ (c : Cause). is_end (kind_of c)) damaged.1)))
+    (λ (replaced : may_replace (kind_of cause) ≡ true). absurd (true≢false (sym replaced ∙ end_stays (kind_of cause) ends))) rest) read
+
+pub printed_log : (b a : ℕ) (ask : Ask) (before after : Files) (records : List Record) (cause now : Cause) → Stands b a cause now → LogEnds ask before after records cause → LogEnds ask before after records now
+printed_log b a ask before after records cause now stood ends =
+    of_each (λ (c : Cause). LogEnds ask before after records c) b a cause now stood ends
+    (λ rose is. record {
+      damaged = λ at wrong. absurd (cc);
+      read = sink_read b a (before ask.log) cause is ends.read;
+      whole = λ H spelled. sink_goes b a ask.work ask H before after records cause is (ends.whole H spelled);
+    })
+    (record {
+      damaged = λ at wrong. absurd (cc);
+      read = inr (inr refl);
+      whole = λ H spelled. memory_goes ask.work ask H before after records;
+    })
+
+-- how the call ends, once its text was printed
+pub printed_ends : (b a : ℕ) (asked : Result Ask Cause) (before after : Files) (records : List Record) (cause now : Cause) → Stands b a cause now → CallEnds asked before after records cause
+    → CallEnds asked before after records now
+printed_ends b a (Ok ask) before after records cause now stood ends = printed_log b a ask before after records cause now stood ends
+printed_ends b a (Err refusal) before after records cause now stood ends =
+    (of_each (λ (c : Cause). Answers refusal c) b a cause now stood ends.0 (λ rose is. sink_answers b a refusal cause is ends.0) (memory_answers refusal), ends.1, ends.2)
+
+memory_words : (words : Result Options Cause) → WordsEnd words causes.Memory
+memory_words (Err refusal) = λ other. absurd (true≢false other)
+memory_words (Ok options) = refl
+
+-- What the words ask for is refused by no end of what was asked for.
+abbrev RefusedEarly : {T : Type 0} → Result T Cause → Type 0
+RefusedEarly (Ok value) = Unit {0}
+RefusedEarly (Err cause) = is_end (kind_of cause) ≡ false
+
+early_words : (words : List (List ℕ)) → RefusedEarly (chosen words)
+early_words words = by_options (options_of words)
+  where
+    by_flag : (options : Options) (b : Bool) → RefusedEarly (let built_so : Result Options Cause = if b then Err (causes.Unbuilt 0) else Ok options in built_so)
+    by_flag options true = refl
+    by_flag options false = tt
+
+    by_options : (o : Option Options) → RefusedEarly (and_then (ok_or o causes.Usage) built)
+    by_options None = refl
+    by_options (Some options) = by_flag options options.unbuilt
+
+end_memory : (kind : Kind) → is_end kind ≡ true → is_no_memory kind ≡ false
+end_memory kinds.NoMemory ends = absurd (true≢false (sym ends))
+end_memory _ ends = refl
+
+sink_words : (b a : ℕ) (words : Result Options Cause) (cause : Cause) → RefusedEarly words → is_end (kind_of cause) ≡ true → WordsEnd words cause → WordsEnd words (causes.SinkFault b a)
+sink_words b a (Err refusal) cause early ends said = λ other. absurd (true≢false (sym ends ∙ ap (λ (c : Cause). is_end (kind_of c)) (said (end_memory (kind_of cause) ends)) ∙ early))
+sink_words b a (Ok options) cause early ends said = refl
+
+-- what is said of the words
+pub printed_words : (words : List (List ℕ)) (b a : ℕ) (cause now : Cause) → Stands b a cause now → WordsEnd (chosen words) cause → WordsEnd (chosen words) now
+printed_words words b a cause now stood said =
+    of_each (WordsEnd (chosen words)) b a cause now stood said (λ rose is. sink_words b a (chosen words) cause (early_words words) is said) (memory_words (chosen words))
+
+wider_fault : (sb rb b sa ra a : ℕ) (cause : Cause) → FaultEnd (counts sb rb 0) (counts sa ra 0) cause → FaultEnd (counts sb rb b) (counts sa ra a) cause
+wider_fault sb rb b sa ra a (causes.SiteFault old new) fault = fault
+wider_fault sb rb b sa ra a (causes.RunnerFault old new) fault = fault
+wider_fault sb rb b sa ra a (causes.SinkFault old new) fault = absurd (let wrong : ⊥ = omega (arith, fault.2) in wrong)
+wider_fault sb rb b sa ra a _ fault = tt
+
+-- of faults: the sink's is told only where its count rose
+pub printed_fault : (sb rb b sa ra a : ℕ) (cause now : Cause) → Stands b a cause now → FaultEnd (counts sb rb 0) (counts sa ra 0) cause → FaultEnd (counts sb rb b) (counts sa ra a) now
+printed_fault sb rb b sa ra a cause now stood fault =
+    of_each (FaultEnd (counts sb rb b) (counts sa ra a)) b a cause now stood (wider_fault sb rb b sa ra a cause fault) (λ rose is. (refl, refl, rose)) tt
+
+-- where a kind is the end of what was asked for
+end_read : (kind : Kind) → is_end kind ≡ true → was_read kind ≡ true
+end_read kinds.Completed ends = refl
+end_read kinds.Told ends = refl
+end_read kinds.LogPrinted ends = refl
+end_read kinds.RuleFailed ends = refl
+end_read kinds.WrongWords ends = absurd (true≢false (sym ends))
+end_read kinds.WrongFlow ends = absurd (true≢false (sym ends))
+end_read kinds.WrongLog ends = absurd (true≢false (sym ends))
+end_read kinds.WrongFile ends = refl
+end_read kinds.PastLimit ends = refl
+end_read kinds.LogFilled ends = refl
+end_read kinds.SiteBroke ends = absurd (true≢false (sym ends))
+end_read kinds.RunnerBroke ends = refl
+end_read kinds.SinkBroke ends = refl
+end_read kinds.NoMemory ends = absurd (true≢false (sym ends))
+
+end_whole : (kind : Kind) → is_end kind ≡ true → is_cut kind ≡ true → ⊥
+end_whole kinds.SiteBroke ends cut = true≢false (sym ends)
+end_whole kinds.NoMemory ends cut = true≢false (sym ends)
+end_whole _ ends cut = true≢false (sym cut)
+
+end_loses : (kind : Kind) → is_end kind ≡ true → may_lose kind ≡ false
+end_loses kinds.WrongFile ends = absurd (true≢false (sym ends))
+end_loses kinds.SiteBroke ends = absurd (true≢false (sym ends))
+end_loses kinds.RunnerBroke ends = absurd (true≢false (sym ends))
+end_loses kinds.NoMemory ends = absurd (true≢false (sym ends))
+end_loses _ ends = refl
+
+log_after : (H all : List Record) (kind now : Kind) → (may_replace kind ≡ true → may_replace now ≡ true) → HasLog H all kind → HasLog H all now
+log_after H all kind now replaces has = ⊎_elim (λ begins. inl begins) (λ (none : (all ≡ []) × (may_replace kind ≡ true)). inr (none.0, replaces none.1)) has
+
+legal_after : (P : Plan) (H all : List Record) (kind now : Kind) → (was_read kind ≡ false → was_read now ≡ false) → IsLegalOr P H all kind → IsLegalOr P H all now
+legal_after P H all kind now unread legal = ⊎_elim (λ is. inl is) (λ (other : ((all ≡ H) ⊎ (all ≡ [])) × (was_read kind ≡ false)). inr (other.0, unread other.1)) legal
+
+module _ {S : Type 0} (tells : Type 0) (files : S → Files) (may_leave : S → Outcomes) (moment : S → ℕ) (images_since : S → ℕ → Files → Type 0) (born : ℕ)
+    (gives : Function) (may_fail : Job → Failure → Type 0) (told : Job → Type 0) (sure : Type 0) (sb rb b sa ra a : ℕ) (ask : Ask) (old new : S) (records : List Record) where
+  -- what holds once the text was printed
+  pub printed_serves : (cause now : Cause) → Stands b a cause now
+      → Serves tells files may_leave moment images_since born gives may_fail told sure (counts sb rb 0) (counts sa ra 0) ask old new records cause
+      → Serves tells files may_leave moment images_since born gives may_fail told sure (counts sb rb b) (counts sa ra a) ask old new records now
+  printed_serves cause now stood s =
+      of_each (λ (c : Cause). Serves tells files may_leave moment images_since born gives may_fail told sure (counts sb rb b) (counts sa ra a) ask old new records c) b a cause now stood
+      (record {
+        ends = s.ends;
+        late = s.late;
+        faults = wider_fault sb rb b sa ra a cause s.faults;
+        has_log = s.has_log;
+        legal = s.legal;
+        logged = s.logged;
+        closed = s.closed;
+        spent = s.spent;
+        lost = s.lost;
+        moments = s.moments;
+        resumable = s.resumable;
+        now = s.now;
+        untouched = s.untouched;
+        others = s.others;
+        contents = s.contents;
+        honest = s.honest;
+        sure_end = s.sure_end;
+        completes = λ t H spelled work resumable free there fit room is_sure jobs none.
+            s.completes t H spelled work resumable free there fit room is_sure jobs (record { site = none.site; runner = none.runner; sink = refl });
+      })
+      (λ rose is. record {
+        ends = λ t. printed_log b a ask (files old) (files new) records cause (causes.SinkFault b a) (inr (inl (refl, rose, is))) (s.ends t);
+        late = refl;
+        faults = (refl, refl, rose);
+        has_log = λ t H spelled. log_after H records (kind_of cause) kinds.SinkBroke (λ replaced. absurd (true≢false (sym replaced ∙ end_stays (kind_of cause) is))) (s.has_log t H spelled);
+        legal = λ read. s.legal (end_read (kind_of cause) is);
+        logged = λ t H spelled. legal_after ask.plan H records (kind_of cause) kinds.SinkBroke (λ unread. absurd (true≢false (sym (end_read (kind_of cause) is) ∙ unread))) (s.logged t H spelled);
+        closed = λ wrong. absurd (true≢false (sym wrong));
+        spent = λ t H spelled whole. s.spent t H spelled (end_whole (kind_of cause) is);
+        lost = λ t H spelled loses. s.lost t H spelled (end_loses (kind_of cause) is);
+        moments = λ t H spelled. all_after files may_leave images_since born ask old new records Held H cause (causes.SinkFault b a) (λ cut. absurd (end_whole (kind_of cause) is cut)) (s.moments t H spelled);
+        resumable = s.resumable;
+        now = λ t H spelled resumable whole. s.now t H spelled resumable (end_whole (kind_of cause) is);
+        untouched = λ t wrong. absurd (true≢false (sym wrong));
+        others = s.others;
+        contents = λ t H spelled jobs. all_after files may_leave images_since born ask old new records (SerialFits gives (read_sources ask.plan (files old))) H cause (causes.SinkFault b a) (λ cut. absurd (end_whole (kind_of cause) is cut)) (s.contents t H spelled jobs);
+        honest = s.honest;
+        sure_end = λ is_sure. refl;
+        completes = λ t H spelled work resumable free there fit room is_sure jobs none. absurd (let wrong : ⊥ = omega (arith, rose, none.sink) in wrong);
+      })
+      (record {
+        ends = λ t. printed_log b a ask (files old) (files new) records cause causes.Memory (inr (inr refl)) (s.ends t);
+        late = refl;
+        faults = tt;
+        has_log = λ t H spelled. log_after H records (kind_of cause) kinds.NoMemory (λ replaced. refl) (s.has_log t H spelled);
+        legal = λ wrong. absurd (true≢false (sym wrong));
+        logged = λ t H spelled. legal_after ask.plan H records (kind_of cause) kinds.NoMemory (λ unread. refl) (s.logged t H spelled);
+        closed = λ wrong. absurd (true≢false (sym wrong));
+        spent = λ t H spelled whole. absurd (whole refl);
+        lost = λ t H spelled wrong. absurd (true≢false wrong);
+        moments = λ t H spelled. all_after files may_leave images_since born ask old new records Held H cause causes.Memory (λ cut. refl) (s.moments t H spelled);
+        resumable = s.resumable;
+        now = λ t H spelled resumable whole. absurd (whole refl);
+        untouched = λ t wrong. absurd (true≢false (sym wrong));
+        others = s.others;
+        contents = λ t H spelled jobs. all_after files may_leave images_since born ask old new records (SerialFits gives (read_sources ask.plan (files old))) H cause causes.Memory (λ cut. refl) (s.contents t H spelled jobs);
+        honest = s.honest;
+        sure_end = λ is_sure. refl;
+        completes = λ t H spelled work resumable free there fit room is_sure jobs none. refl;
+      })
+
+-- ---- of the parts that hold over every site
+
+pub after_legal : (P : Plan) (all : List Record) (b a : ℕ) (cause now : Cause) → Stands b a cause now → (was_read (kind_of cause) ≡ true → IsLegal P all) → was_read (kind_of now) ≡ true → IsLegal P all
+after_legal P all b a cause now stood legal =
+    of_each (λ (c : Cause). was_read (kind_of c) ≡ true → IsLegal P all) b a cause now stood legal (λ rose is read. legal (end_read (kind_of cause) is)) (λ wrong. absurd (true≢false (sym wrong)))
+
+-- where a call was read a plan was
+pub after_planned : (A : Type 0) (b a : ℕ) (cause now : Cause) → Stands b a cause now → (was_read (kind_of cause) ≡ true → A) → was_read (kind_of now) ≡ true → A
+after_planned A b a cause now stood planned =
+    of_each (λ (c : Cause). was_read (kind_of c) ≡ true → A) b a cause now stood planned (λ rose is read. planned (end_read (kind_of cause) is)) (λ wrong. absurd (true≢false (sym wrong)))
+
+pub after_closed : (all : List Record) (b a : ℕ) (cause now : Cause) → Stands b a cause now → (is_run_end (kind_of cause) ≡ true → SpentOnce (since_opening all)) → is_run_end (kind_of now) ≡ true → SpentOnce (since_opening all)
+after_closed all b a cause now stood closed =
+    of_each (λ (c : Cause). is_run_end (kind_of c) ≡ true → SpentOnce (since_opening all)) b a cause now stood closed (λ rose is wrong. absurd (true≢false (sym wrong))) (λ wrong. absurd (true≢false (sym wrong)))
+
+pub after_sure : (b a : ℕ) (cause now : Cause) → Stands b a cause now → is_failing (kind_of cause) ≡ false → is_failing (kind_of now) ≡ false
+after_sure b a cause now stood sure = of_each (λ (c : Cause). is_failing (kind_of c) ≡ false) b a cause now stood sure (λ rose is. refl) refl
+
+pub after_failed : (f0 f1 b a : ℕ) (cause now : Cause) → Stands b a cause now → FailureEnd f0 f1 (kind_of cause) → FailureEnd f0 f1 (kind_of now)
+after_failed f0 f1 b a cause now stood failed =
+    of_each (λ (c : Cause). FailureEnd f0 f1 (kind_of c)) b a cause now stood failed (λ rose is. record { later = failed.later; rose = λ wrong. absurd (cc) }) (record { later = failed.later; rose = λ wrong. absurd (cc) })
+
+pub after_untouched : (old new : Files) (b a : ℕ) (cause now : Cause) → Stands b a cause now → (is_refusal (kind_of cause) ≡ true → new ≡ old) → is_refusal (kind_of now) ≡ true → new ≡ old
+after_untouched old new b a cause now stood same =
+    of_each (λ (c : Cause). is_refusal (kind_of c) ≡ true → new ≡ old) b a cause now stood same (λ rose is wrong. absurd (true≢false (sym wrong))) (λ wrong. absurd (true≢false (sym wrong)))

@@ -1,0 +1,112 @@
+-- What a call does that runs a plan and can't read its log.
+use Rattle.std.proofs.Common.{◌≡◌, ◌≢◌, ◌≤◌, ◌<◌, ◌⊎◌, ⊎_elim, inl, inr, ◌∙◌, ℕ, Bool, true, false, List, [], Option, Some, None, Result, Err, IsTrue, IsFalse, refl, sym, ap, subst, arith, true≢false}
+use Rattle.flow_types.specs.declared.plan.Plan.{Plan}
+use Rattle.flow_types.specs.declared.job.Job.{Job}
+use Rattle.flow_types.specs.declared.job.Failure.{Failure}
+use Rattle.flow_types.specs.declared.records.Record.{Record}
+use Rattle.flow_types.specs.Serial.{Function}
+use Rattle.outside.specs.Disk.{IsImage, LeavesOnly, Outcomes}
+use Rattle.outside.specs.Files.{Files}
+use Rattle.outside.proofs.Moments.{weakened}
+use Rattle.txn_log.specs.Spells.{Spells}
+use Rattle.log_recover.specs.Laws.{HasAHeader, IsWhole}
+use Rattle.log_recover.specs.declared.fault.RecoverFault.{RecoverFault}
+use Rattle.log_recover.specs.declared.fault.RecoverFault.TheVariants as recovery
+use Rattle.log_recover.specs.Recovery.{IsRecovering}
+use Rattle.local_run.specs.Moments.{IsBefore, IsDamageFault, IsUnread, KeepsSome}
+use Rattle.local_run.specs.Runs.{Held, SerialFits, read_sources}
+use Rattle.local_run.proofs.Joining.{goes_on_from}
+use Rattle.report.specs.declared.cause.Cause.{Cause}
+use Rattle.report.specs.declared.cause.Cause.TheVariants as causes
+use Rattle.report.specs.Causes.{is_completion, is_cut, kind_of, may_replace, was_read}
+use Rattle.master_run.specs.declared.ask.Ask.{Ask}
+use Rattle.master_run.specs.declared.counts.Counts.{Counts}
+use Rattle.master_run.specs.Ends.{FaultEnd, IsDamagedAt, NoneRose}
+use Rattle.master_run.specs.Headline.{FailureEnd}
+use Rattle.master_run.specs.Runs.{unread_cause}
+use Rattle.master_run.specs.Serves.{Serves}
+use Rattle.master_run.proofs.Faults.{Faulted, adds_none, before_all, before_beside, fault_serves}
+use Rattle.report.specs.declared.cause.Kind.TheVariants as kinds
+
+-- what a recovery leaves is of before the log was read
+pub recovering_before : (log : List ℕ) (file : Option (List ℕ)) (outcomes : Outcomes) (image : Files) → IsRecovering log file outcomes image → IsBefore log file outcomes image
+recovering_before log file outcomes image is = record { spelled = is.log; others = is.others }
+
+pub unread_failed : (b a : Counts) (f0 f1 : ℕ) (why : RecoverFault) → f0 ≤ f1 → FailureEnd f0 f1 (kind_of (unread_cause b a why))
+unread_failed b a f0 f1 recovery.Site le = record { later = le; rose = λ wrong. absurd (cc) }
+unread_failed b a f0 f1 recovery.BadHeader le = record { later = le; rose = λ wrong. absurd (cc) }
+unread_failed b a f0 f1 (recovery.BadRecord at) le = record { later = le; rose = λ wrong. absurd (cc) }
+unread_failed b a f0 f1 recovery.Memory le = record { later = le; rose = λ wrong. absurd (cc) }
+
+at_of : (x y : ℕ) → causes.LogDamaged x ≡ causes.LogDamaged y → x ≡ y
+at_of x y is = ap at is
+  where
+    at : Cause → ℕ
+    at (causes.LogDamaged n) = n
+    at _ = 0
+
+module _ {S : Type 0} (tells : Type 0) (files : S → Files) (may_leave : S → Outcomes) (moment : S → ℕ) (images_since : S → ℕ → Files → Type 0) (born : ℕ)
+    (gives : Function) (may_fail : Job → Failure → Type 0) (told : Job → Type 0) (sure : Type 0) (b a : Counts) (ask : Ask) (old new : S)
+    (later : tells → born ≤ moment old) (only : tells → LeavesOnly moment images_since old new (IsBefore ask.log (files old ask.log) (may_leave old)))
+    (crash : tells → (m : List ℕ) (file : Option (List ℕ)) → m ≢ ask.log → may_leave new m file → may_leave old m file) where
+  goes_on : tells → ((image : Files) → IsImage (may_leave old) image → KeepsSome Held ask.plan ask.log image) → (image : Files) → images_since new born image
+      → images_since old born image ⊎ KeepsSome Held ask.plan ask.log image
+  goes_on t some image left =
+      ⊎_elim (λ was. inl was)
+      (λ (before : IsBefore ask.log (files old ask.log) (may_leave old) image). inr (goes_on_from Held ask.plan ask.log (files old) (may_leave old) [] [] ⊥ image some (inl before)))
+      ((only t).before born image (later t) left)
+
+  cut_serves : (cause : Cause) → is_cut (kind_of cause) ≡ true → may_replace (kind_of cause) ≡ true → was_read (kind_of cause) ≡ false → FaultEnd b a cause → (NoneRose b a → is_completion (kind_of cause) ≡ true)
+      → Serves tells files may_leave moment images_since born gives may_fail told sure b a ask old new [] cause
+  cut_serves cause cut replaces unread fault completes =
+      fault_serves tells files may_leave moment images_since born gives may_fail told sure b a ask old new [] cause (record {
+        cut = cut;
+        faults = fault;
+        has_log = λ t H spelled. inr (refl, replaces);
+        logged = λ t H spelled. inr (inr refl, unread);
+        moments = λ t H spelled. before_all tells files may_leave moment images_since born gives may_fail told sure b a ask old new [] cause Held H (later t) (only t);
+        resumable = goes_on;
+        others = λ t. before_beside tells files may_leave moment images_since born gives may_fail told sure b a ask old new [] cause (only t) (crash t);
+        contents = λ t H spelled jobs. before_all tells files may_leave moment images_since born gives may_fail told sure b a ask old new [] cause (SerialFits gives (read_sources ask.plan (files old))) H (later t) (only t);
+        honest = λ t H spelled resumable jobs begins. adds_none gives may_fail ask.plan (files old) H begins;
+        none_rose = completes;
+      })
+
+  damaged_serves : (at : ℕ) → (tells → IsDamagedAt (files old ask.log) at) → (tells → (H : List Record) → Spells H (files old ask.log) → ⊥) → (tells → (m : List ℕ) → files new m ≡ files old m)
+      → Serves tells files may_leave moment images_since born gives may_fail told sure b a ask old new [] (causes.LogDamaged at)
+  damaged_serves at is none same = record {
+    ends = λ t. record {
+      damaged = λ place told_at. subst (IsDamagedAt (files old ask.log)) (at_of at place told_at) (is t);
+      read = inr (inl (at, refl));
+      whole = λ H spelled. absurd (none t H spelled);
+    };
+    late = refl;
+    faults = tt;
+    has_log = λ t H spelled. absurd (none t H spelled);
+    legal = λ wrong. absurd (true≢false (sym wrong));
+    logged = λ t H spelled. absurd (none t H spelled);
+    closed = λ wrong. absurd (true≢false (sym wrong));
+    spent = λ t H spelled whole. absurd (none t H spelled);
+    lost = λ t H spelled keeps. absurd (none t H spelled);
+    moments = λ t H spelled. absurd (none t H spelled);
+    resumable = goes_on;
+    now = λ t H spelled. absurd (none t H spelled);
+    untouched = λ t refused. λ i m. same t m i;
+    others = λ t. before_beside tells files may_leave moment images_since born gives may_fail told sure b a ask old new [] (causes.LogDamaged at) (only t) (crash t);
+    contents = λ t H spelled jobs. absurd (none t H spelled);
+    honest = λ t H spelled resumable jobs begins. absurd (none t H spelled);
+    sure_end = λ is_sure. refl;
+    completes = λ t H spelled. absurd (none t H spelled);
+  }
+
+  -- what the call does
+  pub unread_serves : (header : HasAHeader) (whole : IsWhole) (why : RecoverFault) → (why ≡ recovery.Site → b.site < a.site) → (tells → IsUnread (files old ask.log) why)
+      → (tells → IsDamageFault why → (m : List ℕ) → files new m ≡ files old m)
+      → Serves tells files may_leave moment images_since born gives may_fail told sure b a ask old new [] (unread_cause b a why)
+  unread_serves header whole recovery.Site rose is same =
+      cut_serves (causes.SiteFault b.site a.site) refl refl refl (refl, refl, rose refl) (λ none. absurd (let wrong : ⊥ = omega (arith, rose refl, none.site) in wrong))
+  unread_serves header whole recovery.BadHeader rose is same =
+      damaged_serves 0 (λ t. inl (is t, refl)) (λ t H spelled. header H (files old ask.log) spelled (is t)) (λ t. same t tt)
+  unread_serves header whole (recovery.BadRecord at) rose is same =
+      damaged_serves at (λ t. inr (is t)) (λ t H spelled. whole H (files old ask.log) at spelled (is t)) (λ t. same t tt)
+  unread_serves header whole recovery.Memory rose is same = cut_serves causes.Memory refl refl refl tt (λ none. refl)

@@ -1,0 +1,95 @@
+-- What a call does that cleans or prints.
+use Rattle.std.proofs.Common.{◌≡◌, ◌≢◌, ◌≤◌, ◌<◌, ◌⊎◌, ⊎_elim, inl, inr, ◌∙◌, ℕ, Bool, true, false, List, [], Option, Some, None, IsTrue, IsFalse, refl, sym, ap, subst, arith, true≢false}
+use Rattle.flow_types.specs.declared.plan.Plan.{Plan}
+use Rattle.flow_types.specs.declared.job.Job.{Job}
+use Rattle.flow_types.specs.declared.job.Failure.{Failure}
+use Rattle.flow_types.specs.declared.records.Record.{Record}
+use Rattle.flow_types.specs.Serial.{Function, serial}
+use Rattle.outside.specs.Disk.{IsImage, LeavesOnly, Outcomes}
+use Rattle.outside.specs.Files.{Files}
+use Rattle.txn_log.specs.Spells.{Spells}
+use Rattle.desk.specs.Kept.{IsLegal, Keeps, StaysBeside}
+use Rattle.local_run.specs.Course.{IsUnmade}
+use Rattle.local_run.specs.Moments.{IsMoment, IsResumable, KeepsSome}
+use Rattle.local_run.specs.Runs.{Adds, BeginsWith, Held, SerialFits, read_sources}
+use Rattle.cleaning.specs.Cleanings.{AreEither}
+use Rattle.command_words.specs.declared.options.Work.TheVariants.{Run}
+use Rattle.report.specs.declared.cause.Cause.{Cause}
+use Rattle.report.specs.declared.cause.Cause.TheVariants as causes
+use Rattle.report.specs.declared.cause.Kind.{Kind}
+use Rattle.report.specs.declared.cause.Kind.TheVariants as kinds
+use Rattle.report.specs.Causes.{is_completion, is_cut, is_failing, is_refusal, kind_of, may_lose, was_read}
+use Rattle.master_run.specs.declared.ask.Ask.{Ask}
+use Rattle.master_run.specs.declared.counts.Counts.{Counts}
+use Rattle.master_run.specs.Ends.{FaultEnd, GoesOn, IsDamagedAt, IsReadOr, LogEnds}
+use Rattle.master_run.specs.Headline.{HasLog, IsLegalOr, is_early, is_run_end}
+use Rattle.master_run.specs.Serves.{AllMoments, Fit, IsCut, Serves}
+use Rattle.master_run.proofs.Moved.{moment_after}
+use Rattle.master_run.proofs.Cared.{adds_nothing, loses_nothing, starts_nothing}
+use Rattle.master_run.proofs.Faults.{adds_none}
+
+module _ {S : Type 0} (tells : Type 0) (files : S → Files) (may_leave : S → Outcomes) (moment : S → ℕ) (images_since : S → ℕ → Files → Type 0) (born : ℕ)
+    (gives : Function) (may_fail : Job → Failure → Type 0) (told : Job → Type 0) (sure : Type 0) (before after : Counts) (ask : Ask) (old new : S) (records : List Record) (cause : Cause) (time : ℕ) (cut : Type 0) where
+  -- What is known of work that runs nothing.
+  pub record Cared : Type 0 where
+    pub work : ask.work ≡ Run → ⊥
+    pub later : tells → born ≤ moment old
+    pub cuts : cut → is_cut (kind_of cause) ≡ true
+    pub runs_not : (is_run_end (kind_of cause) ≡ false) × (is_failing (kind_of cause) ≡ false)
+    pub late : is_early (kind_of cause) ≡ false
+    pub faults : FaultEnd before after cause
+    pub damaged : tells → (at : ℕ) → cause ≡ causes.LogDamaged at → IsDamagedAt (files old ask.log) at
+    pub read : tells → IsReadOr (files old ask.log) cause
+    pub goes : tells → (H : List Record) → Spells H (files old ask.log) → GoesOn ask.work ask H (files old) (files new) records cause
+    pub has_log : tells → (H : List Record) → Spells H (files old ask.log) → HasLog H records (kind_of cause)
+    pub legal : was_read (kind_of cause) ≡ true → IsLegal ask.plan records
+    pub logged : tells → (H : List Record) → Spells H (files old ask.log) → IsLegalOr ask.plan H records (kind_of cause)
+    pub either : tells → (H : List Record) → Spells H (files old ask.log) → (is_cut (kind_of cause) ≡ true → ⊥) → AreEither H time records
+    pub begun : tells → (H : List Record) → Spells H (files old ask.log) → BeginsWith H records → AreEither H time records ⊎ (records ≡ [])
+    pub moments : tells → (H : List Record) → Spells H (files old ask.log) → IsResumable Held ask.plan ask.log H (may_leave old)
+        → LeavesOnly moment images_since old new (IsMoment Held ask.plan ask.log (files old) (may_leave old) H records cut)
+    pub contents : tells → (H : List Record) → Spells H (files old ask.log) → IsResumable (SerialFits gives (read_sources ask.plan (files old))) ask.plan ask.log H (may_leave old)
+        → LeavesOnly moment images_since old new (IsMoment (SerialFits gives (read_sources ask.plan (files old))) ask.plan ask.log (files old) (may_leave old) H records cut)
+    pub resumable : tells → ((image : Files) → IsImage (may_leave old) image → KeepsSome Held ask.plan ask.log image) → LeavesOnly moment images_since old new (KeepsSome Held ask.plan ask.log)
+    pub at_end : tells → (H : List Record) → Spells H (files old ask.log) → IsResumable Held ask.plan ask.log H (may_leave old) → (is_cut (kind_of cause) ≡ true → ⊥)
+        → (image : Files) → IsImage (may_leave new) image → Keeps Held ask.plan ask.log records image
+    pub untouched : tells → is_refusal (kind_of cause) ≡ true → (m : List ℕ) → files new m ≡ files old m
+    pub others : tells → StaysBeside may_leave moment images_since (IsUnmade ask.plan ask.log) old new
+
+  loses_cut : (kind : Kind) → may_lose kind ≡ false → is_cut kind ≡ true → ⊥
+  loses_cut kinds.SiteBroke keeps cut = true≢false keeps
+  loses_cut kinds.NoMemory keeps cut = true≢false keeps
+  loses_cut _ keeps cut = true≢false (sym cut)
+
+  all_by : (fits : Fit) (H : List Record) → Cared → tells → (IsResumable fits ask.plan ask.log H (may_leave old)
+      → LeavesOnly moment images_since old new (IsMoment fits ask.plan ask.log (files old) (may_leave old) H records cut)) → AllMoments files may_leave images_since fits born ask H old new records cause
+  all_by fits H c t only resumable image left =
+      ⊎_elim (λ was. inl was)
+      (λ (m : IsMoment fits ask.plan ask.log (files old) (may_leave old) H records cut image).
+      inr (moment_after fits ask.plan ask.log (files old) (may_leave old) H records cut (IsCut cause) image c.cuts m))
+      ((only resumable).before born image (c.later t) left)
+
+  pub cared_serves : Cared → Serves tells files may_leave moment images_since born gives may_fail told sure before after ask old new records cause
+  cared_serves c = record {
+    ends = λ t. record { damaged = c.damaged t; read = c.read t; whole = c.goes t };
+    late = c.late;
+    faults = c.faults;
+    has_log = c.has_log;
+    legal = c.legal;
+    logged = c.logged;
+    closed = λ ends. absurd (true≢false (sym ends ∙ c.runs_not.0));
+    spent = λ t H spelled whole. inl (starts_nothing H records time (c.either t H spelled whole));
+    lost = λ t H spelled keeps. loses_nothing H records time (c.either t H spelled (loses_cut (kind_of cause) keeps));
+    moments = λ t H spelled. all_by Held H c t (c.moments t H spelled);
+    resumable = λ t some image left. (c.resumable t some).before born image (c.later t) left;
+    now = λ t H spelled resumable whole. c.at_end t H spelled resumable whole;
+    untouched = λ t refused. λ i m. c.untouched t refused m i;
+    others = c.others;
+    contents = λ t H spelled jobs. all_by (SerialFits gives (read_sources ask.plan (files old))) H c t (c.contents t H spelled);
+    honest = λ t H spelled resumable jobs begins.
+        ⊎_elim (λ (either : AreEither H time records). adds_nothing gives may_fail (read_sources ask.plan (files old)) ask.plan H records time either)
+        (λ (none : records ≡ []). subst (λ (xs : List Record). Adds (Unit {0}) gives may_fail (read_sources ask.plan (files old)) ask.plan H xs) (sym none)
+        (adds_none gives may_fail ask.plan (files old) H (subst (BeginsWith H) none begins))) (c.begun t H spelled begins);
+    sure_end = λ is. c.runs_not.1;
+    completes = λ t H spelled work resumable free there fit room is jobs none. absurd (c.work work);
+  }

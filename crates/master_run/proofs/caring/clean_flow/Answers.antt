@@ -1,0 +1,89 @@
+use Rattle.std.proofs.Common.{◌≡◌, ◌≢◌, ◌≤◌, ◌<◌, ◌⊎◌, ◌∙◌, inl, inr, ℕ, List, [], ◌++◌, ◌∷◌, Option, Some, None, Result, Ok, Err, ap, sym, subst, refl, arith, length, true, false, true≢false}
+use Rattle.flow_types.specs.declared.plan.Plan.{Plan}
+use Rattle.flow_types.specs.declared.records.Record.{Record}
+use Rattle.flow_types.specs.Plans.{is_empty}
+use Rattle.run_history.specs.History.{part}
+use Rattle.outside.specs.Disk.{IsImage, LeavesOnly}
+use Rattle.outside.specs.Files.{Files}
+use Rattle.outside.proofs.Moments.{weakened}
+use Rattle.txn_log.specs.Spells.{Spells}
+use Rattle.desk.specs.Histories.{history_fault}
+use Rattle.desk.specs.Kept.{IsLegal, Keeps}
+use Rattle.local_run.specs.Moments.{IsBefore, IsMoment}
+use Rattle.local_run.specs.Runs.{Held, SerialFits, read_sources}
+use Rattle.cleaning.specs.Cleanings.{AreEither, clean_fault, ended_records, made_count}
+use Rattle.command_words.specs.declared.options.Work.{Work}
+use Rattle.command_words.specs.declared.options.Work.TheVariants as works
+use Rattle.report.specs.declared.cause.Cause.{Cause}
+use Rattle.report.specs.declared.cause.Cause.TheVariants as causes
+use Rattle.report.specs.Causes.{is_cut, is_refusal, kind_of, was_read}
+use Rattle.master_run.specs.declared.counts.Counts.{Counts}
+use Rattle.master_run.specs.Ends.{Answers, GoesOn, Yields, counts}
+use Rattle.master_run.specs.Runs.{clean_cause, look_cause}
+use Rattle.master_run.specs.Serves.{Serves}
+use Rattle.local_run.specs.Course.{IsUnmade}
+use Rattle.local_run.proofs.Alone.{beside_less}
+use Rattle.master_run.proofs.Moved.{append_nothing}
+use Rattle.master_run.proofs.Works.{cared_serves}
+use Rattle.cleaning.specs.Cleanings.{IsCutFor}
+use Rattle.master_run.proofs.Cared.{begins_so, clean_begins, clean_begun, clean_cut, clean_damaged, clean_either, clean_faults, clean_goes, clean_late, clean_legal, clean_log, clean_of, clean_read, clean_still, clean_uncut, cut_clean, done_goes, ended_either}
+use Rattle.master_run.proofs.caring.clean_flow.Goals as goal
+
+pub returns-in-Ok-clause-serves : goal.returns-in-Ok-clause-serves
+returns-in-Ok-clause-serves g c =
+    let cause : Cause = causes.Cleaned c.in-Ok.field-0.removed in
+    cared_serves g.S.Site.tells g.S.Site.files g.S.Site.may_leave g.S.Site.moment g.S.Site.images_since g.B.Born.born g.F.Commands.gives g.F.Commands.may_fail (g.R.Runner.tells c.args.runner.now) (g.R.Runner.sure c.args.runner.now) c.args.before (counts (g.S.Site.count c.clean.new.site) (g.R.Runner.count c.args.runner.now) 0) c.args.ask c.args.site c.clean.new.site c.in-Ok.field-0.records cause c.args.moment ⊥ (record {
+      work = λ wrong. absurd (let both : works.Clean ≡ works.Run = sym c.requires.work ∙ wrong in cc);
+      later = c.requires.later;
+      cuts = λ cut. absurd cut;
+      runs_not = (refl, refl);
+      late = refl;
+      faults = tt;
+      damaged = λ t at wrong. absurd (cc);
+      read = λ t. inl (c.in-Ok.ensures.log t);
+      goes = λ t H spelled. subst (λ (w : Work). GoesOn w c.args.ask H (g.S.Site.files c.args.site) (g.S.Site.files c.clean.new.site) c.in-Ok.field-0.records cause) (sym c.requires.work)
+          (done_goes (clean_fault c.args.ask.plan H) (causes.Cleaned (made_count c.args.ask.plan H)) cause (c.in-Ok.ensures.ends t H spelled).0 (ap (λ n. causes.Cleaned n) (c.in-Ok.ensures.ends t H spelled).1));
+      has_log = λ t H spelled. inl (begins_so H c.in-Ok.field-0.records c.args.moment (subst (AreEither H c.args.moment) (sym (c.in-Ok.ensures.records t H spelled)) (ended_either H c.args.moment (is_empty (part H)))));
+      legal = λ read. c.in-Ok.ensures.legal;
+      logged = λ t H spelled. inl c.in-Ok.ensures.legal;
+      either = λ t H spelled whole. subst (AreEither H c.args.moment) (sym (c.in-Ok.ensures.records t H spelled)) (ended_either H c.args.moment (is_empty (part H)));
+      begun = λ t H spelled begins. inl (subst (AreEither H c.args.moment) (sym (c.in-Ok.ensures.records t H spelled)) (ended_either H c.args.moment (is_empty (part H))));
+      moments = c.in-Ok.ensures.moments;
+      contents = λ t H spelled resumable. c.in-Ok.ensures.contents t H spelled g.F.Commands.gives (read_sources c.args.ask.plan (g.S.Site.files c.args.site)) resumable;
+      resumable = c.in-Ok.ensures.resumable;
+      at_end = λ t H spelled resumable whole image left. c.in-Ok.ensures.now t H spelled resumable (λ cut. cut) image left;
+      untouched = λ t wrong. absurd (true≢false (sym wrong));
+      others = λ t. (c.in-Ok.ensures.others t).crash;
+    })
+
+pub returns-in-Err-clause-serves : goal.returns-in-Err-clause-serves
+returns-in-Err-clause-serves g c =
+    let why = c.in-Err.field-0.why in
+    let given = c.in-Err.field-0.records in
+    let same : c.clean_cause.result ≡ clean_cause c.args.before (counts (g.S.Site.count c.clean.new.site) (g.R.Runner.count c.args.runner.now) 0) why =
+    c.clean_cause.ensures ∙ ap (λ (k : Counts). clean_cause c.args.before k c.in-Err.field-0.why) c.counts_of-after.ensures in
+    subst (λ (cause : Cause). Serves g.S.Site.tells g.S.Site.files g.S.Site.may_leave g.S.Site.moment g.S.Site.images_since g.B.Born.born g.F.Commands.gives g.F.Commands.may_fail (g.R.Runner.tells c.args.runner.now) (g.R.Runner.sure c.args.runner.now) c.args.before (counts (g.S.Site.count c.clean.new.site) (g.R.Runner.count c.args.runner.now) 0) c.args.ask c.args.site c.clean.new.site given cause) (sym same)
+    (cared_serves g.S.Site.tells g.S.Site.files g.S.Site.may_leave g.S.Site.moment g.S.Site.images_since g.B.Born.born g.F.Commands.gives g.F.Commands.may_fail (g.R.Runner.tells c.args.runner.now) (g.R.Runner.sure c.args.runner.now) c.args.before (counts (g.S.Site.count c.clean.new.site) (g.R.Runner.count c.args.runner.now) 0) c.args.ask c.args.site c.clean.new.site given (clean_cause c.args.before (counts (g.S.Site.count c.clean.new.site) (g.R.Runner.count c.args.runner.now) 0) why) c.args.moment (IsCutFor why) (record {
+      work = λ wrong. absurd (let both : works.Clean ≡ works.Run = sym c.requires.work ∙ wrong in cc);
+      later = c.requires.later;
+      cuts = clean_cut c.args.before (counts (g.S.Site.count c.clean.new.site) (g.R.Runner.count c.args.runner.now) 0) why;
+      runs_not = clean_still c.args.before (counts (g.S.Site.count c.clean.new.site) (g.R.Runner.count c.args.runner.now) 0) why;
+      late = clean_late c.args.before (counts (g.S.Site.count c.clean.new.site) (g.R.Runner.count c.args.runner.now) 0) why;
+      faults = clean_faults c.args.before (counts (g.S.Site.count c.clean.new.site) (g.R.Runner.count c.args.runner.now) 0) (g.S.Site.count c.args.site) (g.S.Site.count c.clean.new.site) why c.requires.counted refl c.in-Err.ensures.cause;
+      damaged = λ t at told. clean_damaged c.args.before (counts (g.S.Site.count c.clean.new.site) (g.R.Runner.count c.args.runner.now) 0) (g.S.Site.files c.args.site c.args.ask.log) given why at (c.in-Err.ensures.log t) told;
+      read = λ t. clean_of c.args.before (counts (g.S.Site.count c.clean.new.site) (g.R.Runner.count c.args.runner.now) 0) (g.S.Site.files c.args.site c.args.ask.log) given why (c.in-Err.ensures.log t);
+      goes = λ t H spelled. subst (λ (w : Work). GoesOn w c.args.ask H (g.S.Site.files c.args.site) (g.S.Site.files c.clean.new.site) given (clean_cause c.args.before (counts (g.S.Site.count c.clean.new.site) (g.R.Runner.count c.args.runner.now) 0) why)) (sym c.requires.work)
+          (clean_goes c.args.before (counts (g.S.Site.count c.clean.new.site) (g.R.Runner.count c.args.runner.now) 0) c.args.ask H (g.S.Site.files c.args.site) (g.S.Site.files c.clean.new.site) given why (c.in-Err.ensures.ends t H spelled));
+      has_log = λ t H spelled. clean_log c.args.before (counts (g.S.Site.count c.clean.new.site) (g.R.Runner.count c.args.runner.now) 0) c.args.ask.plan H given c.args.moment why (c.in-Err.ensures.ends t H spelled) (c.in-Err.ensures.records t H spelled);
+      legal = λ read. clean_read c.args.before (counts (g.S.Site.count c.clean.new.site) (g.R.Runner.count c.args.runner.now) 0) c.args.ask.plan given why c.in-Err.ensures.legal read;
+      logged = λ t H spelled. clean_legal c.args.before (counts (g.S.Site.count c.clean.new.site) (g.R.Runner.count c.args.runner.now) 0) c.args.ask.plan H given c.args.moment why (c.in-Err.ensures.records t H spelled) c.in-Err.ensures.legal;
+      either = λ t H spelled whole. clean_either H given c.args.moment c.args.before (counts (g.S.Site.count c.clean.new.site) (g.R.Runner.count c.args.runner.now) 0) c.args.ask.plan why (c.in-Err.ensures.ends t H spelled) (c.in-Err.ensures.records t H spelled) whole;
+      begun = λ t H spelled begins. clean_begins H given c.args.moment why (c.in-Err.ensures.records t H spelled);
+      moments = c.in-Err.ensures.moments;
+      contents = λ t H spelled resumable. c.in-Err.ensures.contents t H spelled g.F.Commands.gives (read_sources c.args.ask.plan (g.S.Site.files c.args.site)) resumable;
+      resumable = c.in-Err.ensures.resumable;
+      at_end = λ t H spelled resumable whole image left. c.in-Err.ensures.now t H spelled resumable (clean_uncut c.args.before (counts (g.S.Site.count c.clean.new.site) (g.R.Runner.count c.args.runner.now) 0) why whole) image left;
+      untouched = λ t refused m. c.in-Err.ensures.reads t (cut_clean c.args.before (counts (g.S.Site.count c.clean.new.site) (g.R.Runner.count c.args.runner.now) 0) why refused)
+          (clean_begun c.files_spell_one_list.ensures.one c.files_spell_one_list.ensures.header c.files_spell_one_list.ensures.whole c.args.ask.plan (g.S.Site.files c.args.site c.args.ask.log) given why c.args.before (counts (g.S.Site.count c.clean.new.site) (g.R.Runner.count c.args.runner.now) 0) refused (c.in-Err.ensures.log t) (λ H spelled. c.in-Err.ensures.ends t H spelled)) m;
+      others = λ t. (c.in-Err.ensures.others t).crash;
+    }))

@@ -1,0 +1,100 @@
+use Rattle.std.proofs.Common.{◌≡◌, ◌≢◌, ◌≤◌, ◌<◌, ◌⊎◌, ◌∙◌, inl, inr, ℕ, List, [], ◌++◌, ◌∷◌, Option, Some, None, Result, Ok, Err, ap, sym, subst, refl, arith, length, true, false, true≢false}
+use Rattle.flow_types.specs.declared.plan.Plan.{Plan}
+use Rattle.flow_types.specs.declared.records.Record.{Record}
+use Rattle.flow_types.specs.Plans.{is_empty}
+use Rattle.run_history.specs.History.{part}
+use Rattle.outside.specs.Disk.{IsImage, LeavesOnly}
+use Rattle.outside.specs.Files.{Files}
+use Rattle.outside.proofs.Moments.{weakened}
+use Rattle.txn_log.specs.Spells.{Spells}
+use Rattle.desk.specs.Histories.{history_fault}
+use Rattle.desk.specs.Kept.{IsLegal, Keeps}
+use Rattle.local_run.specs.Moments.{IsBefore, IsMoment}
+use Rattle.local_run.specs.Runs.{Held, SerialFits, read_sources}
+use Rattle.cleaning.specs.Cleanings.{AreEither, clean_fault, ended_records, made_count}
+use Rattle.command_words.specs.declared.options.Work.{Work}
+use Rattle.command_words.specs.declared.options.Work.TheVariants as works
+use Rattle.report.specs.declared.cause.Cause.{Cause}
+use Rattle.report.specs.declared.cause.Cause.TheVariants as causes
+use Rattle.report.specs.Causes.{is_cut, is_refusal, kind_of, was_read}
+use Rattle.master_run.specs.declared.counts.Counts.{Counts}
+use Rattle.master_run.specs.Ends.{Answers, GoesOn, Yields, counts}
+use Rattle.master_run.specs.Runs.{clean_cause, look_cause}
+use Rattle.master_run.specs.Serves.{Serves}
+use Rattle.local_run.specs.Course.{IsUnmade}
+use Rattle.local_run.proofs.Alone.{beside_less}
+use Rattle.master_run.proofs.Moved.{append_nothing}
+use Rattle.master_run.proofs.Works.{cared_serves}
+use Rattle.cleaning.specs.Looks.{IsCutFault}
+use Rattle.master_run.proofs.Cared.{cut_look, done_goes, look_begins, look_begun, look_cut, look_damaged, look_either, look_faults, look_goes, look_late, look_legal, look_log, look_read, look_seen, look_still, look_unread, part_within}
+use Rattle.master_run.proofs.caring.read_log.Goals as goal
+
+pub overflow_cast-result : goal.overflow_cast-result
+overflow_cast-result g c =
+    let same : length c.part_of.result.now ≡ length (part c.in-Ok.records) = ap length c.part_of.ensures ∙ ap (λ (xs : List Record). length (part xs)) c.as_slice.ensures in
+    let within : length (part c.in-Ok.records) ≤ length c.in-Ok.records = part_within c.in-Ok.records in
+    omega (arith, same, within, c.in-Ok.ensures.few)
+
+pub returns-in-Ok-clause-serves : goal.returns-in-Ok-clause-serves
+returns-in-Ok-clause-serves g c =
+    let cause : Cause = causes.Printed (length c.part_of.result.now) in
+    cared_serves g.S.Site.tells g.S.Site.files g.S.Site.may_leave g.S.Site.moment g.S.Site.images_since g.B.Born.born g.F.Commands.gives g.F.Commands.may_fail (g.R.Runner.tells c.args.runner.now) (g.R.Runner.sure c.args.runner.now) c.args.before (counts (g.S.Site.count c.look.new.site) (g.R.Runner.count c.args.runner.now) 0) c.args.ask c.args.site c.look.new.site c.in-Ok.records cause 0 ⊥ (record {
+      work = λ wrong. absurd (let both : works.PrintLog ≡ works.Run = sym c.requires.work ∙ wrong in cc);
+      later = c.requires.later;
+      cuts = λ cut. absurd cut;
+      runs_not = (refl, refl);
+      late = refl;
+      faults = tt;
+      damaged = λ t at wrong. absurd (cc);
+      read = λ t. inl (c.in-Ok.records, c.in-Ok.ensures.log t);
+      goes = λ t H spelled. subst (λ (w : Work). GoesOn w c.args.ask H (g.S.Site.files c.args.site) (g.S.Site.files c.look.new.site) c.in-Ok.records cause) (sym c.requires.work)
+          (done_goes (history_fault c.args.ask.plan H) (causes.Printed (length (part H))) cause (c.in-Ok.ensures.ends t H spelled).1
+          (ap (λ n. causes.Printed n) (ap length c.part_of.ensures ∙ ap (λ (xs : List Record). length (part xs)) (c.as_slice.ensures ∙ (c.in-Ok.ensures.ends t H spelled).0))));
+      has_log = λ t H spelled. inl ([], (c.in-Ok.ensures.ends t H spelled).0 ∙ sym (append_nothing H));
+      legal = λ read. c.in-Ok.ensures.legal;
+      logged = λ t H spelled. inl c.in-Ok.ensures.legal;
+      either = λ t H spelled whole. inl (c.in-Ok.ensures.ends t H spelled).0;
+      begun = λ t H spelled begins. inl (inl (c.in-Ok.ensures.ends t H spelled).0);
+      moments = λ t H spelled resumable. weakened g.S.Site.moment g.S.Site.images_since c.args.site c.look.new.site (IsBefore c.args.ask.log (g.S.Site.files c.args.site c.args.ask.log) (g.S.Site.may_leave c.args.site))
+          (IsMoment Held c.args.ask.plan c.args.ask.log (g.S.Site.files c.args.site) (g.S.Site.may_leave c.args.site) H c.in-Ok.records ⊥) (c.in-Ok.ensures.moments t) (λ image before. inl before);
+      contents = λ t H spelled resumable. weakened g.S.Site.moment g.S.Site.images_since c.args.site c.look.new.site (IsBefore c.args.ask.log (g.S.Site.files c.args.site c.args.ask.log) (g.S.Site.may_leave c.args.site))
+          (IsMoment (SerialFits g.F.Commands.gives (read_sources c.args.ask.plan (g.S.Site.files c.args.site))) c.args.ask.plan c.args.ask.log (g.S.Site.files c.args.site) (g.S.Site.may_leave c.args.site) H c.in-Ok.records ⊥) (c.in-Ok.ensures.moments t) (λ image before. inl before);
+      resumable = c.in-Ok.ensures.resumable;
+      at_end = λ t H spelled resumable whole image left. subst (λ (xs : List Record). Keeps Held c.args.ask.plan c.args.ask.log xs image) (sym (c.in-Ok.ensures.ends t H spelled).0) (c.in-Ok.ensures.kept t H spelled resumable tt image left);
+      untouched = λ t wrong. absurd (true≢false (sym wrong));
+      others = λ t. beside_less g.S.Site.files g.S.Site.may_leave g.S.Site.moment g.S.Site.images_since (λ m. m ≢ c.args.ask.log) (IsUnmade c.args.ask.plan c.args.ask.log) c.args.site c.look.new.site (λ m other. other.0) (c.in-Ok.ensures.others t).crash;
+    })
+
+pub returns-in-Err-clause-serves : goal.returns-in-Err-clause-serves
+returns-in-Err-clause-serves g c =
+    let why = c.in-Err.field-0.why in
+    let given = c.in-Err.field-0.records in
+    let same : c.look_cause.result ≡ look_cause c.args.before (counts (g.S.Site.count c.look.new.site) (g.R.Runner.count c.args.runner.now) 0) why =
+    c.look_cause.ensures ∙ ap (λ (k : Counts). look_cause c.args.before k c.in-Err.field-0.why) c.counts_of-after.ensures in
+    subst (λ (cause : Cause). Serves g.S.Site.tells g.S.Site.files g.S.Site.may_leave g.S.Site.moment g.S.Site.images_since g.B.Born.born g.F.Commands.gives g.F.Commands.may_fail (g.R.Runner.tells c.args.runner.now) (g.R.Runner.sure c.args.runner.now) c.args.before (counts (g.S.Site.count c.look.new.site) (g.R.Runner.count c.args.runner.now) 0) c.args.ask c.args.site c.look.new.site given cause) (sym same)
+    (cared_serves g.S.Site.tells g.S.Site.files g.S.Site.may_leave g.S.Site.moment g.S.Site.images_since g.B.Born.born g.F.Commands.gives g.F.Commands.may_fail (g.R.Runner.tells c.args.runner.now) (g.R.Runner.sure c.args.runner.now) c.args.before (counts (g.S.Site.count c.look.new.site) (g.R.Runner.count c.args.runner.now) 0) c.args.ask c.args.site c.look.new.site given (look_cause c.args.before (counts (g.S.Site.count c.look.new.site) (g.R.Runner.count c.args.runner.now) 0) why) 0 (IsCutFault why) (record {
+      work = λ wrong. absurd (let both : works.PrintLog ≡ works.Run = sym c.requires.work ∙ wrong in cc);
+      later = c.requires.later;
+      cuts = look_cut c.args.before (counts (g.S.Site.count c.look.new.site) (g.R.Runner.count c.args.runner.now) 0) why;
+      runs_not = look_still c.args.before (counts (g.S.Site.count c.look.new.site) (g.R.Runner.count c.args.runner.now) 0) why;
+      late = look_late c.args.before (counts (g.S.Site.count c.look.new.site) (g.R.Runner.count c.args.runner.now) 0) why;
+      faults = look_faults c.args.before (counts (g.S.Site.count c.look.new.site) (g.R.Runner.count c.args.runner.now) 0) (g.S.Site.count c.args.site) (g.S.Site.count c.look.new.site) why c.requires.counted refl c.in-Err.ensures.cause;
+      damaged = λ t at told. look_damaged c.args.before (counts (g.S.Site.count c.look.new.site) (g.R.Runner.count c.args.runner.now) 0) (g.S.Site.files c.args.site c.args.ask.log) given why at (c.in-Err.ensures.log t) told;
+      read = λ t. look_read c.args.before (counts (g.S.Site.count c.look.new.site) (g.R.Runner.count c.args.runner.now) 0) (g.S.Site.files c.args.site c.args.ask.log) given why (c.in-Err.ensures.log t);
+      goes = λ t H spelled. subst (λ (w : Work). GoesOn w c.args.ask H (g.S.Site.files c.args.site) (g.S.Site.files c.look.new.site) given (look_cause c.args.before (counts (g.S.Site.count c.look.new.site) (g.R.Runner.count c.args.runner.now) 0) why)) (sym c.requires.work)
+          (look_goes c.args.before (counts (g.S.Site.count c.look.new.site) (g.R.Runner.count c.args.runner.now) 0) c.args.ask H (g.S.Site.files c.args.site) (g.S.Site.files c.look.new.site) given why (c.in-Err.ensures.ends t H spelled).0);
+      has_log = λ t H spelled. look_log c.args.before (counts (g.S.Site.count c.look.new.site) (g.R.Runner.count c.args.runner.now) 0) c.args.ask.plan H given why (c.in-Err.ensures.ends t H spelled).0 (c.in-Err.ensures.ends t H spelled).1;
+      legal = λ read. absurd (true≢false (sym read ∙ look_unread c.args.before (counts (g.S.Site.count c.look.new.site) (g.R.Runner.count c.args.runner.now) 0) why));
+      logged = λ t H spelled. look_legal c.args.before (counts (g.S.Site.count c.look.new.site) (g.R.Runner.count c.args.runner.now) 0) c.args.ask.plan H given why (c.in-Err.ensures.ends t H spelled).1;
+      either = λ t H spelled whole. look_either H given 0 c.args.before (counts (g.S.Site.count c.look.new.site) (g.R.Runner.count c.args.runner.now) 0) c.args.ask.plan why (c.in-Err.ensures.ends t H spelled).0 (c.in-Err.ensures.ends t H spelled).1 whole;
+      begun = λ t H spelled begins. look_begins H given 0 why (c.in-Err.ensures.ends t H spelled).1;
+      moments = λ t H spelled resumable. weakened g.S.Site.moment g.S.Site.images_since c.args.site c.look.new.site (IsBefore c.args.ask.log (g.S.Site.files c.args.site c.args.ask.log) (g.S.Site.may_leave c.args.site)) (IsMoment Held c.args.ask.plan c.args.ask.log (g.S.Site.files c.args.site) (g.S.Site.may_leave c.args.site) H given (IsCutFault why)) (c.in-Err.ensures.moments t) (λ image before. inl before);
+      contents = λ t H spelled resumable. weakened g.S.Site.moment g.S.Site.images_since c.args.site c.look.new.site (IsBefore c.args.ask.log (g.S.Site.files c.args.site c.args.ask.log) (g.S.Site.may_leave c.args.site)) (IsMoment (SerialFits g.F.Commands.gives (read_sources c.args.ask.plan (g.S.Site.files c.args.site))) c.args.ask.plan c.args.ask.log (g.S.Site.files c.args.site) (g.S.Site.may_leave c.args.site) H given (IsCutFault why)) (c.in-Err.ensures.moments t) (λ image before. inl before);
+      resumable = c.in-Err.ensures.resumable;
+      at_end = λ t H spelled resumable whole image left.
+          let seen = look_seen c.args.before (counts (g.S.Site.count c.look.new.site) (g.R.Runner.count c.args.runner.now) 0) c.args.ask.plan H given why (c.in-Err.ensures.ends t H spelled).0 (c.in-Err.ensures.ends t H spelled).1 whole in
+          subst (λ (xs : List Record). Keeps Held c.args.ask.plan c.args.ask.log xs image) (sym seen.1) (c.in-Err.ensures.kept t H spelled resumable seen.0 image left);
+      untouched = λ t refused m. c.in-Err.ensures.reads t (cut_look c.args.before (counts (g.S.Site.count c.look.new.site) (g.R.Runner.count c.args.runner.now) 0) why refused)
+          (look_begun c.files_spell_one_list.ensures.one c.files_spell_one_list.ensures.header c.files_spell_one_list.ensures.whole c.args.ask.plan (g.S.Site.files c.args.site c.args.ask.log) given why (cut_look c.args.before (counts (g.S.Site.count c.look.new.site) (g.R.Runner.count c.args.runner.now) 0) why refused) (c.in-Err.ensures.log t) (λ H spelled. (c.in-Err.ensures.ends t H spelled).0)) m;
+      others = λ t. beside_less g.S.Site.files g.S.Site.may_leave g.S.Site.moment g.S.Site.images_since (λ m. m ≢ c.args.ask.log) (IsUnmade c.args.ask.plan c.args.ask.log) c.args.site c.look.new.site (λ m other. other.0) (c.in-Err.ensures.others t).crash;
+    }))

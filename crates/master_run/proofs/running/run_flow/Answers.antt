@@ -1,0 +1,78 @@
+use Rattle.std.proofs.Common.{◌≡◌, ◌≢◌, ◌≤◌, ◌<◌, ◌⊎◌, ◌∙◌, inl, inr, ℕ, List, [], Option, Some, None, Result, Ok, Err, ap, sym, subst, refl, arith, length, true, false, true≢false}
+use Rattle.flow_types.specs.declared.plan.Plan.{Plan}
+use Rattle.flow_types.specs.declared.records.Record.{Record}
+use Rattle.outside.specs.Disk.{IsImage}
+use Rattle.outside.specs.Files.{Files}
+use Rattle.outside.proofs.Moments.{weakened}
+use Rattle.txn_log.specs.Spells.{Spells}
+use Rattle.report.specs.declared.cause.Cause.{Cause}
+use Rattle.report.specs.declared.cause.Cause.TheVariants as causes
+use Rattle.report.specs.Causes.{kind_of}
+use Rattle.master_run.specs.declared.counts.Counts.{Counts}
+use Rattle.master_run.specs.Ends.{counts}
+use Rattle.master_run.specs.Headline.{FailureEnd}
+use Rattle.master_run.specs.Serves.{Serves}
+use Rattle.log_recover.specs.declared.fault.RecoverFault.TheVariants as recovery
+use Rattle.outside.specs.Disk.{Within}
+use Rattle.local_run.specs.Moments.{IsBefore}
+use Rattle.log_recover.specs.Recovery.{IsRecovering}
+use Rattle.master_run.specs.Runs.{run_cause, unread_cause}
+use Rattle.master_run.proofs.Ran.{failed_run, ran_serves, run_faults}
+use Rattle.master_run.proofs.Refusals.{by_fault}
+use Rattle.master_run.proofs.Unread.{recovering_before, unread_failed, unread_serves}
+use Rattle.master_run.proofs.running.run_flow.Goals as goal
+
+pub returns-in_default-clause-serves : goal.returns-in_default-clause-serves
+returns-in_default-clause-serves g c =
+    subst (λ (xs : List Record). Serves g.S.Site.tells g.S.Site.files g.S.Site.may_leave g.S.Site.moment g.S.Site.images_since g.B.Born.born g.F.Commands.gives g.F.Commands.may_fail (g.R.Runner.tells c.args.runner.now) (g.R.Runner.sure c.args.runner.now) c.args.before (counts (g.S.Site.count c.args.site) (g.R.Runner.count c.args.runner.now) 0) c.args.ask c.args.site c.args.site xs causes.Memory) (sym c.new.ensures)
+    (by_fault g.S.Site.tells g.S.Site.files g.S.Site.may_leave g.S.Site.moment g.S.Site.images_since g.B.Born.born g.F.Commands.gives g.F.Commands.may_fail (g.R.Runner.tells c.args.runner.now) (g.R.Runner.sure c.args.runner.now) c.args.before (counts (g.S.Site.count c.args.site) (g.R.Runner.count c.args.runner.now) 0) c.args.ask c.args.site c.args.site c.requires.later
+    (λ t. record { same = refl; within = λ m file left. left; only = record { later = omega arith; each = λ image left. ((g.met.S.Site g.world.𝓛 g.world.𝓜 g.world.𝓡 ((λ s x. x), (λ x. x), (λ x. x), λ x. x)).only_now t c.args.site image left); before = λ time image le left. inl left } })
+    causes.Memory refl refl refl tt (λ none. refl))
+
+pub returns-in-Ok-resume-clause-serves : goal.returns-in-Ok-resume-clause-serves
+returns-in-Ok-resume-clause-serves g c =
+    let same : c.run_cause.result ≡ run_cause c.args.before (counts (g.S.Site.count c.in-Ok-resume.ended.site) (g.R.Runner.count c.resume.new.runner) 0) c.args.ask.plan c.in-Ok-resume.ended.how =
+    c.run_cause.ensures ∙ ap (λ (k : Counts). run_cause c.args.before k c.in-Ok.copied c.in-Ok-resume.ended.how) c.counts_of-after.ensures ∙ ap (λ (Q : Plan). run_cause c.args.before (counts (g.S.Site.count c.in-Ok-resume.ended.site) (g.R.Runner.count c.resume.new.runner) 0) Q c.in-Ok-resume.ended.how) c.in-Ok.ensures in
+    subst (λ (cause : Cause). Serves g.S.Site.tells g.S.Site.files g.S.Site.may_leave g.S.Site.moment g.S.Site.images_since g.B.Born.born g.F.Commands.gives g.F.Commands.may_fail (g.R.Runner.tells c.args.runner.now) (g.R.Runner.sure c.args.runner.now) c.args.before (counts (g.S.Site.count c.in-Ok-resume.ended.site) (g.R.Runner.count c.resume.new.runner) 0) c.args.ask c.args.site c.in-Ok-resume.ended.site c.in-Ok-resume.ended.records cause) (sym same)
+    (ran_serves g.S.Site.tells g.S.Site.files g.S.Site.may_leave g.S.Site.moment g.S.Site.images_since g.S.Site.count g.B.Born.born g.F.Commands.gives g.F.Commands.may_fail (g.R.Runner.tells c.args.runner.now) (g.R.Runner.sure c.args.runner.now)
+    c.args.before (counts (g.S.Site.count c.in-Ok-resume.ended.site) (g.R.Runner.count c.resume.new.runner) 0) c.args.ask c.args.site c.in-Ok-resume.ended.site c.in-Ok-resume.ended.records c.in-Ok-resume.ended.how (record {
+      work = c.requires.work;
+      le = c.requires.counted;
+      now_site = refl;
+      faults = run_faults c.args.before (counts (g.S.Site.count c.in-Ok-resume.ended.site) (g.R.Runner.count c.resume.new.runner) 0) c.args.ask.plan (g.S.Site.count c.args.site) (g.S.Site.count c.in-Ok-resume.ended.site) (g.R.Runner.count c.args.runner.now) (g.R.Runner.count c.resume.new.runner) c.in-Ok-resume.ended.how c.requires.counted refl c.requires.runner refl c.in-Ok-resume.ensures.causes;
+      log = c.in-Ok-resume.ensures.log;
+      grows = c.in-Ok-resume.ensures.grows;
+      same = c.in-Ok-resume.ensures.same;
+      quiet = c.in-Ok-resume.ensures.quiet;
+      starts = c.in-Ok-resume.ensures.starts;
+      closed = c.in-Ok-resume.ensures.closed c.requires.fits;
+      ends = c.in-Ok-resume.ensures.ends;
+      damage = c.in-Ok-resume.ensures.damage;
+      legal = c.in-Ok-resume.ensures.legal;
+      spent = c.in-Ok-resume.ensures.spent;
+      lost = c.in-Ok-resume.ensures.lost;
+      is_sure = c.in-Ok-resume.ensures.sure;
+      others = c.in-Ok-resume.ensures.others;
+      moments = c.in-Ok-resume.ensures.moments;
+      resumable = c.in-Ok-resume.ensures.resumable;
+      contents = c.in-Ok-resume.ensures.contents;
+      honest = c.in-Ok-resume.ensures.honest;
+      at_end = c.in-Ok-resume.ensures.now;
+      completes = λ t H spelled resumable jobs fit room none is le. c.in-Ok-resume.ensures.completes t H spelled resumable jobs c.requires.fits fit room none is le;
+    }))
+
+pub returns-in-Err-clause-serves : goal.returns-in-Err-clause-serves
+returns-in-Err-clause-serves g c =
+    let same : c.unread_cause.result ≡ unread_cause c.args.before (counts (g.S.Site.count c.in-Err.refused.site) (g.R.Runner.count c.resume.new.runner) 0) c.in-Err.refused.why =
+    c.unread_cause.ensures ∙ ap (λ (k : Counts). unread_cause c.args.before k c.in-Err.refused.why) c.counts_of-after-in-Err.ensures in
+    subst (λ (cause : Cause). Serves g.S.Site.tells g.S.Site.files g.S.Site.may_leave g.S.Site.moment g.S.Site.images_since g.B.Born.born g.F.Commands.gives g.F.Commands.may_fail (g.R.Runner.tells c.args.runner.now) (g.R.Runner.sure c.args.runner.now) c.args.before (counts (g.S.Site.count c.in-Err.refused.site) (g.R.Runner.count c.resume.new.runner) 0) c.args.ask c.args.site c.in-Err.refused.site c.new-in-Err.result cause) (sym same)
+    (subst (λ (xs : List Record). Serves g.S.Site.tells g.S.Site.files g.S.Site.may_leave g.S.Site.moment g.S.Site.images_since g.B.Born.born g.F.Commands.gives g.F.Commands.may_fail (g.R.Runner.tells c.args.runner.now) (g.R.Runner.sure c.args.runner.now) c.args.before (counts (g.S.Site.count c.in-Err.refused.site) (g.R.Runner.count c.resume.new.runner) 0) c.args.ask c.args.site c.in-Err.refused.site xs (unread_cause c.args.before (counts (g.S.Site.count c.in-Err.refused.site) (g.R.Runner.count c.resume.new.runner) 0) c.in-Err.refused.why)) (sym c.new-in-Err.ensures)
+    (unread_serves g.S.Site.tells g.S.Site.files g.S.Site.may_leave g.S.Site.moment g.S.Site.images_since g.B.Born.born g.F.Commands.gives g.F.Commands.may_fail (g.R.Runner.tells c.args.runner.now) (g.R.Runner.sure c.args.runner.now) c.args.before (counts (g.S.Site.count c.in-Err.refused.site) (g.R.Runner.count c.resume.new.runner) 0) c.args.ask c.args.site c.in-Err.refused.site c.requires.later
+    (λ t. weakened g.S.Site.moment g.S.Site.images_since c.args.site c.in-Err.refused.site (IsRecovering c.args.ask.log (g.S.Site.files c.args.site c.args.ask.log) (g.S.Site.may_leave c.args.site)) (IsBefore c.args.ask.log (g.S.Site.files c.args.site c.args.ask.log) (g.S.Site.may_leave c.args.site)) (c.in-Err.ensures.unread t)
+    (λ image is. recovering_before c.args.ask.log (g.S.Site.files c.args.site c.args.ask.log) (g.S.Site.may_leave c.args.site) image is))
+    c.in-Err.ensures.crash c.files_spell_one_list.ensures.header c.files_spell_one_list.ensures.whole c.in-Err.refused.why (λ is. omega (arith, c.requires.counted, c.in-Err.ensures.site is)) c.in-Err.ensures.damaged c.in-Err.ensures.unchanged))
+
+pub returns-in-Err-clause-failures : goal.returns-in-Err-clause-failures
+returns-in-Err-clause-failures g c =
+    subst (λ (cause : Cause). FailureEnd (g.R.Runner.failures c.args.runner.now) (g.R.Runner.failures c.resume.new.runner) (kind_of cause)) (sym c.unread_cause.ensures)
+    (unread_failed c.args.before c.counts_of-after-in-Err.result (g.R.Runner.failures c.args.runner.now) (g.R.Runner.failures c.resume.new.runner) c.in-Err.refused.why (let same : g.R.Runner.failures c.resume.new.runner ≡ g.R.Runner.failures c.args.runner.now = ap g.R.Runner.failures c.in-Err.ensures.unrun in omega (arith, same)))

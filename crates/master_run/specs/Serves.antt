@@ -1,0 +1,90 @@
+-- What a call does of which a plan and some work were asked.
+use Rattle.std.specs.Prelude.{◌≡◌, ◌⊎◌, ℕ, List, None, Option, IsTrue, IsFalse}
+use Rattle.flow_types.specs.declared.plan.Plan.{Plan}
+use Rattle.flow_types.specs.declared.numbers.Content.{Content}
+use Rattle.flow_types.specs.declared.job.Job.{Job}
+use Rattle.flow_types.specs.declared.job.Failure.{Failure}
+use Rattle.flow_types.specs.declared.records.Record.{Record}
+use Rattle.flow_types.specs.Serial.{Function, serial}
+use Rattle.run_history.specs.History.{since_opening}
+use Rattle.run_history.specs.Spent.{SpentOnce}
+use Rattle.outside.specs.Disk.{IsImage, Outcomes}
+use Rattle.outside.specs.Files.{Files}
+use Rattle.txn_log.specs.Spells.{Spells}
+use Rattle.desk.specs.Kept.{IsLegal, Keeps, StaysBeside}
+use Rattle.local_run.specs.Completing.{HasRecordRoom, HasSources, SerialInputsFit}
+use Rattle.local_run.specs.Course.{IsUnmade, TellsJobs}
+use Rattle.local_run.specs.Moments.{IsMoment, IsResumable, KeepsSome}
+use Rattle.local_run.specs.Runs.{Adds, BeginsWith, Held, LosesNone, SerialFits, read_sources}
+use Rattle.command_words.specs.declared.options.Work.TheVariants.{Run}
+use Rattle.report.specs.declared.cause.Cause.{Cause}
+use Rattle.report.specs.Causes.{is_completion, is_cut, is_failing, is_refusal, kind_of, may_lose, was_read}
+use Rattle.master_run.specs.declared.ask.Ask.{Ask}
+use Rattle.master_run.specs.declared.counts.Counts.{Counts}
+use Rattle.master_run.specs.Ends.{FaultEnd, LogEnds, NoneRose, run_refusal}
+use Rattle.master_run.specs.Headline.{HasLog, IsLegalOr, IsSpentBy, is_early, is_run_end}
+
+-- The call may have ended in the midst of an append.
+abbrev pub IsCut : Cause → Type 0
+IsCut cause = IsTrue (is_cut (kind_of cause))
+
+-- What a file has to have to fit what was logged of it.
+abbrev pub Fit : Type 1
+Fit = Plan → ℕ → Content → Option (List ℕ) → Type 0
+
+-- What each image of the call since a time keeps, where those of the entry keep some list of records, or there are none: it is one of that time before the call, or keeps the records of the log and the first of those that were added.
+abbrev pub AllMoments : {S : Type 0} → (S → Files) → (S → Outcomes) → (S → ℕ → Files → Type 0) → Fit → ℕ → Ask → List Record → S → S → List Record → Cause → Type 0
+AllMoments files may_leave images_since fits born ask H old new records cause =
+    IsResumable fits ask.plan ask.log H (may_leave old)
+    → (image : Files) → images_since new born image
+    → images_since old born image ⊎ IsMoment fits ask.plan ask.log (files old) (may_leave old) H records (IsCut cause) image
+
+-- What each image keeps at the end of the call, unless it was cut short.
+abbrev pub KeepsAtEnd : {S : Type 0} → (S → Outcomes) → Ask → List Record → S → S → List Record → Cause → Type 0
+KeepsAtEnd may_leave ask H old new records cause =
+    IsResumable Held ask.plan ask.log H (may_leave old) → (IsCut cause → ⊥)
+    → (image : Files) → IsImage (may_leave new) image → Keeps Held ask.plan ask.log records image
+
+-- Each image of the call since a time is one of that time before it, or can be gone on from, where those of the entry can.
+abbrev pub StaysResumable : {S : Type 0} → (S → Outcomes) → (S → ℕ → Files → Type 0) → ℕ → Ask → S → S → Type 0
+StaysResumable may_leave images_since born ask old new =
+    ((image : Files) → IsImage (may_leave old) image → KeepsSome Held ask.plan ask.log image)
+    → (image : Files) → images_since new born image
+    → images_since old born image ⊎ KeepsSome Held ask.plan ask.log image
+
+-- What can come to its end does, where nothing fails: every rule is complete, or memory was wanting.
+abbrev pub CanComplete : Function → (Job → Type 0) → Type 0 → Ask → Files → Outcomes → List Record → Counts → Counts → Cause → Type 0
+CanComplete gives told sure ask files outcomes H before after cause =
+    ask.work ≡ Run
+    → IsResumable (SerialFits gives (read_sources ask.plan files)) ask.plan ask.log H outcomes
+    → run_refusal ask.plan ask.options H files ≡ None
+    → HasSources ask.plan files → SerialInputsFit ask.plan gives (read_sources ask.plan files) → HasRecordRoom ask.plan H
+    → sure → TellsJobs ask.plan told (serial ask.plan gives (read_sources ask.plan files)) → NoneRose before after
+    → IsTrue (is_completion (kind_of cause))
+
+-- What a call does of which this is asked, from the site that it finds to the one that it leaves.
+pub record Serves {S : Type 0} (tells : Type 0) (files : S → Files) (may_leave : S → Outcomes) (moment : S → ℕ) (images_since : S → ℕ → Files → Type 0) (born : ℕ)
+    (gives : Function) (may_fail : Job → Failure → Type 0) (told : Job → Type 0) (sure : Type 0) (before after : Counts) (ask : Ask) (old new : S) (records : List Record) (cause : Cause) : Type 0 where
+  pub ends : tells → LogEnds ask (files old) (files new) records cause
+  pub late : IsFalse (is_early (kind_of cause))
+  pub faults : FaultEnd before after cause
+  pub has_log : tells → (H : List Record) → Spells H (files old ask.log) → HasLog H records (kind_of cause)
+  pub legal : IsTrue (was_read (kind_of cause)) → IsLegal ask.plan records
+  pub logged : tells → (H : List Record) → Spells H (files old ask.log) → IsLegalOr ask.plan H records (kind_of cause)
+  pub closed : IsTrue (is_run_end (kind_of cause)) → SpentOnce (since_opening records)
+  pub spent : tells → (H : List Record) → Spells H (files old ask.log) → (IsCut cause → ⊥) → IsSpentBy H records
+  pub lost : tells → (H : List Record) → Spells H (files old ask.log) → IsFalse (may_lose (kind_of cause)) → LosesNone H records
+  pub moments : tells → (H : List Record) → Spells H (files old ask.log) → AllMoments files may_leave images_since Held born ask H old new records cause
+  pub resumable : tells → StaysResumable may_leave images_since born ask old new
+  pub now : tells → (H : List Record) → Spells H (files old ask.log) → KeepsAtEnd may_leave ask H old new records cause
+  pub untouched : tells → IsTrue (is_refusal (kind_of cause)) → files new ≡ files old
+  pub others : tells → StaysBeside may_leave moment images_since (IsUnmade ask.plan ask.log) old new
+  pub contents : tells → (H : List Record) → Spells H (files old ask.log)
+      → TellsJobs ask.plan told (serial ask.plan gives (read_sources ask.plan (files old)))
+      → AllMoments files may_leave images_since (SerialFits gives (read_sources ask.plan (files old))) born ask H old new records cause
+  pub honest : tells → (H : List Record) → Spells H (files old ask.log)
+      → IsResumable (SerialFits gives (read_sources ask.plan (files old))) ask.plan ask.log H (may_leave old)
+      → TellsJobs ask.plan told (serial ask.plan gives (read_sources ask.plan (files old)))
+      → BeginsWith H records → Adds (Unit {0}) gives may_fail (read_sources ask.plan (files old)) ask.plan H records
+  pub sure_end : sure → IsFalse (is_failing (kind_of cause))
+  pub completes : tells → (H : List Record) → Spells H (files old ask.log) → CanComplete gives told sure ask (files old) (may_leave old) H before after cause

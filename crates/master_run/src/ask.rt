@@ -1,0 +1,16 @@
+//! What a call is asked for.
+use command_words::Work;
+use flow_types::{Name, Plan};
+
+/// What a call is asked for.
+#[derive(Drop)]
+pub struct Ask {
+    /// The plan of the flow.
+    pub plan: Plan,
+    /// What is to be done with it.
+    pub work: Work,
+    /// The name of the log.
+    pub log: Name,
+    /// What a run goes by.
+    pub options: run_history::Options,
+}

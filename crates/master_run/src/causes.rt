@@ -1,0 +1,188 @@
+//! The causes of how the parts of a call end.
+ghost use Rattle.std.specs.Prelude.{◌≡◌, length};
+ghost use Rattle.std.specs.Prelude.{◌<◌, ◌^◌, IfOk};
+ghost use Rattle.flow_types.specs.Plans.{is_source};
+ghost use Rattle.local_run.specs.Ends.{IsRunEnd};
+ghost use Rattle.master_run.specs.Ends.{end_cause, start_cause};
+ghost use Rattle.master_run.specs.Runs.{clean_cause, damage_cause, halt_cause, look_cause};
+ghost use Rattle.master_run.specs.Runs.{refusal_cause, refused_cause, run_cause, site_cause};
+ghost use Rattle.master_run.specs.Runs.{unread_cause};
+
+use crate::asking::Refusal;
+use crate::counts::Counts;
+use cleaning::{CleanFault, LookFault};
+use desk::StartFault;
+use flow_types::{Content, FileNo, Plan};
+use local_run::{Halt, Stopped};
+use log_recover::RecoverFault;
+use report::Cause;
+use run_history::{Check, Found};
+
+fn site_cause(before: Counts, after: Counts) -> Cause
+    ensures { result ≡ site_cause before after }
+{
+    Cause::SiteFault {
+        before: before.site,
+        after: after.site,
+    }
+}
+
+fn start_cause(why: StartFault) -> Cause
+    ensures { result ≡ start_cause why }
+{
+    match why {
+        StartFault::OtherFlow { logged, found } => Cause::OtherFlow { logged, found },
+        StartFault::NotLegal { at } => Cause::NotLegal { at },
+        StartFault::LogFull { records } => Cause::LogFull { records },
+        StartFault::StoredAboveLimit { stored, limit } => Cause::StoredAboveLimit { stored, limit },
+        StartFault::SourceMissing { file } => Cause::SourceMissing { file },
+        StartFault::SourceTooLarge { file, size } => Cause::SourceTooLarge { file, size },
+        StartFault::SourceChanged {
+            file,
+            logged,
+            found,
+        } => Cause::SourceChanged {
+            file,
+            logged,
+            found,
+        },
+        StartFault::FileDamaged {
+            file,
+            logged,
+            found,
+        } => Cause::FileDamaged {
+            file,
+            logged,
+            found,
+        },
+        StartFault::Site { before, after } => Cause::SiteFault { before, after },
+        StartFault::Memory => Cause::Memory,
+    }
+}
+
+fn refused_cause(before: Counts, after: Counts, why: StartFault) -> Cause
+    ensures { result ≡ refused_cause before after why }
+{
+    match why {
+        StartFault::Site { .. } => site_cause(before, after),
+        why => start_cause(why),
+    }
+}
+
+fn is_source(plan: &Plan, file: FileNo) -> bool
+    ensures { result ≡ is_source plan.now file.0 }
+{
+    match plan.files.as_slice().get(file.0 as usize) {
+        Some(row) => row.maker.is_none(),
+        None => false,
+    }
+}
+
+fn damage_cause(plan: &Plan, file: FileNo, logged: Content, found: Found) -> Cause
+    ensures { result ≡ damage_cause plan.now file logged found }
+{
+    if is_source(plan, file) {
+        Cause::SourceChanged {
+            file,
+            logged,
+            found,
+        }
+    } else {
+        Cause::FileDamaged {
+            file,
+            logged,
+            found,
+        }
+    }
+}
+
+fn halt_cause(before: Counts, after: Counts, plan: &Plan, halt: Halt) -> Cause
+    ensures { result ≡ halt_cause before after plan.now halt }
+{
+    match halt {
+        Halt::Damaged {
+            file,
+            logged,
+            found,
+        } => damage_cause(plan, file, logged, found),
+        Halt::Runner => Cause::RunnerFault {
+            before: before.runner,
+            after: after.runner,
+        },
+        Halt::Site => site_cause(before, after),
+        Halt::Memory => Cause::Memory,
+    }
+}
+
+fn end_cause(rules: u32, check: Check) -> Cause
+    requires { IsRunEnd check }
+    ensures { result ≡ end_cause rules check }
+{
+    match check {
+        Check::Complete { collected } => Cause::Complete { rules, collected },
+        Check::CommandFailed { rule, why } => Cause::CommandFailed { rule, why },
+        Check::InputsTooLarge { rule, total } => Cause::InputsTooLarge { rule, total },
+        Check::LogFull { records } => Cause::LogFull { records },
+        Check::Going | Check::Halted | Check::NoRoom { .. } | Check::Waited(_) => unreachable!(),
+    }
+}
+
+/// The cause of how a run of this plan ended.
+pub fn run_cause(before: Counts, after: Counts, plan: &Plan, how: Result<Check, Stopped>) -> Cause
+    requires ends { IfOk how IsRunEnd }
+    requires few { length plan.now.rules < 2 ^ 32 }
+    ensures { result ≡ run_cause before after plan.now how }
+{
+    match how {
+        Ok(check) => end_cause(plan.rules.len() as u32, check),
+        Err(Stopped::Refused(why)) => refused_cause(before, after, why),
+        Err(Stopped::Halted(halt)) => halt_cause(before, after, plan, halt),
+    }
+}
+
+/// The cause of a log that isn't read.
+pub fn unread_cause(before: Counts, after: Counts, why: RecoverFault) -> Cause
+    ensures { result ≡ unread_cause before after why }
+{
+    match why {
+        RecoverFault::Site => site_cause(before, after),
+        RecoverFault::BadHeader => Cause::LogDamaged { at: 0 },
+        RecoverFault::BadRecord { at } => Cause::LogDamaged { at },
+        RecoverFault::Memory => Cause::Memory,
+    }
+}
+
+/// The cause of a log that can't be used.
+pub fn look_cause(before: Counts, after: Counts, why: LookFault) -> Cause
+    ensures { result ≡ look_cause before after why }
+{
+    match why {
+        LookFault::Log(why) => unread_cause(before, after, why),
+        LookFault::OtherFlow { logged, found } => Cause::OtherFlow { logged, found },
+        LookFault::NotLegal { at } => Cause::NotLegal { at },
+        LookFault::Memory => Cause::Memory,
+    }
+}
+
+/// The cause of a part that isn't cleaned.
+pub fn clean_cause(before: Counts, after: Counts, why: CleanFault) -> Cause
+    ensures { result ≡ clean_cause before after why }
+{
+    match why {
+        CleanFault::Look(why) => look_cause(before, after, why),
+        CleanFault::LogFull { records } => Cause::LogFull { records },
+        CleanFault::Site => site_cause(before, after),
+        CleanFault::Memory => Cause::Memory,
+    }
+}
+
+/// The cause of a refusal.
+pub fn refusal_cause(before: Counts, after: Counts, refusal: Refusal) -> Cause
+    ensures { result ≡ refusal_cause before after refusal }
+{
+    match refusal {
+        Refusal::Said(cause) => cause,
+        Refusal::Site => site_cause(before, after),
+        Refusal::Memory => Cause::Memory,
+    }
+}
