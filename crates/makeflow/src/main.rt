@@ -2,7 +2,7 @@
 #![tactic(auto)]
 
 use master_run::makeflow_top;
-use real_outside::{FolderSite, ShellRunner, StdoutSink, System, SystemClock};
+use real_outside::{FolderSite, Owner, ShellRunner, StdoutSink, System, SystemClock};
 use std::alloc::AllocError;
 use std::env::VarError;
 use std::io::ErrorKind;
@@ -39,8 +39,11 @@ fn main(rt: HostRuntime) -> ExitCode {
     let Ok(variables) = variables_of(&rt) else {
         return ExitCode::from(OUT_OF_MEMORY);
     };
-    let site = FolderSite::new(&rt);
-    let mut runner = ShellRunner::new(&rt, process::id(rt.process()));
+    let Ok(owner) = Owner::of(&rt, process::id(rt.process())) else {
+        return ExitCode::from(OUT_OF_MEMORY);
+    };
+    let site = FolderSite::new(&rt, &owner);
+    let mut runner = ShellRunner::new(&rt, &owner);
     let mut out = StdoutSink::new(&rt);
     let ended = makeflow_top::<System, _, _, _, _>(
         rt.alloc(),

@@ -94,13 +94,17 @@ pub fn set_len<R: Files>(rt: &R, path: &str, len: u64) -> io::Result<()> {
     file.set_len(len)
 }
 
-/// Syncs the file, where it is there, and each folder on the way to it: a new or a removed name is
-/// durable only once the folder that holds it is.
-pub fn sync_name<R: Files>(rt: &R, path: &str) -> io::Result<()> {
-    if file_len(rt, path)?.is_some() {
-        let file = fs::open(rt, path)?;
-        file.sync_all()?;
+/// Syncs the file, where it is there.
+pub fn sync_file<R: Files>(rt: &R, path: &str) -> io::Result<()> {
+    if file_len(rt, path)?.is_none() {
+        return Ok(());
     }
+    fs::open(rt, path)?.sync_all()
+}
+
+/// Syncs each folder on the way to a name: a new or a removed one is durable only once the folder
+/// that holds it is.
+pub fn sync_folders<R: Files>(rt: &R, path: &str) -> io::Result<()> {
     for end in 1..path.len() {
         if let Some((folder, rest)) = path.split_at_checked(end)
             && rest.starts_with('/')
@@ -111,7 +115,17 @@ pub fn sync_name<R: Files>(rt: &R, path: &str) -> io::Result<()> {
     sync_folder(rt, ".")
 }
 
-fn sync_folder<R: Files>(rt: &R, folder: &str) -> io::Result<()> {
+/// The folder of a path, and the name in it.
+pub fn folder_of(path: &str) -> (&str, &str) {
+    match path.rsplit_once('/') {
+        Some(("", name)) => ("/", name),
+        Some(parts) => parts,
+        None => (".", path),
+    }
+}
+
+/// Syncs a folder, where it is there.
+pub fn sync_folder<R: Files>(rt: &R, folder: &str) -> io::Result<()> {
     match fs::metadata(rt, folder) {
         Ok(data) if data.is_dir() => fs::open(rt, folder)?.sync_all(),
         Ok(_) => Ok(()),

@@ -2,24 +2,40 @@
 ghost use Rattle.std.specs.Prelude.{◌<◌, ◌-◌, ◌^◌, None};
 
 use crate::counts::counted;
-use crate::files;
+use crate::folder::Folder;
+use crate::owner::Owner;
 use flow_types::Name;
 use outside::{Fault, Site};
+use std::fs::File;
 use std::io::ErrorKind;
 use std::rt::Files;
 use std::{io, str};
 
-/// The files of the current folder. It opens nothing for longer than a call, and takes no memory.
+/// The files of the current folder.
+///
+/// What is written at the beginning of a file goes to a file beside it, and takes its place at the
+/// next sync of its name, or when the site is let go: a refused write or a kill leaves the old file.
+/// Such a file is hidden, `.NAME.HOST.PROCESS.makeflow-part`; those that a dead program of this host
+/// and user left are removed.
+///
+/// The first file that is synced is the log of a flow. It is written in place, and locked: while one
+/// site changes files, each change by another one with that log is refused. Its calls that change
+/// nothing are served.
+///
+/// The little memory that paths need is the system's: where it is wanting a call is refused.
 #[derive(Drop)]
-pub struct FolderSite<'a, R> {
-    rt: &'a R,
+pub struct FolderSite<'a, R: Files<File = File> + AllocGlobal> {
+    folder: Folder<'a, R>,
     faults: u64,
 }
 
-impl<'a, R: Files> FolderSite<'a, R> {
-    /// The folder in which the program was started.
-    pub fn new(rt: &'a R) -> Self {
-        FolderSite { rt, faults: 0 }
+impl<'a, R: Files<File = File> + AllocGlobal> FolderSite<'a, R> {
+    /// The folder in which the program was started. `owner` is this program.
+    pub fn new(rt: &'a R, owner: &'a Owner) -> Self {
+        FolderSite {
+            folder: Folder::new(rt, owner),
+            faults: 0,
+        }
     }
 }
 
@@ -31,7 +47,7 @@ pub fn path_of(name: &Name) -> io::Result<&str> {
     }
 }
 
-impl<'a, R: Files + Sync> Site for FolderSite<'a, R> {
+impl<'a, R: Files<File = File> + AllocGlobal + Sync> Site for FolderSite<'a, R> {
     ghost tells = { ⊥ };
 
     ghost files = { λ s name. None };
@@ -55,35 +71,35 @@ impl<'a, R: Files + Sync> Site for FolderSite<'a, R> {
     ghost ample_below = { λ s is. is };
 
     fn size(&mut self, name: &Name) -> Result<Option<u64>, Fault> {
-        let answer = path_of(name).and_then(|path| files::file_len(self.rt, path));
+        let answer = path_of(name).and_then(|path| self.folder.size(path));
         counted(&mut self.faults, answer)
     }
 
     fn read(&mut self, name: &Name, at: u64, into: &mut [u8]) -> Result<usize, Fault> {
         let answer = match path_of(name) {
-            Ok(path) => files::read_from(self.rt, path, at, into),
+            Ok(path) => self.folder.read(path, at, into),
             Err(e) => Err(e),
         };
         counted(&mut self.faults, answer)
     }
 
     fn write(&mut self, name: &Name, at: u64, bytes: &[u8]) -> Result<(), Fault> {
-        let answer = path_of(name).and_then(|path| files::write_from(self.rt, path, at, bytes));
+        let answer = path_of(name).and_then(|path| self.folder.write(path, at, bytes));
         counted(&mut self.faults, answer)
     }
 
     fn cut(&mut self, name: &Name, len: u64) -> Result<(), Fault> {
-        let answer = path_of(name).and_then(|path| files::set_len(self.rt, path, len));
+        let answer = path_of(name).and_then(|path| self.folder.cut(path, len));
         counted(&mut self.faults, answer)
     }
 
     fn sync(&mut self, name: &Name) -> Result<(), Fault> {
-        let answer = path_of(name).and_then(|path| files::sync_name(self.rt, path));
+        let answer = path_of(name).and_then(|path| self.folder.sync(path));
         counted(&mut self.faults, answer)
     }
 
     fn remove(&mut self, name: &Name) -> Result<(), Fault> {
-        let answer = path_of(name).and_then(|path| files::remove_name(self.rt, path));
+        let answer = path_of(name).and_then(|path| self.folder.remove(path));
         counted(&mut self.faults, answer)
     }
 

@@ -1,12 +1,14 @@
 //! The folder in which one job runs.
 use crate::files::{is_absent, make_folders_of};
 use crate::folder_site::path_of;
+use crate::leftovers::maker_of_folder;
+use crate::owner::{Owner, is_dead, user_of};
 use crate::programs::program;
 use flow_types::{Given, Job, Name};
 use std::alloc::Global;
-use std::fs::{DirBuilder, OpenFile, Permissions};
+use std::fs::{DirBuilder, DirEntry, OpenFile, Permissions};
 use std::io::{ErrorKind, Write};
-use std::os::unix::fs::{DirBuilderExt, PermissionsExt};
+use std::os::unix::fs::{DirBuilderExt, MetadataExt, PermissionsExt};
 use std::process::Processes;
 use std::rt::{Env, Files};
 use std::{env, fs, io};
@@ -17,16 +19,24 @@ const RUNNABLE: u32 = 0o755;
 
 const MOST_TRIES: u32 = 1_000_000;
 
+// The system's temporary folder.
+fn temporary<R: Env + AllocGlobal>(rt: &R) -> io::Result<String> {
+    let base = env::temp_dir(rt)?.into_string();
+    if base.is_empty() {
+        return Ok(String::from_str(rt.alloc(), "/tmp")?);
+    }
+    Ok(base)
+}
+
 /// Makes a new folder under the system's temporary folder, for its owner alone. One that is there
 /// already is never taken, so no two jobs share a folder.
-pub fn new_folder<R: Files + AllocGlobal + Env>(rt: &R, process: u32) -> io::Result<String> {
-    let base = env::temp_dir(rt)?;
-    let base = base.as_path().as_str();
-    let base = if base.is_empty() { "/tmp" } else { base };
+pub fn new_folder<R: Files + AllocGlobal + Env>(rt: &R, owner: &Owner) -> io::Result<String> {
+    let base = temporary(rt)?;
+    let (host, process) = (owner.host(), owner.process());
     let mut private = DirBuilder::new();
     private.mode(OWNER_ALONE);
     for number in 0..MOST_TRIES {
-        let path = format!(in rt.alloc(); "{base}/makeflow-{process}-{number}")?;
+        let path = format!(in rt.alloc(); "{base}/makeflow-{host}-{process}-{number}")?;
         match private.create(rt, path.as_str()) {
             Ok(()) => return Ok(path),
             Err(e) if e.kind() == ErrorKind::AlreadyExists => {}
@@ -34,6 +44,41 @@ pub fn new_folder<R: Files + AllocGlobal + Env>(rt: &R, process: u32) -> io::Res
         }
     }
     Err(io::Error::from(ErrorKind::AlreadyExists))
+}
+
+/// Removes the folders that programs of this host and user left under the temporary folder when
+/// they were killed. It does what it can.
+pub fn clear_folders<R: Files + AllocGlobal + Env + Processes>(rt: &R, owner: &Owner) {
+    let Some(user) = user_of(rt) else {
+        return;
+    };
+    let Ok(base) = temporary(rt) else {
+        return;
+    };
+    let Ok(entries) = fs::read_dir(&rt, base.as_str()) else {
+        return;
+    };
+    for entry in entries {
+        if let Ok(entry) = entry {
+            let _ = clear_folder(rt, owner, user, &entry);
+        }
+    }
+}
+
+fn clear_folder<R: Files + AllocGlobal + Processes>(
+    rt: &R,
+    owner: &Owner,
+    user: u32,
+    entry: &DirEntry<&R, Global>,
+) -> io::Result<()> {
+    let Some(process) = maker_of_folder(entry.file_name(), owner.host()) else {
+        return Ok(());
+    };
+    let data = entry.metadata()?;
+    if data.is_dir() && data.uid() == user && is_dead(rt, process)? {
+        remove_folder(rt, entry.path().as_str())?;
+    }
+    Ok(())
 }
 
 /// Where a remote name stands in the folder.

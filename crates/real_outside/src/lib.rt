@@ -6,16 +6,23 @@
 mod commands;
 mod counts;
 mod files;
+mod flow_lock;
+mod folder;
 mod folder_site;
 mod job_folder;
+mod leftovers;
 mod outputs;
+mod owner;
+mod parts;
 mod programs;
+mod script;
 mod shell_runner;
 mod stdout_sink;
 mod system_clock;
 
 pub use commands::System;
 pub use folder_site::FolderSite;
+pub use owner::Owner;
 pub use shell_runner::ShellRunner;
 pub use stdout_sink::StdoutSink;
 pub use system_clock::SystemClock;

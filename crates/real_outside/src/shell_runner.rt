@@ -3,9 +3,12 @@ ghost use Rattle.std.specs.Prelude.{IfOk};
 ghost use Rattle.outside.specs.Jobs.{IsShaped};
 
 use crate::counts::counted_or_memory;
-use crate::job_folder::{fill_folder, new_folder, remove_folder};
+use crate::files::folder_of;
+use crate::job_folder::{clear_folders, fill_folder, new_folder, remove_folder};
 use crate::outputs::take_outputs;
+use crate::owner::Owner;
 use crate::programs::program;
+use crate::script::{is_long, needs_script, read_script, write_script};
 use flow_types::{Failure, Job, Outcome};
 use outside::{Commands, Fault, Runner};
 use std::alloc::Global;
@@ -18,21 +21,24 @@ use std::rt::{Env, Files};
 const SIGNALLED: i32 = 128;
 
 /// Runs each job by `sh -c` in a folder of its own under the temporary folder. The folder goes when
-/// the job ends, whatever happened; one that can't be removed is a fault.
+/// the job ends, whatever happened; one that can't be removed is a fault. Before the first job the
+/// folders go that dead programs of this host and user left.
 #[derive(Drop)]
 pub struct ShellRunner<'a, R> {
     rt: &'a R,
-    process: u32,
+    owner: &'a Owner,
+    is_clear: bool,
     faults: u64,
     failures: u64,
 }
 
 impl<'a, R> ShellRunner<'a, R> {
-    /// `process` is this program's own number, by which its folders differ from those of others.
-    pub fn new(rt: &'a R, process: u32) -> Self {
+    /// `owner` is this program, by which its folders differ from those of others.
+    pub fn new(rt: &'a R, owner: &'a Owner) -> Self {
         ShellRunner {
             rt,
-            process,
+            owner,
+            is_clear: false,
             faults: 0,
             failures: 0,
         }
@@ -47,27 +53,66 @@ fn status_of(status: ExitStatus) -> i32 {
     }
 }
 
-// The command's status, in the folder and with the job's variables.
-fn run_shell<R: Processes>(rt: &R, alloc: Global, folder: &str, job: &Job) -> io::Result<i32> {
-    let mut shell = program(alloc, "/bin/sh", &["-c", job.command.as_str()])?;
+// The status of a shell that is told this, in the folder and with the job's variables.
+fn run_told<R: Processes>(
+    rt: &R,
+    alloc: Global,
+    folder: &str,
+    job: &Job,
+    told: &str,
+) -> io::Result<i32> {
+    let mut shell = program(alloc, "/bin/sh", &["-c", told])?;
     for pair in job.env.as_slice() {
-        shell.env(pair.name.as_str(), pair.value.as_str())?;
+        if !is_long(pair) {
+            shell.env(pair.name.as_str(), pair.value.as_str())?;
+        }
     }
     shell.current_dir(folder)?;
     let status = shell.status(rt)?;
     Ok(status_of(status))
 }
 
-fn run_in<R: Files + Processes>(
+// The status of a shell that reads the command from a file in a folder beside the job's.
+fn run_read<R: Files + Processes>(
     rt: &R,
     alloc: Global,
+    beside: &str,
+    folder: &str,
+    job: &Job,
+) -> io::Result<i32> {
+    write_script(rt, alloc, beside, job)?;
+    let (_, name) = folder_of(beside);
+    let told = read_script(alloc, name)?;
+    run_told(rt, alloc, folder, job, told.as_str())
+}
+
+// The command's status.
+fn run_shell<R: Files + Env + Processes + AllocGlobal>(
+    rt: &R,
+    owner: &Owner,
+    folder: &str,
+    job: &Job,
+) -> io::Result<i32> {
+    if !needs_script(job) {
+        return run_told(rt, rt.alloc(), folder, job, job.command.as_str());
+    }
+    let beside = new_folder(rt, owner)?;
+    let status = run_read(rt, rt.alloc(), beside.as_str(), folder, job);
+    remove_folder(rt, beside.as_str())?;
+    status
+}
+
+fn run_in<R: Files + Env + Processes + AllocGlobal>(
+    rt: &R,
+    alloc: Global,
+    owner: &Owner,
     folder: &str,
     job: &Job,
 ) -> io::Result<Outcome>
     ensures { IfOk result (IsShaped job.now) }
 {
     fill_folder(rt, alloc, folder, job)?;
-    let status = run_shell(rt, alloc, folder, job)?;
+    let status = run_shell(rt, owner, folder, job)?;
     if status != 0 {
         return Ok(Outcome::Failed(Failure::Status(status)));
     }
@@ -77,13 +122,13 @@ fn run_in<R: Files + Processes>(
 fn run_job<R: Files + Env + Processes + AllocGlobal>(
     rt: &R,
     alloc: Global,
-    process: u32,
+    owner: &Owner,
     job: &Job,
 ) -> io::Result<Outcome>
     ensures { IfOk result (IsShaped job.now) }
 {
-    let folder = new_folder(rt, process)?;
-    let outcome = run_in(rt, alloc, folder.as_str(), job);
+    let folder = new_folder(rt, owner)?;
+    let outcome = run_in(rt, alloc, owner, folder.as_str(), job);
     remove_folder(rt, folder.as_str())?;
     outcome
 }
@@ -99,7 +144,11 @@ impl<'a, F: Commands, R: Files + Env + Processes + AllocGlobal + Sync> Runner<F>
     ghost failures = { λ s. s.failures };
 
     fn run(&mut self, alloc: Global, job: &Job) -> Result<Outcome, Fault> {
-        let answer = run_job(self.rt, alloc, self.process, job);
+        if !self.is_clear {
+            clear_folders(self.rt, self.owner);
+            self.is_clear = true;
+        }
+        let answer = run_job(self.rt, alloc, self.owner, job);
         let outcome = counted_or_memory(&mut self.faults, answer)?;
         if let Outcome::Failed(_) = outcome {
             if self.failures == u64::MAX {

@@ -2,14 +2,15 @@
 //! no run makes yet.
 use flow_types::Name;
 use outside::{Fault, Site};
-use real_outside::FolderSite;
+use real_outside::{FolderSite, Owner};
 use std::alloc::Global;
+use std::fs::File;
 use std::io::ErrorKind;
 use std::os::unix::process::ExitStatusExt;
 use std::process::{Command, ExitStatus, Processes};
 use std::rt::{Env, Files};
 use std::test::Fail;
-use std::{env, fs, io};
+use std::{env, fs, io, process};
 
 // The test is run a second time, as a program of its own, with this variable.
 const TO_BE_KILLED: &str = "MAKEFLOW_TO_BE_KILLED";
@@ -39,12 +40,13 @@ fn kill_self<R: Processes>(rt: &R, alloc: Global) -> io::Result<ExitStatus> {
 }
 
 // Makes a file in new folders, syncs it, writes over it, and is killed.
-fn write_and_be_killed<R: Files + Processes + Sync>(
+fn write_and_be_killed<R: Files<File = File> + AllocGlobal + Processes + Sync>(
     rt: &R,
     alloc: Global,
+    owner: &Owner,
     name: &Name,
 ) -> Result<(), Fail> {
-    let mut site = FolderSite::new(rt);
+    let mut site = FolderSite::new(rt, owner);
     site.write(name, 0, b"kept")?;
     site.sync(name)?;
     site.write(name, 4, b" and more")?;
@@ -55,12 +57,13 @@ fn write_and_be_killed<R: Files + Processes + Sync>(
 #[test]
 fn what_was_synced_outlives_a_kill_until_it_is_removed(rt: HostRuntime) -> Result<(), Fail> {
     let alloc = rt.alloc();
+    let owner = Owner::of(&rt, process::id(rt.process()))?;
     let name = Name::of(alloc, b"new/folders/file")?;
     if env::var(&rt, TO_BE_KILLED).is_ok() {
-        return write_and_be_killed(&rt, alloc, &name);
+        return write_and_be_killed(&rt, alloc, &owner, &name);
     }
     assert_eq!(rt; run_again(&rt)?.signal(), Some(SIGKILL));
-    let mut site = FolderSite::new(&rt);
+    let mut site = FolderSite::new(&rt, &owner);
     let mut bytes = [0u8; 4];
     assert_eq!(rt; site.read(&name, 0, &mut bytes), Ok(4));
     assert_eq!(rt; bytes.as_slice(), b"kept".as_slice());

@@ -3,3 +3,5 @@
 
 #[cfg(test)]
 mod crash;
+#[cfg(test)]
+mod shared;

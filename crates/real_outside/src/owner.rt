@@ -1,0 +1,78 @@
+//! Whose a file is that a program makes for itself.
+
+use std::alloc::AllocError;
+use std::os::unix::fs::MetadataExt;
+use std::rt::Files;
+use std::{fs, io};
+
+const HOST_NAME: &str = "/proc/sys/kernel/hostname";
+
+// The longest name of a host on Linux.
+const MOST_HOST: usize = 64;
+
+/// This program among those that share a folder: the name of its host, and its number there.
+#[derive(Drop)]
+pub struct Owner {
+    host: String,
+    process: u32,
+}
+
+impl Owner {
+    /// `process` is this program's own number. The host is `localhost` where the system tells no
+    /// name of letters, digits, `-`, `_` and `.`.
+    pub fn of<R: Files + AllocGlobal>(rt: &R, process: u32) -> Result<Self, AllocError> {
+        let host = host_of(rt)?;
+        Ok(Owner { host, process })
+    }
+
+    /// The name of the host.
+    pub fn host(&self) -> &str {
+        self.host.as_str()
+    }
+
+    /// The number of this program.
+    pub fn process(&self) -> u32 {
+        self.process
+    }
+}
+
+fn host_of<R: Files + AllocGlobal>(rt: &R) -> Result<String, AllocError> {
+    if let Ok(text) = fs::read_to_string(rt, HOST_NAME) {
+        let name = text.as_str().trim();
+        if is_host(name) {
+            return String::from_str(rt.alloc(), name);
+        }
+    }
+    String::from_str(rt.alloc(), "localhost")
+}
+
+fn is_host(name: &str) -> bool {
+    !name.is_empty() && name.len() <= MOST_HOST && name.bytes().all(is_host_byte)
+}
+
+fn is_host_byte(byte: u8) -> bool {
+    byte.is_ascii_alphanumeric() || byte == b'-' || byte == b'_' || byte == b'.'
+}
+
+/// The user as whom this program runs, None where the system doesn't show its processes.
+pub fn user_of<R: Files>(rt: &R) -> Option<u32> {
+    match fs::metadata(rt, "/proc/self") {
+        Ok(data) => Some(data.uid()),
+        Err(_) => None,
+    }
+}
+
+/// No process of this host has the number. Only where [`user_of`] answers a user.
+pub fn is_dead<R: Files + AllocGlobal>(rt: &R, process: u32) -> io::Result<bool> {
+    let path = format!(in rt.alloc(); "/proc/{process}")?;
+    let lives = fs::exists(rt, path.as_str())?;
+    Ok(!lives)
+}
+
+/// The number that decimal digits spell.
+pub fn number_of(digits: &str) -> Option<u32> {
+    if !digits.bytes().all(|byte| byte.is_ascii_digit()) {
+        return None;
+    }
+    digits.parse().ok()
+}
