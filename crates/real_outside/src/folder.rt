@@ -29,7 +29,7 @@ impl<'a, R: Files<File = File> + AllocGlobal> Drop for Folder<'a, R> {
             mut parts,
             cleared: _,
         } = self;
-        parts.settle_all(rt);
+        parts.move_all(rt);
         drop(lock);
     }
 }

@@ -129,10 +129,10 @@ impl Parts {
         Ok(true)
     }
 
-    /// Puts each file in place that can be.
-    pub fn settle_all<R: Files>(&mut self, rt: &R) {
+    /// Puts each file in place that can be, unsynced.
+    pub fn move_all<R: Files>(&mut self, rt: &R) {
         for part in self.parts.as_slice() {
-            let _ = put_in_place(rt, part);
+            let _ = move_part(rt, part);
         }
         self.parts.clear();
     }
@@ -150,17 +150,24 @@ fn drop_part<R: Files>(rt: &R, part: &Part) {
     let _ = fs::remove_file(rt, part.place.as_str());
 }
 
-fn put_in_place<R: Files>(rt: &R, part: &Part) -> io::Result<()> {
-    let done = move_synced(rt, part);
-    if done.is_err() {
+fn move_part<R: Files>(rt: &R, part: &Part) -> io::Result<()> {
+    let moved = fs::rename(rt, part.place.as_str(), part.target.as_str());
+    if moved.is_err() {
         drop_part(rt, part);
     }
-    done
+    moved
 }
 
-fn move_synced<R: Files>(rt: &R, part: &Part) -> io::Result<()> {
-    fs::open(rt, part.place.as_str())?.sync_all()?;
-    fs::rename(rt, part.place.as_str(), part.target.as_str())?;
+fn sync_part<R: Files>(rt: &R, part: &Part) -> io::Result<()> {
+    fs::open(rt, part.place.as_str())?.sync_all()
+}
+
+fn put_in_place<R: Files>(rt: &R, part: &Part) -> io::Result<()> {
+    if let Err(e) = sync_part(rt, part) {
+        drop_part(rt, part);
+        return Err(e);
+    }
+    move_part(rt, part)?;
     let (folder, _) = folder_of(part.target.as_str());
     sync_folder(rt, folder)
 }
