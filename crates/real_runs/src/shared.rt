@@ -6,47 +6,72 @@ use std::alloc::{AllocError, Global};
 use std::test::Fail;
 use std::{fs, process};
 
-#[test]
-fn a_file_changes_at_its_sync_and_for_one_program_alone(rt: HostRuntime) -> Result<(), Fail> {
+// A log, an output, and what two dead programs left, one of them of another host.
+fn put_files(rt: &HostRuntime, owner: &Owner) -> Result<[Name; 4], Fail> {
     let alloc = rt.alloc();
-    let owner = Owner::of(&rt, process::id(rt.process()))?;
     let host = owner.host();
     let dead = format!(in alloc; ".a.{host}.4294967295.makeflow-part")?;
     let elsewhere = format!(in alloc; ".a.not-{host}.4294967295.makeflow-part")?;
-    for (path, content) in [
-        (dead.as_str(), "left"),
-        (elsewhere.as_str(), "left"),
-        ("log", "log"),
-        ("out", "old bytes"),
-    ] {
-        fs::write(&rt, path, content)?;
-    }
+    fs::write(rt, "log", "log")?;
+    fs::write(rt, "out", "old bytes")?;
+    fs::write(rt, dead.as_str(), "left")?;
+    fs::write(rt, elsewhere.as_str(), "left")?;
     let log = Name::of(alloc, b"log")?;
     let out = Name::of(alloc, b"out")?;
+    let dead = Name::of(alloc, dead.as_str().as_bytes())?;
+    let elsewhere = Name::of(alloc, elsewhere.as_str().as_bytes())?;
+    Ok([log, out, dead, elsewhere])
+}
+
+// Writes the output, and answers its length.
+fn change(site: &mut FolderSite<HostRuntime>, names: &[Name; 4]) -> Result<Option<u64>, Fault> {
+    site.sync(&names[0])?;
+    site.write(&names[1], 0, b"new")?;
+    site.cut(&names[1], 3)?;
+    site.size(&names[1])
+}
+
+// The lengths of all files, as a program sees them that shares the log.
+fn seen(site: &mut FolderSite<HostRuntime>, names: &[Name; 4]) -> Result<[Option<u64>; 4], Fault> {
+    site.sync(&names[0])?;
+    let log = site.size(&names[0])?;
+    let out = site.size(&names[1])?;
+    let dead = site.size(&names[2])?;
+    let elsewhere = site.size(&names[3])?;
+    Ok([log, out, dead, elsewhere])
+}
+
+// Goes on with the log, and removes all files.
+fn take_over(site: &mut FolderSite<HostRuntime>, names: &[Name; 4]) -> Result<(), Fault> {
+    site.sync(&names[0])?;
+    site.write(&names[0], 3, b"more")?;
+    for name in names {
+        site.remove(name)?;
+    }
+    Ok(())
+}
+
+#[test]
+fn a_file_changes_at_its_sync_and_for_one_program_alone(rt: HostRuntime) -> Result<(), Fail> {
+    let owner = Owner::of(&rt, process::id(rt.process()))?;
+    let names = put_files(&rt, &owner)?;
     let mut first = FolderSite::new(&rt, &owner);
-    assert_eq!(rt; first.sync(&log), Ok(()));
-    assert_eq!(rt; first.write(&out, 0, b"new"), Ok(()));
-    assert_eq!(rt; first.size(&out), Ok(Some(9)));
-    assert_eq!(rt; first.cut(&out, 3), Ok(()));
-    assert_eq!(rt; first.size(&out), Ok(Some(3)));
-    assert_eq!(rt; fs::read_to_string(&rt, "out")?.as_str(), "old bytes");
-    assert!(rt; !fs::exists(&rt, dead.as_str())?);
-    assert!(rt; fs::exists(&rt, elsewhere.as_str())?);
     let mut second = FolderSite::new(&rt, &owner);
-    assert_eq!(rt; second.sync(&log), Ok(()));
-    assert_eq!(rt; second.size(&log), Ok(Some(3)));
-    assert_eq!(rt; second.write(&log, 3, b"more"), Err(Fault::Failed));
+    assert_eq!(rt; change(&mut first, &names), Ok(Some(3)));
+    assert_eq!(rt;
+        seen(&mut second, &names),
+        Ok([Some(3), Some(9), None, Some(4)])
+    );
+    assert_eq!(rt; second.write(&names[0], 3, b"more"), Err(Fault::Failed));
     assert_eq!(rt; second.faults(), 1);
-    assert_eq!(rt; first.sync(&out), Ok(()));
-    assert_eq!(rt; fs::read_to_string(&rt, "out")?.as_str(), "new");
+    assert_eq!(rt; first.sync(&names[1]), Ok(()));
+    assert_eq!(rt;
+        seen(&mut second, &names),
+        Ok([Some(3), Some(3), None, Some(4)])
+    );
     drop(first);
     let mut third = FolderSite::new(&rt, &owner);
-    assert_eq!(rt; third.sync(&log), Ok(()));
-    assert_eq!(rt; third.write(&log, 3, b"more"), Ok(()));
-    assert_eq!(rt; fs::read_to_string(&rt, "log")?.as_str(), "logmore");
-    for path in [elsewhere.as_str(), "log", "out"] {
-        fs::remove_file(&rt, path)?;
-    }
+    assert_eq!(rt; take_over(&mut third, &names), Ok(()));
     Ok(())
 }
 
