@@ -267,11 +267,11 @@ def other_files():
         it.call("the run", 0, COMPLETE)
         it.put("out", "abd")
         it.call("the resume", 0, COMPLETE, adds=AGAIN)
-    with Course("a damaged source is named before a damaged output", {"z": "abc"}, [("cat z > a", ["z"], ["a"])], {"a": b""}) as it:
+    with Course("of a changed source and a damaged output the least file by name is told", {"z": "abc"}, [("cat z > a", ["z"], ["a"])], {"a": b""}) as it:
         it.call("the run", 0, COMPLETE)
         it.put("a", "")
         it.put("z", "abd")
-        it.refused("both", 4, "makeflow: source z changed\n")
+        it.refused("both", 4, "makeflow: file a damaged\n")
 
 
 def cleanings():
