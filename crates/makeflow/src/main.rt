@@ -8,7 +8,7 @@ use std::env::VarError;
 use std::io::ErrorKind;
 use std::process::ExitCode;
 use std::rt::Env;
-use std::{env, process};
+use std::{env, fs, process};
 
 // The status of want of memory, here before there is a run that could say so.
 const OUT_OF_MEMORY: u8 = 8;
@@ -32,7 +32,14 @@ fn variables_of<R: Env + AllocGlobal>(rt: &R) -> Result<Vec<(String, String)>, A
     }
 }
 
+// What is opened where a standard stream is closed takes the stream's number, and then what is
+// printed would go into it. These three take such numbers first, and can't be written.
+const NOT_WRITTEN: &str = "/dev/null";
+
 fn main(rt: HostRuntime) -> ExitCode {
+    let _first = fs::open(&rt, NOT_WRITTEN);
+    let _second = fs::open(&rt, NOT_WRITTEN);
+    let _third = fs::open(&rt, NOT_WRITTEN);
     let Ok(words) = words_of(&rt) else {
         return ExitCode::from(OUT_OF_MEMORY);
     };
