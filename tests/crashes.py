@@ -441,4 +441,56 @@ def crash_images():
         place.close()
 
 
-GROUPS = [kills, crash_images]
+def syncs_behind(lines, disk):
+    """What is written, the log or a part file, and how often a file and a folder are synced behind that, in order. A record
+    of the log is written in two steps, the second one of a byte."""
+    found = [["", 0, 0]]
+    for line in lines:
+        call = CALL.match(line)
+        held = disk.open.get(int(call[2].split(", ")[0])) if call and call[1] in ("write", "fsync", "fdatasync") else None
+        if held and call[1] == "write":
+            name = next(name for name, number in disk.names.items() if number == held[0])
+            if name != found[-1][0] or name == USUAL_LOG and int(call[3]) > 1:
+                found.append([name, 0, 0])
+        elif held:
+            found[-1][1 if isinstance(held[0], int) else 2] += 1
+        disk.note(line)
+    return found
+
+
+def too_many(found, records):
+    """Which of these syncs there are too many of: two a record, and of an output its file and its folder, where that is new
+    also the folder in which it is."""
+    behind_log, behind_parts = [it for it in found if it[0] == USUAL_LOG], [it for it in found if it[0].endswith(PART)]
+    if len(behind_log) != len(records) + 1 or len(behind_parts) != RULES_TO_COUNT:
+        return [f"{len(behind_log)} writes of a log of {len(records)} records, {len(behind_parts)} outputs"]
+    wrong = [f"{files} syncs of files and {folders} of folders for {it.kind}" for it, (_, files, folders) in zip(records, behind_log[1:])
+             if it.kind in ("started", "done") and files + folders > 2]
+    return wrong + [f"{files} syncs of files and {folders} of folders for {name}" for name, files, folders in behind_parts
+                    if files > 1 or folders > 1 + name.startswith("new")]
+
+
+RULES_TO_COUNT = 40
+
+
+def syncs():
+    """How often a run syncs: outputs beside the log, in a folder that is there, and in new ones."""
+    name = "how often a run syncs"
+    if not shutil.which("strace"):
+        print(f"skipped {name}: strace isn't installed", flush=True)
+        return
+    outs = [f"new{it}/o" if it % 8 == 0 else f"old/o{it}" if it % 8 == 1 else f"o{it}" for it in range(RULES_TO_COUNT)]
+    files = {"s": "abc\n", "old/s": "", "flow": text_of([(f"cat s > {it}", ["s"], [it]) for it in outs])}
+    place = Place(files)
+    try:
+        lines = traced(place)
+        if lines is None:
+            print(f"skipped {name}: strace can't trace here", flush=True)
+            return
+        found = syncs_behind(lines, Disk(place.work, {it: content.encode() for it, content in files.items()}))
+        say(name, too_many(found, logs.read(content_of(f"{place.work}/{USUAL_LOG}"))))
+    finally:
+        place.close()
+
+
+GROUPS = [kills, crash_images, syncs]

@@ -68,12 +68,9 @@ fn fill<F: Read>(reader: &mut F, into: &mut [u8]) -> io::Result<usize>
     Ok(done)
 }
 
-/// Writes at an offset. It makes the file and the folders that its name needs.
-pub fn write_from<R: Files>(rt: &R, path: &str, at: u64, bytes: &[u8]) -> io::Result<()> {
-    make_folders_of(rt, path)?;
-    file_len(rt, path)?;
-    let mut file = File::options().write(true).create(true).open(rt, path)?;
-    go_to(&mut file, at)?;
+/// Writes at an offset of a file that was just opened.
+pub fn write_from<F: Seek + Write>(file: &mut F, at: u64, bytes: &[u8]) -> io::Result<()> {
+    go_to(file, at)?;
     file.write_all(bytes)
 }
 
@@ -102,17 +99,18 @@ pub fn sync_file<R: Files>(rt: &R, path: &str) -> io::Result<()> {
     fs::open(rt, path)?.sync_all()
 }
 
-/// Syncs each folder on the way to a name: a new or a removed one is durable only once the folder
-/// that holds it is.
-pub fn sync_folders<R: Files>(rt: &R, path: &str) -> io::Result<()> {
-    for end in 1..path.len() {
-        if let Some((folder, rest)) = path.split_at_checked(end)
-            && rest.starts_with('/')
-        {
-            sync_folder(rt, folder)?;
+/// The path of the file to which a link points, None where this is no link, or one to nothing.
+pub fn link_target<R: Files + AllocGlobal>(rt: &R, path: &str) -> io::Result<Option<String>> {
+    match fs::symlink_metadata(rt, path) {
+        Ok(data) if data.is_symlink() => {
+            if file_len(rt, path)?.is_none() {
+                return Ok(None);
+            }
+            Ok(Some(fs::canonicalize(rt, path)?.into_string()))
         }
+        Err(e) if !is_absent(e.kind()) => Err(e),
+        _ => Ok(None),
     }
-    sync_folder(rt, ".")
 }
 
 /// The folder of a path, and the name in it.
@@ -124,20 +122,15 @@ pub fn folder_of(path: &str) -> (&str, &str) {
     }
 }
 
-/// Syncs a folder, where it is there.
-pub fn sync_folder<R: Files>(rt: &R, folder: &str) -> io::Result<()> {
+/// Syncs a folder, and tells whether it is there.
+pub fn sync_folder<R: Files>(rt: &R, folder: &str) -> io::Result<bool> {
     match fs::metadata(rt, folder) {
-        Ok(data) if data.is_dir() => fs::open(rt, folder)?.sync_all(),
-        Ok(_) => Ok(()),
-        Err(e) if is_absent(e.kind()) => Ok(()),
+        Ok(data) if data.is_dir() => {
+            fs::open(rt, folder)?.sync_all()?;
+            Ok(true)
+        }
+        Ok(_) => Ok(false),
+        Err(e) if is_absent(e.kind()) => Ok(false),
         Err(e) => Err(e),
-    }
-}
-
-/// Removes the file. The name may be absent.
-pub fn remove_name<R: Files>(rt: &R, path: &str) -> io::Result<()> {
-    match fs::remove_file(rt, path) {
-        Err(e) if !is_absent(e.kind()) => Err(e),
-        _ => Ok(()),
     }
 }

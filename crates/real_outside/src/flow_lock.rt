@@ -1,5 +1,6 @@
 //! A lock on a file, by which programs that work on one flow keep out of each other's way.
-use crate::files::{file_len, make_folders_of};
+use crate::files::file_len;
+use crate::synced_folders::SyncedFolders;
 use std::fs::{File, TryLockError};
 use std::io;
 use std::io::ErrorKind;
@@ -61,12 +62,16 @@ impl FlowLock {
     }
 
     /// Before each change: an error unless this program alone writes, or no file was synced yet.
-    pub fn claim<R: Files<File = File>>(&mut self, rt: &R) -> io::Result<()> {
+    pub fn claim<R: Files<File = File> + AllocGlobal>(
+        &mut self,
+        rt: &R,
+        synced: &mut SyncedFolders,
+    ) -> io::Result<()> {
         let Some(path) = &self.path else {
             return Ok(());
         };
         let standing = replace(&mut self.standing, Standing::Refused);
-        self.standing = claimed(rt, path.as_str(), standing)?;
+        self.standing = claimed(rt, synced, path.as_str(), standing)?;
         match self.standing {
             Standing::Held(_) => Ok(()),
             _ => Err(io::Error::from(ErrorKind::WouldBlock)),
@@ -74,9 +79,14 @@ impl FlowLock {
     }
 }
 
-fn claimed<R: Files<File = File>>(rt: &R, path: &str, standing: Standing) -> io::Result<Standing> {
+fn claimed<R: Files<File = File> + AllocGlobal>(
+    rt: &R,
+    synced: &mut SyncedFolders,
+    path: &str,
+    standing: Standing,
+) -> io::Result<Standing> {
     match standing {
-        Standing::Absent => begun(rt, path),
+        Standing::Absent => begun(rt, synced, path),
         Standing::Shared(file) => Ok(held(file)),
         other => Ok(other),
     }
@@ -110,14 +120,12 @@ fn held(file: File) -> Standing {
 }
 
 // Makes the file that wasn't there. One that has bytes by now is another program's.
-fn begun<R: Files<File = File>>(rt: &R, path: &str) -> io::Result<Standing> {
-    make_folders_of(rt, path)?;
-    file_len(rt, path)?;
-    let file = File::options()
-        .read(true)
-        .write(true)
-        .create(true)
-        .open(rt, path)?;
+fn begun<R: Files<File = File> + AllocGlobal>(
+    rt: &R,
+    synced: &mut SyncedFolders,
+    path: &str,
+) -> io::Result<Standing> {
+    let file = synced.open(rt, path)?;
     let standing = held(file);
     match file_len(rt, path)? {
         Some(0) => Ok(standing),

@@ -6,9 +6,11 @@ use crate::flow_lock::FlowLock;
 use crate::leftovers::clear_parts;
 use crate::owner::Owner;
 use crate::parts::Parts;
+use crate::synced_folders::SyncedFolders;
+use std::collections::BTreeSet;
 use std::fs::File;
-use std::io;
 use std::rt::Files;
+use std::{fs, io};
 
 /// The files, and which of them were begun anew and aren't in place yet.
 pub struct Folder<'a, R: Files<File = File> + AllocGlobal> {
@@ -16,8 +18,9 @@ pub struct Folder<'a, R: Files<File = File> + AllocGlobal> {
     owner: &'a Owner,
     lock: FlowLock,
     parts: Parts,
+    synced: SyncedFolders,
     // The folders in which what dead programs left was looked for.
-    cleared: Vec<String>,
+    cleared: BTreeSet<String>,
 }
 
 impl<'a, R: Files<File = File> + AllocGlobal> Drop for Folder<'a, R> {
@@ -27,6 +30,7 @@ impl<'a, R: Files<File = File> + AllocGlobal> Drop for Folder<'a, R> {
             owner: _,
             lock,
             mut parts,
+            synced: _,
             cleared: _,
         } = self;
         parts.move_all(rt);
@@ -42,7 +46,8 @@ impl<'a, R: Files<File = File> + AllocGlobal> Folder<'a, R> {
             owner,
             lock: FlowLock::new(),
             parts: Parts::new(rt.alloc()),
-            cleared: Vec::new(rt.alloc()),
+            synced: SyncedFolders::new(rt.alloc()),
+            cleared: BTreeSet::new(rt.alloc()),
         }
     }
 
@@ -63,29 +68,35 @@ impl<'a, R: Files<File = File> + AllocGlobal> Folder<'a, R> {
     pub fn write(&mut self, path: &str, at: u64, bytes: &[u8]) -> io::Result<()> {
         self.begin_change()?;
         if at == 0 && !self.parts.has(path) && !self.lock.is_on(path) {
-            files::make_folders_of(self.rt, path)?;
+            self.synced.make_for(self.rt, path)?;
             let (folder, _) = files::folder_of(path);
             self.clear(folder)?;
-            return self.parts.begin(self.rt, self.owner, path, bytes);
+            let synced = &mut self.synced;
+            return self.parts.begin(self.rt, self.owner, synced, path, bytes);
         }
-        let done = files::write_from(self.rt, self.parts.place_of(path), at, bytes);
+        let done = self.write_in_place(path, at, bytes);
         if done.is_err() {
             self.parts.forget(self.rt, path);
         }
         done
     }
 
+    fn write_in_place(&mut self, path: &str, at: u64, bytes: &[u8]) -> io::Result<()> {
+        let mut file = self.synced.open(self.rt, self.parts.place_of(path))?;
+        files::write_from(&mut file, at, bytes)
+    }
+
     // Before each change: no other program may work here, and what dead ones left goes.
     fn begin_change(&mut self) -> io::Result<()> {
-        self.lock.claim(self.rt)?;
+        self.lock.claim(self.rt, &mut self.synced)?;
         self.clear(".")
     }
 
     // Removes what dead programs left in a folder, the first time.
     fn clear(&mut self, folder: &str) -> io::Result<()> {
-        if !self.cleared.iter().any(|seen| seen.as_str() == folder) {
-            self.cleared
-                .push(String::from_str(self.rt.alloc(), folder)?)?;
+        if !self.cleared.contains(folder) {
+            let named = String::from_str(self.rt.alloc(), folder)?;
+            self.cleared.insert(named)?;
             clear_parts(self.rt, self.owner, folder);
         }
         Ok(())
@@ -102,19 +113,26 @@ impl<'a, R: Files<File = File> + AllocGlobal> Folder<'a, R> {
     }
 
     /// Makes what stands under the name outlive a crash, and puts it in place where it was begun.
+    /// Of the folders on the way it syncs those alone in which a name changed since their last sync.
     pub fn sync(&mut self, path: &str) -> io::Result<()> {
-        let settled = self.parts.settle(self.rt, path)?;
+        let settled = self.parts.settle(self.rt, &mut self.synced, path)?;
         self.lock.share(self.rt, path)?;
         if !settled {
             files::sync_file(self.rt, path)?;
         }
-        files::sync_folders(self.rt, path)
+        self.synced.sync(self.rt, path)
     }
 
     /// Removes the file. The name may be absent.
     pub fn remove(&mut self, path: &str) -> io::Result<()> {
         self.begin_change()?;
         self.parts.forget(self.rt, path);
-        files::remove_name(self.rt, path)
+        match fs::remove_file(self.rt, path) {
+            Err(e) if files::is_absent(e.kind()) => Ok(()),
+            removed => {
+                self.synced.name_changed(path);
+                removed
+            }
+        }
     }
 }

@@ -18,6 +18,7 @@ mod programs;
 mod script;
 mod shell_runner;
 mod stdout_sink;
+mod synced_folders;
 mod system_clock;
 
 pub use commands::System;

@@ -1,9 +1,10 @@
 //! Files that are written beside those whose place they take.
 ghost use Rattle.std.specs.Prelude.{◌<◌, IfSome, vec_len};
 
-use crate::files::{file_len, folder_of, is_absent, sync_folder, write_from};
+use crate::files::{file_len, folder_of, is_absent, write_from};
 use crate::leftovers::PART;
 use crate::owner::Owner;
+use crate::synced_folders::SyncedFolders;
 use std::alloc::Global;
 use std::fs::{File, OpenFile};
 use std::io::{ErrorKind, Write};
@@ -67,17 +68,20 @@ impl Parts {
         &mut self,
         rt: &R,
         owner: &Owner,
+        synced: &mut SyncedFolders,
         path: &str,
         bytes: &[u8],
     ) -> io::Result<()> {
-        let part = self.part_for(rt, owner, path)?;
+        let target = target_of(rt, synced, path)?;
+        let part = self.part_for(rt.alloc(), owner, path, target)?;
         let begun = fill_part(rt, &part, bytes);
         match begun {
             Ok(()) => self.keep(rt, part),
             Err(e) => {
                 drop_part(rt, &part);
                 if e.kind() == ErrorKind::PermissionDenied {
-                    return write_from(rt, path, 0, bytes);
+                    let mut file = synced.open(rt, path)?;
+                    return write_from(&mut file, 0, bytes);
                 }
                 Err(e)
             }
@@ -85,14 +89,13 @@ impl Parts {
     }
 
     // Where the bytes of a file are to stand until it is in place.
-    fn part_for<R: Files + AllocGlobal>(
+    fn part_for(
         &mut self,
-        rt: &R,
+        alloc: Global,
         owner: &Owner,
         path: &str,
+        target: String,
     ) -> io::Result<Part> {
-        let alloc = rt.alloc();
-        let target = target_of(rt, path)?;
         let (folder, name) = folder_of(target.as_str());
         let (host, process) = (owner.host(), owner.process());
         let mut place = format!(in alloc; "{folder}/.{name}.{host}.{process}{PART}")?;
@@ -118,14 +121,19 @@ impl Parts {
         Ok(())
     }
 
-    /// Puts the file in place as it stands, so that it outlives a crash, and tells whether it was
-    /// begun. At an error it is gone, and what it was to replace stands.
-    pub fn settle<R: Files>(&mut self, rt: &R, path: &str) -> io::Result<bool> {
+    /// Puts the file in place as it stands, and tells whether it was begun. Its bytes are synced
+    /// then, and its folder isn't yet. At an error it is gone, and what it was to replace stands.
+    pub fn settle<R: Files>(
+        &mut self,
+        rt: &R,
+        synced: &mut SyncedFolders,
+        path: &str,
+    ) -> io::Result<bool> {
         let Some(index) = self.position(path) else {
             return Ok(false);
         };
         let part = self.parts.swap_remove(index);
-        put_in_place(rt, &part)?;
+        put_in_place(rt, synced, &part)?;
         Ok(true)
     }
 
@@ -162,23 +170,26 @@ fn sync_part<R: Files>(rt: &R, part: &Part) -> io::Result<()> {
     fs::open(rt, part.place.as_str())?.sync_all()
 }
 
-fn put_in_place<R: Files>(rt: &R, part: &Part) -> io::Result<()> {
+fn put_in_place<R: Files>(rt: &R, synced: &mut SyncedFolders, part: &Part) -> io::Result<()> {
     if let Err(e) = sync_part(rt, part) {
         drop_part(rt, part);
         return Err(e);
     }
-    move_part(rt, part)?;
-    let (folder, _) = folder_of(part.target.as_str());
-    sync_folder(rt, folder)
+    synced.name_changed(part.target.as_str());
+    move_part(rt, part)
 }
 
 // The path of the file that is to change: where a link stands, what it points to.
-fn target_of<R: Files + AllocGlobal>(rt: &R, path: &str) -> io::Result<String> {
+fn target_of<R: Files + AllocGlobal>(
+    rt: &R,
+    synced: &mut SyncedFolders,
+    path: &str,
+) -> io::Result<String> {
     match fs::symlink_metadata(rt, path) {
         Ok(data) if data.is_symlink() => {
             if file_len(rt, path)?.is_none() {
                 // A link to nothing: the file that it is to point to has to be there to be found.
-                File::options().write(true).create(true).open(rt, path)?;
+                synced.open(rt, path)?;
             }
             Ok(fs::canonicalize(rt, path)?.into_string())
         }

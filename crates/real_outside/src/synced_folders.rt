@@ -1,0 +1,100 @@
+//! Which folders stand on the disk as they are.
+use crate::files::{file_len, folder_of, link_target, sync_folder};
+use std::alloc::Global;
+use std::collections::BTreeSet;
+use std::fs::{File, OpenFile};
+use std::rt::Files;
+use std::{fs, io};
+
+/// The folders that were synced since this program last made, replaced or removed a name in them.
+#[derive(Drop)]
+pub struct SyncedFolders {
+    folders: BTreeSet<String>,
+}
+
+impl SyncedFolders {
+    /// No folder: what an earlier program did there may not be on the disk yet.
+    pub fn new(alloc: Global) -> Self {
+        SyncedFolders {
+            folders: BTreeSet::new(alloc),
+        }
+    }
+
+    /// A name was made, replaced or removed: its folder is to be synced again.
+    pub fn name_changed(&mut self, path: &str) {
+        let (folder, _) = folder_of(path);
+        self.folders.remove(folder);
+    }
+
+    /// Opens a file to write to it. It makes the file and the folders that its name needs.
+    pub fn open<R: Files + AllocGlobal>(&mut self, rt: &R, path: &str) -> io::Result<R::File> {
+        self.make_for(rt, path)?;
+        let is_there = file_len(rt, path)?.is_some();
+        if !is_there {
+            self.name_changed(path);
+        }
+        let file = File::options().write(true).create(true).open(rt, path)?;
+        if !is_there {
+            self.target_made(rt, path)?;
+        }
+        Ok(file)
+    }
+
+    // Where the name is a link, the file to which it points was made.
+    fn target_made<R: Files + AllocGlobal>(&mut self, rt: &R, path: &str) -> io::Result<()> {
+        if let Some(target) = link_target(rt, path)? {
+            self.name_changed(target.as_str());
+        }
+        Ok(())
+    }
+
+    /// Makes the folders that a name needs.
+    pub fn make_for<R: Files>(&mut self, rt: &R, path: &str) -> io::Result<()> {
+        for end in 1..path.len() {
+            if let Some((folder, rest)) = path.split_at_checked(end)
+                && rest.starts_with('/')
+                && !is_folder(rt, folder)
+            {
+                self.name_changed(folder);
+                fs::create_dir_all(rt, folder)?;
+            }
+        }
+        Ok(())
+    }
+
+    /// Syncs each folder on the way to a name, and that of the file to which it is a link, unless
+    /// they are synced: a new or a removed name is durable only once the folder that holds it is.
+    pub fn sync<R: Files + AllocGlobal>(&mut self, rt: &R, path: &str) -> io::Result<()> {
+        for end in 1..path.len() {
+            if let Some((folder, rest)) = path.split_at_checked(end)
+                && rest.starts_with('/')
+            {
+                self.sync_one(rt, folder)?;
+            }
+        }
+        self.sync_one(rt, ".")?;
+        if let Some(target) = link_target(rt, path)? {
+            let (folder, _) = folder_of(target.as_str());
+            self.sync_one(rt, folder)?;
+        }
+        Ok(())
+    }
+
+    // A folder that isn't there, or whose sync fails, isn't taken for synced.
+    fn sync_one<R: Files + AllocGlobal>(&mut self, rt: &R, folder: &str) -> io::Result<()> {
+        if !self.folders.contains(folder) {
+            let named = String::from_str(rt.alloc(), folder)?;
+            if sync_folder(rt, folder)? {
+                self.folders.insert(named)?;
+            }
+        }
+        Ok(())
+    }
+}
+
+fn is_folder<R: Files>(rt: &R, path: &str) -> bool {
+    match fs::metadata(rt, path) {
+        Ok(data) => data.is_dir(),
+        Err(_) => false,
+    }
+}
