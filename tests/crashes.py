@@ -441,6 +441,9 @@ def crash_images():
         place.close()
 
 
+RULES_TO_COUNT = 40
+
+
 def syncs_behind(lines, disk):
     """What is written, the log or a part file, and how often a file and a folder are synced behind that, in order. A record
     of the log is written in two steps, the second one of a byte."""
@@ -468,9 +471,6 @@ def too_many(found, records):
              if it.kind in ("started", "done") and files + folders > 2]
     return wrong + [f"{files} syncs of files and {folders} of folders for {name}" for name, files, folders in behind_parts
                     if files > 1 or folders > 1 + name.startswith("new")]
-
-
-RULES_TO_COUNT = 40
 
 
 def syncs():
