@@ -43,33 +43,38 @@ def files_of(place):
     return {name: it[-1] for name, it in seen(place.work).items() if it[0] == "file" and name != USUAL_LOG}
 
 
-def wrong_resume(place, rules, wanted, words=("flow",)):
-    """Resumes, and says what differs from a serial run, what is left behind, and what the log may not have."""
-    wrong = [f"the resume: {it}" for it in outcome(place.start(words), 0, complete(len(rules)))]
+def wrong_resume(place, rules, wanted, words=("flow",), collected=0, stay=None, bounds=None):
+    """Resumes, and says what differs from a serial run, what is left behind, and what the log may not have. Where files are
+    collected, `stay` tells by the records which of them may be there all the same, each with the contents that it may have."""
+    names = [(inputs, outs) for _, inputs, outs in rules]
+    wrong = [f"the resume: {it}" for it in outcome(place.start(words), 0, complete(len(rules), collected))]
     found = files_of(place)
-    for name in sorted({*wanted, *found}):
-        if found.get(name) != wanted.get(name):
-            wrong.append(f"{name} is {short(found.get(name))}, not {short(wanted.get(name))}")
     left = os.listdir(place.tmp)
     wrong += [f"left under the temporary folder: {left}"] if left else []
     try:
         records = logs.read(content_of(f"{place.work}/{USUAL_LOG}"))
     except (logs.Damaged, OSError) as it:
         return [*wrong, f"the log: {it}"]
-    bad = logs.illegal(records, [(inputs, outs) for _, inputs, outs in rules])
+    more = stay(records) if stay else {}
+    for name in sorted({*wanted, *found}):
+        if found.get(name) not in (wanted.get(name), *more.get(name, ())):
+            wrong.append(f"{name} is {short(found.get(name))}, not {short(wanted.get(name))}")
+    bad = logs.illegal(records, names, bounds)
     wrong += [f"the log: {bad}"] if bad else []
     wrong += [] if logs.kinds(records)[-1:] == ["ended complete"] else [f"the log ends with {logs.kinds(records)[-1:]}"]
-    return wrong + [f"the printed log: {it}" for it in outcome(place.start(("--print-log", *words)), 0, logs.printed(records, len(rules)))]
+    printed = logs.printed(records, len(rules), logs.Store(names).names)
+    return wrong + [f"the printed log: {it}" for it in outcome(place.start(("--print-log", *words)), 0, printed)]
 
 
 class Kills:
-    """Trials by several threads, until there were enough kills of each kind or the time is over."""
+    """Trials by several threads, until there were enough kills of each kind or the time is over. `wanted` has what each
+    rule makes, and `judge` tells what is wrong with a place whose run was killed."""
 
-    def __init__(self, rules, files, wanted, whole, under, like):
-        self.rules, self.files, self.wanted, self.whole, self.under, self.like = rules, files, wanted, whole, under, like
+    def __init__(self, files, wanted, whole, under, like, judge, words=("flow",), seconds=KILL_SECONDS):
+        self.files, self.wanted, self.whole, self.under, self.like, self.judge, self.words = files, wanted, whole, under, like, judge, words
         self.lock, self.wrong, self.random = threading.Lock(), [], random.Random(18)
         self.begun, self.count, self.late = {True: 0, False: 0}, {True: 0, False: 0}, 0
-        self.until = time.monotonic() + KILL_SECONDS
+        self.until = time.monotonic() + seconds
 
     def next(self):
         """Whether the next kill is of the program alone, and when it comes; nothing where all is done. Behind every fifth
@@ -82,10 +87,9 @@ class Kills:
             again = self.begun[alone] % 5 == 0
             return alone, [self.random.uniform(0, self.whole / (at + 1)) for at in range(2 if again else 1)]
 
-    @staticmethod
-    def kill(place, alone, moment):
+    def kill(self, place, alone, moment):
         """Starts the program, kills it, and answers whether that came in time."""
-        started = place.start(stdout=subprocess.DEVNULL)
+        started = place.start(self.words, stdout=subprocess.DEVNULL)
         time.sleep(moment)
         try:
             (os.kill if alone else os.killpg)(started.pid, signal.SIGKILL)
@@ -104,7 +108,7 @@ class Kills:
             found = files_of(place)
             half = [f"{name} is half written: {short(found[name])}" for name, content in self.wanted.items()
                     if name in found and found[name] not in (content, self.files.get(name, "").encode())]
-            wrong = half + wrong_resume(place, self.rules, self.wanted)
+            wrong = half + self.judge(place)
             with self.lock:
                 self.count[alone] += 1
                 self.wrong += [f"a kill of the program {'alone' if alone else 'and its jobs'} after {' and '.join(f'{it:.3f}' for it in moments)} s: {it}" for it in wrong]
@@ -118,6 +122,15 @@ class Kills:
         except Exception as it:
             with self.lock:
                 self.wrong.append(f"the test itself failed: {it!r}")
+
+    def run(self):
+        """How many kills of each kind came, and what was wrong."""
+        with ThreadPoolExecutor(AT_ONCE) as pool:
+            for _ in range(AT_ONCE):
+                pool.submit(self.work)
+        alone, both = self.count[True], self.count[False]
+        few = [] if min(alone, both) >= 5 else ["too few kills came in time"]
+        return f"{alone} kills of the program alone and {both} of program and jobs, within a run of {self.whole:.1f} s", self.wrong + few
 
 
 def kills():
@@ -133,15 +146,9 @@ def kills():
         if wrong or wanted != serial(rules, files):
             say("a run of 60 rules that write in two steps", wrong or ["its files aren't those of a serial run by the shell"])
             return
-        trials = Kills(rules, files, wanted, whole, under, place)
-        with ThreadPoolExecutor(AT_ONCE) as pool:
-            for _ in range(AT_ONCE):
-                pool.submit(trials.work)
+        say(*Kills(files, wanted, whole, under, place, lambda it: wrong_resume(it, rules, wanted)).run())
     finally:
         place.close()
-    alone, both = trials.count[True], trials.count[False]
-    few = [] if min(alone, both) >= 5 else ["too few kills came in time"]
-    say(f"{alone} kills of the program alone and {both} of program and jobs, within a run of {whole:.1f} s", trials.wrong + few)
 
 
 def serial(rules, files):
@@ -382,63 +389,73 @@ def traced(place, words=("flow",)):
     return content_of(trace).decode().splitlines()
 
 
-RULES_TO_CRASH = [("cat s > a", ["s"], ["a"]), ("cat a s > d/b; echo more > c", ["a", "s"], ["d/b", "c"]), ("cat a d/b c > e", ["a", "d/b", "c"], ["e"])]
-FILES_TO_CRASH = {"s": "abc\n", "flow": text_of(RULES_TO_CRASH), "a": "an old file, which is longer", "e": "old"}
-FILES_MADE = {it: text.encode() for it, text in {**FILES_TO_CRASH, "a": "abc\n", "d/b": "abc\nabc\n", "c": "more\n", "e": "abc\nabc\nabc\nmore\n"}.items()}
+class Crashes:
+    """A flow whose run is traced: its rules and files, what its rules make, which of that is there at the end (all of it where
+    nothing else is said), and how it is resumed, as `wrong_resume` takes it."""
 
+    def __init__(self, rules, files, made, end=None, words=("flow",), bounds=None, **resume):
+        self.rules, self.files, self.words, self.resume = rules, {**files, "flow": text_of(rules, bounds)}, words, {**resume, "bounds": bounds}
+        self.made = {it: text.encode() for it, text in {**self.files, **made}.items()}
+        self.end = {it: text for it, text in self.made.items() if end is None or it in end or it not in made}
+        self.under = memory_folder()
 
-def explained(disk, place):
-    """What of a finished run the calls that were seen don't explain, or what it left unsynced."""
-    real = {it: data[-1] if data[0] == "file" else None for it, data in seen(place.work).items()}
-    wrong = [] if disk.image(disk.names, disk.bytes) == real else ["the calls that were seen don't explain the files that were made"]
-    wrong += [] if disk.image(disk.kept, disk.synced) == real else ["at the end not all was synced"]
-    return wrong + ([] if files_of(place) == FILES_MADE else [f"the run made {short(files_of(place))}"])
+    def explained(self, disk, place):
+        """What of a finished run the calls that were seen don't explain, or what it left unsynced."""
+        real = {it: data[-1] if data[0] == "file" else None for it, data in seen(place.work).items()}
+        synced = {it: content for it, content in disk.image(disk.kept, disk.synced).items() if it in real or it not in self.made}
+        wrong = [] if disk.image(disk.names, disk.bytes) == real else ["the calls that were seen don't explain the files that were made"]
+        wrong += [] if synced == real else ["at the end not all was synced"]
+        return wrong + ([] if files_of(place) == self.end else [f"the run made {short(files_of(place))}"])
 
+    def resumed(self, image, where, like):
+        """What is wrong with a run over what a crash left."""
+        wrong = [f"{it} is half written: {short(content)}" for it, content in image
+                 if content is not None and it in self.made and content not in (self.made[it], self.files.get(it, "").encode())]
+        place = Place({it: content for it, content in image if content is not None}, self.under, like)
+        try:
+            for it, content in image:
+                if content is None:
+                    os.makedirs(f"{place.work}/{it}", exist_ok=True)
+            place.give()
+            wrong += wrong_resume(place, self.rules, self.end, self.words, **self.resume)
+        except Exception as it:
+            wrong.append(f"the test itself failed: {it!r}")
+        finally:
+            place.close()
+        return [f"{where}: {it}" for it in wrong]
 
-def resumed(image, where, under, like):
-    """What is wrong with a run over what a crash left."""
-    wrong = [f"{it} is half written: {short(content)}" for it, content in image
-             if content is not None and it in FILES_MADE and content not in (FILES_MADE[it], FILES_TO_CRASH.get(it, "").encode())]
-    place = Place({it: content for it, content in image if content is not None}, under, like)
-    try:
-        for it, content in image:
-            if content is None:
-                os.makedirs(f"{place.work}/{it}", exist_ok=True)
-        place.give()
-        wrong += wrong_resume(place, RULES_TO_CRASH, FILES_MADE)
-    except Exception as it:
-        wrong.append(f"the test itself failed: {it!r}")
-    finally:
-        place.close()
-    return [f"{where}: {it}" for it in wrong]
+    def run(self, name):
+        """Traces a run, and resumes what a crash may leave before and behind each of its calls."""
+        if not shutil.which("strace"):
+            print(f"skipped {name}: strace isn't installed", flush=True)
+            return
+        place = Place(self.files)
+        try:
+            lines = traced(place, self.words)
+            if lines is None:
+                print(f"skipped {name}: strace can't trace here", flush=True)
+                return
+            disk = Disk(place.work, {it: content.encode() for it, content in self.files.items()})
+            try:
+                met = images_of(lines, disk)
+            except (ValueError, AttributeError, KeyError, TypeError) as it:
+                say(name, [f"a call that isn't understood: {it!r}"])
+                return
+            wrong = self.explained(disk, place)
+            with ThreadPoolExecutor(AT_ONCE) as pool:
+                for found in pool.map(lambda it: self.resumed(*it, place), met.items()):
+                    wrong += found
+            changes = sum(bool(re.match("write|ftrunc|fsync|fdatasync|rename|unlink|mkdir", it)) for it in lines)
+            say(f"{name}: {len(met)} images of {changes} calls that write, sync, rename or remove", wrong)
+        finally:
+            place.close()
 
 
 def crash_images():
     """What a crash may leave before and behind each call by which the program changes or syncs a file, resumed."""
-    name = "what a crash may leave"
-    if not shutil.which("strace"):
-        print(f"skipped {name}: strace isn't installed", flush=True)
-        return
-    place, under = Place(FILES_TO_CRASH), memory_folder()
-    try:
-        lines = traced(place)
-        if lines is None:
-            print(f"skipped {name}: strace can't trace here", flush=True)
-            return
-        disk = Disk(place.work, {it: content.encode() for it, content in FILES_TO_CRASH.items()})
-        try:
-            met = images_of(lines, disk)
-        except (ValueError, AttributeError, KeyError, TypeError) as it:
-            say(name, [f"a call that isn't understood: {it!r}"])
-            return
-        wrong = explained(disk, place)
-        with ThreadPoolExecutor(AT_ONCE) as pool:
-            for found in pool.map(lambda it: resumed(*it, under, place), met.items()):
-                wrong += found
-        changes = sum(bool(re.match("write|ftrunc|fsync|fdatasync|rename|unlink|mkdir", it)) for it in lines)
-        say(f"{name}: {len(met)} images of {changes} calls that write, sync, rename or remove", wrong)
-    finally:
-        place.close()
+    rules = [("cat s > a", ["s"], ["a"]), ("cat a s > d/b; echo more > c", ["a", "s"], ["d/b", "c"]), ("cat a d/b c > e", ["a", "d/b", "c"], ["e"])]
+    made = {"a": "abc\n", "d/b": "abc\nabc\n", "c": "more\n", "e": "abc\nabc\nabc\nmore\n"}
+    Crashes(rules, {"s": "abc\n", "a": "an old file, which is longer", "e": "old"}, made).run("what a crash may leave")
 
 
 RULES_TO_COUNT = 40

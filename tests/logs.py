@@ -156,10 +156,10 @@ def part_of(records):
 
 
 def kinds(records):
-    """What happened, without moments: `started 0 0` is the start of rule 0 as attempt 0."""
+    """What happened, without moments: `started 0 0` is the start of rule 0 as attempt 0, `dropped 3` the drop of file 3."""
     shown = []
     for it in records:
-        more = [it.rule, it.attempt] if it.kind in OF_RULES else [it.end] if it.kind == "ended" else []
+        more = [it.rule, it.attempt] if it.kind in OF_RULES else [it.end] if it.kind == "ended" else [it.file] if it.kind == "dropped" else []
         shown.append(" ".join(map(str, [it.kind, *more])))
     return shown
 
@@ -211,31 +211,97 @@ def printed(records, total, names=()):
     return "".join(f"{it}\n" for it in lines)
 
 
-def illegal(records, rules):
-    """The first record that may not stand where it does, as text, or nothing. A rule is its inputs and its outputs, by
-    name; no limit is given and nothing is collected. That a rule that is started has all it takes in is asked too."""
-    makers = {name: number for number, (_, outs) in enumerate(rules) for name in outs}
+class Store:
+    """Which files that rules make are there by the records so far, what they take, and which are free. A rule is its inputs
+    and its outputs, by name; `bounds` has the stated sizes, `kept` the files that are kept though a rule takes them in."""
+
+    def __init__(self, rules, bounds=None, kept=()):
+        self.rules, self.bounds = rules, bounds or {}
+        self.makers = {name: number for number, (_, outs) in enumerate(rules) for name in outs}
+        self.takers = {name: set() for names in rules for name in [*names[0], *names[1]]}
+        for number, (inputs, _) in enumerate(rules):
+            for name in inputs:
+                self.takers[name].add(number)
+        self.names = sorted(self.takers, key=str.encode)
+        self.kept = {*kept, *(name for name in self.makers if not self.takers[name])}
+        self.clear()
+
+    def clear(self):
+        self.present, self.complete, self.running, self.limit = {}, set(), set(), None
+
+    def note(self, it):
+        if it.kind in ("opened", "resumed"):
+            self.running, self.limit = set(), it.limit
+        elif it.kind == "started":
+            self.running.add(it.rule)
+        elif it.kind == "dropped":
+            self.present.pop(self.names[it.file])
+        elif it.kind in OF_RULES:
+            self.running.discard(it.rule)
+            if it.kind == "done":
+                self.complete.add(it.rule)
+                self.present |= {name: size for name, (size, _) in zip(self.rules[it.rule][1], it.outs)}
+        elif it.end == "cleaned":
+            self.clear()
+
+    def bound(self, rule):
+        return min(sum(self.bounds.get(name, MOST_OUTPUT) for name in self.rules[rule][1]), MOST_OUTPUT)
+
+    def within(self, rule, sizes):
+        """Whether outputs of these sizes keep their bounds."""
+        outs = self.rules[rule][1]
+        each = all(size <= self.bounds.get(name, MOST_OUTPUT) for name, size in zip(outs, sizes))
+        return len(sizes) == len(outs) and each and sum(sizes) <= self.bound(rule)
+
+    def stored(self):
+        return sum(self.present.values())
+
+    def taken(self):
+        """What is stored, and what the rules that run may come to write."""
+        return self.stored() + sum(map(self.bound, self.running))
+
+    def fits(self, rule):
+        return self.limit is None or self.taken() + self.bound(rule) <= self.limit
+
+    def is_ready(self, rule):
+        return rule not in self.complete | self.running and all(name in self.present for name in self.rules[rule][0] if name in self.makers)
+
+    def ready(self):
+        return [it for it in range(len(self.rules)) if self.is_ready(it)]
+
+    def free(self):
+        return [name for name in self.names if name in self.present and name not in self.kept and self.takers[name] <= self.complete]
+
+
+def illegal(records, rules, bounds=None, kept=()):
+    """The first record that may not stand where it does, as text, or nothing. Rules, bounds and kept files are those of a
+    Store."""
     runs = attempts = 0
-    part, states, open_attempt, ended = [], States(len(rules)), {}, False
+    part, states, store, open_attempt, ended = [], States(len(rules)), Store(rules, bounds, kept), {}, False
 
     def allowed(it):
         if it.kind in ("opened", "resumed"):
-            return it.run == runs and (it.kind == "opened") == (not part)
+            return it.run == runs and (it.kind == "opened") == (not part) and (it.limit is None or store.stored() <= it.limit)
         if not part:
             return False
         if it.kind == "started":
-            ready = all(name not in makers or states.state[makers[name]] == 2 for name in rules[it.rule][0])
-            return not ended and not states.counts[3] and states.state[it.rule] == 0 and ready and it.attempt == attempts and it.link == 0
+            may = not ended and not states.counts[3] and states.state[it.rule] == 0
+            return may and store.is_ready(it.rule) and store.fits(it.rule) and it.attempt == attempts and it.link == 0
         if it.kind in OF_RULES:
-            return open_attempt.get(it.rule) == it.attempt and (it.kind != "done" or len(it.outs) == len(rules[it.rule][1]))
-        if it.kind == "ended" and it.end != "cleaned":
-            fits = {"complete": states.counts[2] == len(rules), "failed": states.counts[3] > 0}
+            runs_so = open_attempt.get(it.rule) == it.attempt
+            return runs_so and (it.kind != "done" or store.within(it.rule, [size for size, _ in it.outs]))
+        if it.kind == "dropped":
+            return store.names[it.file] in store.free()
+        if it.end != "cleaned":
+            ready = store.ready()
+            fits = {"complete": states.counts[2] == len(rules), "failed": states.counts[3] > 0, "no room": bool(ready) and not any(map(store.fits, ready))}
             return not ended and not states.counts[1] and fits.get(it.end, True)
-        return it.kind == "ended"
+        return True
 
     for at, it in enumerate(records):
         if not allowed(it):
             return f"record {at} ({kinds([it])[0]}) may not stand there"
+        store.note(it)
         if it.kind == "ended" and it.end == "cleaned":
             part, states, open_attempt, ended = [], States(len(rules)), {}, False
             continue
@@ -249,7 +315,7 @@ def illegal(records, rules):
             open_attempt[it.rule] = it.attempt
         elif it.kind in OF_RULES:
             open_attempt.pop(it.rule)
-        else:
+        elif it.kind == "ended":
             ended = True
     return None
 
@@ -284,7 +350,7 @@ def wrong_end(data, status):
         records = read(data)
     except Damaged as it:
         return [str(it)]
-    wanted = {0: ("complete", "cleaned"), 1: ("failed",), 6: ("inputs too large",)}.get(status)
+    wanted = {0: ("complete", "cleaned"), 1: ("failed",), 6: ("inputs too large", "no room")}.get(status)
     last = kinds(records)[-1:]
     if wanted and (not last or last[0] not in [f"ended {it}" for it in wanted]):
         return [f"its log ends with {last}"]

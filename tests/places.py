@@ -30,13 +30,14 @@ def flow(command, head="out: in"):
     return f"{head}\n\t{command}\n"
 
 
-def text_of(rules):
-    """Rules (command, inputs, outputs) as a flow."""
-    return "".join(f"{' '.join(outs)}: {' '.join(inputs)}\n\t{command}\n" for command, inputs, outs in rules)
+def text_of(rules, bounds=None):
+    """Rules (command, inputs, outputs) as a flow, with the sizes that are stated."""
+    sizes = "".join(f".SIZE {name} {size}\n" for name, size in (bounds or {}).items())
+    return sizes + "".join(f"{' '.join(outs)}: {' '.join(inputs)}\n\t{command}\n" for command, inputs, outs in rules)
 
 
-def complete(rules):
-    return f"makeflow: complete, {rules} rules, 0 files collected\n"
+def complete(rules, collected=0):
+    return f"makeflow: complete, {rules} rules, {collected} files collected\n"
 
 
 def other_user():

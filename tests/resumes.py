@@ -26,13 +26,13 @@ class Course:
     """Calls one after another in one place: `with Course(..) as it:`. All that is wrong is said together at its end, by
     the step. ROOM in a command is the folder around the place, where a command finds what no rule names."""
 
-    def __init__(self, name, files, rules, made, log=USUAL_LOG, **how):
+    def __init__(self, name, files, rules, made, log=USUAL_LOG, bounds=None, **how):
         self.name, self.made, self.log, self.found = name, made, log, []
         self.place = Place({"flow": "", **files}, **how)
         self.plan = [(command.replace("ROOM", self.place.room), inputs, outs) for command, inputs, outs in rules]
-        self.rules = [(inputs, outs) for _, inputs, outs in rules]
+        self.rules, self.bounds = [(inputs, outs) for _, inputs, outs in rules], bounds or {}
         if rules:
-            self.put("flow", text_of(self.plan))
+            self.put("flow", text_of(self.plan, self.bounds))
 
     def __enter__(self):
         return self
@@ -92,14 +92,14 @@ class Course:
             self.note(step, [f"the log had {logs.kinds(old)} and has {logs.kinds(new)}"])
         elif adds is not None and grown != adds:
             self.note(step, [f"it logged {grown}, not {adds}"])
-        bad = logs.illegal(new, self.rules)
+        bad = logs.illegal(new, self.rules, self.bounds)
         self.note(step, [bad] if bad else [])
         self.print_log(f"the log printed after {step}", words)
 
     def print_log(self, step, words=("flow",)):
         """The printed log is that of the records, and printing changes no file."""
         before, data = self.looked(), self.data()
-        printed = logs.printed(self.records(), len(self.rules))
+        printed = logs.printed(self.records(), len(self.rules), logs.Store(self.rules).names)
         words = [it for it in words if it != "-c"]
         self.note(step, outcome(self.place.start(["--print-log", *words]), 0, printed))
         begun = self.data() != data and len(data) <= 9 and len(self.data()) == 9
