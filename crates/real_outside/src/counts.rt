@@ -1,7 +1,9 @@
 //! How the objects count what the system refused.
-ghost use Rattle.std.specs.Prelude.{◌≡◌, ◌<◌, ◌-◌, ◌^◌, Ok, IfOk};
+ghost use Rattle.std.specs.Prelude.{◌≡◌, ◌<◌, ◌-◌, ◌^◌, Ok, IfOk, IfErr};
 ghost use Rattle.outside.specs.Causes.{HasCause, IsAmple};
+ghost use Rattle.outside.specs.Jobs.{CountsFailure};
 
+use flow_types::Outcome;
 use outside::{Fault, failed};
 use std::io;
 use std::io::ErrorKind;
@@ -27,4 +29,20 @@ pub fn counted_or_memory<T>(count: &mut u64, answer: io::Result<T>) -> Result<T,
         Err(e) if e.kind() == ErrorKind::OutOfMemory => Err(Fault::Memory),
         answer => counted(count, answer),
     }
+}
+
+/// What a command came to, a failed one counted: want of memory where the count stands at its last
+/// value.
+pub fn failure_counted(failures: &mut u64, outcome: Outcome) -> Result<Outcome, Fault>
+    ensures failures { CountsFailure failures.old failures.new result }
+    ensures value { IfOk result (λ told. told ≡ outcome) }
+    ensures memory { IfErr result (λ fault. fault ≡ Fault.Memory) }
+{
+    if let Outcome::Failed(_) = outcome {
+        if *failures == u64::MAX {
+            return Err(Fault::Memory);
+        }
+        *failures += 1;
+    }
+    Ok(outcome)
 }

@@ -2,7 +2,7 @@
 ghost use Rattle.std.specs.Prelude.{IfOk};
 ghost use Rattle.outside.specs.Jobs.{IsShaped};
 
-use crate::counts::counted_or_memory;
+use crate::counts::{counted_or_memory, failure_counted};
 use crate::files::folder_of;
 use crate::job_folder::{clear_folders, fill_folder, new_folder, remove_folder};
 use crate::outputs::take_outputs;
@@ -150,13 +150,7 @@ impl<'a, F: Commands, R: Files + Env + Processes + AllocGlobal + Sync> Runner<F>
         }
         let answer = run_job(self.rt, alloc, self.owner, job);
         let outcome = counted_or_memory(&mut self.faults, answer)?;
-        if let Outcome::Failed(_) = outcome {
-            if self.failures == u64::MAX {
-                return Err(Fault::Memory);
-            }
-            self.failures += 1;
-        }
-        Ok(outcome)
+        failure_counted(&mut self.failures, outcome)
     }
 
     fn faults(&self) -> u64 {
