@@ -1,0 +1,45 @@
+-- What a table keeps step by step: the counts of what takes its files in, and the account of its storage.
+use Rattle.std.specs.Prelude.{◌≡◌, ℕ, true, List, length, Option, is_some, slice_index_or, sum_by}
+use Rattle.std.specs.Option.{option_map_or}
+use Rattle.flow_types.specs.declared.plan.Plan.{Plan}
+use Rattle.flow_types.specs.Plans.{made_files, maker_of}
+use Rattle.run_history.specs.declared.states.FileState.{FileState}
+use Rattle.run_history.specs.declared.states.FileState.TheVariants as file
+use Rattle.run_history.specs.Storage.{size_in}
+use Rattle.gc_refcount.specs.Counting.{Counting, is_made, is_present}
+use Rattle.storage_limit.specs.Holdings.{Holdings}
+use Rattle.task_core.specs.declared.rows.RuleRow.{RuleRow}
+use Rattle.task_core.specs.Known.{Known, reserved_sum, stored_sum}
+use Rattle.task_core.specs.States.{IsTable, TableState, blank_row, known_in}
+
+-- the state of file f among these
+abbrev pub state_in : List FileState → ℕ → FileState
+state_in states f = slice_index_or states f file.Absent
+
+-- the size of file f among these states, where it is present
+abbrev pub size_of : List FileState → ℕ → Option ℕ
+size_of states f = size_in (state_in states f)
+
+-- the bytes of file f among these states, none where it isn't present
+abbrev pub bytes_in : List FileState → ℕ → ℕ
+bytes_in states f = option_map_or (λ size. size) (size_of states f) 0
+
+-- the bytes of the made files that are present among these states
+abbrev pub stored_in : Plan → List FileState → ℕ
+stored_in P states = sum_by (bytes_in states) (made_files P)
+
+-- what the storage holds, as a table knows it
+abbrev pub holdings_of : Known → Holdings
+holdings_of K = record { limit = K.limit; stored = stored_sum K; reserved = reserved_sum K }
+
+-- The counts say which rules are done and which of the files that rules make are present.
+pub record AreMirrored (C : Counting) (P : Plan) (rows : List RuleRow) (states : List FileState) : Type 0 where
+  pub plan : C.plan ≡ P
+  pub rules : length C.made ≡ length P.rules
+  pub files : length C.present ≡ length P.files
+  pub done : (r : ℕ) → is_made C r ≡ (slice_index_or rows r blank_row).done
+  pub present : (f : ℕ) → is_some (maker_of P f) ≡ true → is_present C f ≡ is_some (size_of states f)
+
+-- What holds of every table with the counts and the account that it keeps.
+abbrev pub IsKept : TableState → Counting → Holdings → Type 0
+IsKept t C A = IsTable t × AreMirrored C t.plan t.rules t.files × (A ≡ holdings_of (known_in t))
