@@ -3,15 +3,25 @@ use Rattle.std.proofs.Common.{◌≡◌, ◌≢◌, ◌∙◌, ℕ, zero, suc, B
 use Rattle.std.specs.Prelude.{◌==◌, is_some, slice_get, unwrap_or}
 use Rattle.std.proofs.lemmas.Bool.{eqb-false, or_left, or_right}
 use Rattle.flow_types.specs.declared.plan.Plan.{Plan}
+use Rattle.flow_types.specs.declared.records.Record.{Record}
 use Rattle.flow_types.specs.Plans.{IsValid, contains_number, makes}
 use Rattle.flow_types.proofs.SerialRun.{has-makers}
+use Rattle.run_history.specs.Links.{records_of}
+use Rattle.run_history.specs.Storage.{is_complete}
+use Rattle.run_history.proofs.Steps.{complete-is}
 use Rattle.outside.specs.Disk.{IsImage, Outcomes}
 use Rattle.outside.specs.Files.{Files}
 use Rattle.outside.proofs.Moments.{weakened}
+use Rattle.desk.specs.Collections.{IsUncollected}
 use Rattle.desk.specs.Kept.{IsElse, ReadsStay, StaysBeside}
+use Rattle.desk.specs.State.{DeskState}
+use Rattle.desk.proofs.Collected.{freed}
 use Rattle.desk.proofs.Others.{by_within, then_stays}
 use Rattle.desk.proofs.Quiets.{no_call}
-use Rattle.local_run.specs.Course.{IsUnmade, LeavesAlone}
+use Rattle.desk.proofs.Removing.{chosen-free}
+use Rattle.local_run.specs.Collecting.{IsUntouched}
+use Rattle.local_run.specs.Course.{LeavesAlone}
+use Rattle.local_run.proofs.Collecting.{present_uncollected, undone_uncollected}
 
 module _ {S : Type 0} (files : S → Files) (may_leave : S → Outcomes) (moment : S → ℕ) (images_since : S → ℕ → Files → Type 0) where
   -- no call
@@ -47,14 +57,14 @@ module _ {S : Type 0} (files : S → Files) (may_leave : S → Outcomes) (moment
   }
 
   -- a call that only reads
-  pub reads_alone : (P : Plan) (log : List ℕ) (old new : S) → LeavesAlone files may_leave moment images_since (λ m. Unit {0}) old new
-      → LeavesAlone files may_leave moment images_since (IsUnmade P log) old new
-  reads_alone P log old new alone = alone_less (λ m. Unit {0}) (IsUnmade P log) old new (λ m other. tt) alone.crash alone.reads
+  pub reads_alone : (P : Plan) (log : List ℕ) (H : List Record) (old new : S) → LeavesAlone files may_leave moment images_since (λ m. Unit {0}) old new
+      → LeavesAlone files may_leave moment images_since (IsUntouched P log H) old new
+  reads_alone P log H old new alone = alone_less (λ m. Unit {0}) (IsUntouched P log H) old new (λ m other. tt) alone.crash alone.reads
 
   -- a call that writes to the log alone
-  pub log_alone : (P : Plan) (log : List ℕ) (old new : S) → StaysBeside may_leave moment images_since (λ m. m ≢ log) old new → ReadsStay files (λ m. m ≢ log) old new
-      → LeavesAlone files may_leave moment images_since (IsUnmade P log) old new
-  log_alone P log old new stays reads = alone_less (λ m. m ≢ log) (IsUnmade P log) old new (λ m other. other.0) stays reads
+  pub log_alone : (P : Plan) (log : List ℕ) (H : List Record) (old new : S) → StaysBeside may_leave moment images_since (λ m. m ≢ log) old new → ReadsStay files (λ m. m ≢ log) old new
+      → LeavesAlone files may_leave moment images_since (IsUntouched P log H) old new
+  log_alone P log H old new stays reads = alone_less (λ m. m ≢ log) (IsUntouched P log H) old new (λ m other. other.0) stays reads
 
 itself : (n : ℕ) → (n == n) ≡ true
 itself n = by_itself (n == n) refl
@@ -68,13 +78,26 @@ contains_at [] k f is = absurd (true≢false (sym (ap is_some is)))
 contains_at (x ∷ xs) zero f is = or_left (x == f) (contains_number f xs) (ap (λ y. y == f) (ap (λ o. unwrap_or o x) is) ∙ itself f)
 contains_at (x ∷ xs) (suc k) f is = or_right (x == f) (contains_number f xs) (contains_at xs k f is)
 
--- a name of no made file is that of no output of a rule
-pub unmade_else : (P : Plan) (log : List ℕ) (r : ℕ) → IsValid P → (m : List ℕ) → IsUnmade P log m → IsElse P log (makes P r) m
-unmade_else P log r valid m unmade = (unmade.0, λ k f is. unmade.1 f (ap is_some (has-makers P valid r f (contains_at (makes P r) k f is))))
+-- a name that isn't touched is that of no output of a rule that isn't done
+pub untouched_else : (P : Plan) (log : List ℕ) (H : List Record) (r : ℕ) → IsValid P → is_complete H r ≡ false → (m : List ℕ) → IsUntouched P log H m → IsElse P log (makes P r) m
+untouched_else P log H r valid undone m untouched =
+    (untouched.0, λ k f is. let maker = has-makers P valid r f (contains_at (makes P r) k f is) in untouched.1 f (ap is_some maker) (undone_uncollected P H f r maker (sym (complete-is H r) ∙ undone)))
 
--- a call that writes to the log and to the outputs of a rule
-pub outputs_alone : {S : Type 0} (files : S → Files) (may_leave : S → Outcomes) (moment : S → ℕ) (images_since : S → ℕ → Files → Type 0) (P : Plan) (log : List ℕ) (r : ℕ) (old new : S) → IsValid P
-    → StaysBeside may_leave moment images_since (IsElse P log (makes P r)) old new → ReadsStay files (IsElse P log (makes P r)) old new
-    → LeavesAlone files may_leave moment images_since (IsUnmade P log) old new
-outputs_alone {S} files may_leave moment images_since P log r old new valid stays reads =
-    alone_less files may_leave moment images_since (IsElse P log (makes P r)) (IsUnmade P log) old new (unmade_else P log r valid) stays reads
+-- a call that writes to the log and to the outputs of such a rule
+pub outputs_alone : {S : Type 0} (files : S → Files) (may_leave : S → Outcomes) (moment : S → ℕ) (images_since : S → ℕ → Files → Type 0) (P : Plan) (log : List ℕ) (H : List Record) (r : ℕ) (old new : S) → IsValid P
+    → is_complete H r ≡ false → StaysBeside may_leave moment images_since (IsElse P log (makes P r)) old new → ReadsStay files (IsElse P log (makes P r)) old new
+    → LeavesAlone files may_leave moment images_since (IsUntouched P log H) old new
+outputs_alone {S} files may_leave moment images_since P log H r old new valid undone stays reads =
+    alone_less files may_leave moment images_since (IsElse P log (makes P r)) (IsUntouched P log H) old new (untouched_else P log H r valid undone) stays reads
+
+-- a collection
+pub collection_alone : {S : Type 0} (files : S → Files) (may_leave : S → Outcomes) (moment : S → ℕ) (images_since : S → ℕ → Files → Type 0) (d : DeskState S) (new : S)
+    → StaysBeside may_leave moment images_since (IsUncollected d) d.site new → ReadsStay files (IsUncollected d) d.site new
+    → LeavesAlone files may_leave moment images_since (IsUntouched d.plan d.log (records_of d.moves)) d.site new
+collection_alone {S} files may_leave moment images_since d new stays reads =
+    alone_less files may_leave moment images_since (IsUncollected d) (IsUntouched d.plan d.log (records_of d.moves)) d.site new
+    (λ m untouched. (
+      untouched.0,
+      λ file chosen.
+          let is = freed d.plan (records_of d.moves) file.0 (chosen-free d file chosen) in untouched.1 file.0 is.made (present_uncollected d.plan (records_of d.moves) file.0 is.present),
+    )) stays reads

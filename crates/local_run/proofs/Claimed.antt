@@ -43,7 +43,8 @@ use Rattle.outside.specs.Files.{Files}
 use Rattle.desk.specs.declared.attempt.Attempt.{Attempt}
 use Rattle.desk.specs.Claims.{Claims}
 use Rattle.desk.specs.State.{DeskState, IsFine, is_place, runs_with}
-use Rattle.local_run.specs.Course.{GoesOn, HasNothing, IsUnmade, LeavesAlone}
+use Rattle.local_run.specs.Collecting.{IsUntouched}
+use Rattle.local_run.specs.Course.{GoesOn, LeavesAlone}
 use Rattle.local_run.proofs.Closings.{breaks_goes, spares_goes}
 use Rattle.local_run.proofs.Going.{adds, stays}
 use Rattle.desk.proofs.Running.{started_runs}
@@ -118,18 +119,18 @@ module _ {S : Type 0} (trust : Type 0) (gives : Function) (may_fail : Job → Fa
   Goes d after = GoesOn trust gives may_fail sources tells files may_leave moment images_since d after
 
   abbrev pub Alone : DeskState S → S → Type 0
-  Alone d s = tells → LeavesAlone files may_leave moment images_since (IsUnmade d.plan d.log) d.site s
+  Alone d s = tells → LeavesAlone files may_leave moment images_since (IsUntouched d.plan d.log (records_of d.moves)) d.site s
 
   pub taken_goes : (count : S → ℕ) (d after : DeskState S) (attempt : Attempt) (link : LinkNo) (time : ℕ) → Alone d after.site → Claims count d link time (Ok (claims.Taken attempt)) after → Goes d after
   taken_goes count d after attempt link time others h =
       subst (λ (a : DeskState S). Alone d a.site → Goes d a) (sym h.2.5)
-      (adds trust gives may_fail sources tells files may_leave moment images_since d (started_as d.moves attempt.rule time link) d.stop after.site (λ trusted. tt) (λ none. none) (λ none. refl) refl) others
+      (adds trust gives may_fail sources tells files may_leave moment images_since d (started_as d.moves attempt.rule time link) d.stop after.site (λ trusted. tt) (λ none. none) (λ none. refl) refl (λ f. refl)) others
 
   -- a claim that takes no rule
   pub untaken_goes : (count : S → ℕ) (d after : DeskState S) (link : LinkNo) (time : ℕ) (why : Nothing) → Alone d after.site → Claims count d link time (Ok (claims.Nothing why)) after → Goes d after
   untaken_goes count d after link time why others h =
       subst (λ (a : DeskState S). Alone d a.site → Goes d a) (sym h.2)
-      (stays trust gives may_fail sources tells files may_leave moment images_since d d.stop d.trouble d.site (λ none. none)) others
+      (stays trust gives may_fail sources tells files may_leave moment images_since d d.stop d.trouble d.site (λ none. none) (λ fine. fine)) others
 
   pub claim_breaks : (count : S → ℕ) (d after : DeskState S) (link : LinkNo) (time : ℕ) (why : ClaimRefused) → Alone d after.site → Claims count d link time (Err why) after → Goes d after
   claim_breaks count d after link time (refused.Broken before now) others h =
@@ -149,10 +150,6 @@ taken_longer {S} count d after attempt link moment h =
     let same = ap (λ (a : DeskState S). length (records_of a.moves)) h.2.5 in
     let more = ap length (records-push d.moves x) in
     omega (arith, same, more, length-append (records_of d.moves) (x ∷ []))
-
-pub nothing_rests : {S : Type 0} (count : S → ℕ) (d after : DeskState S) (link : LinkNo) (moment : ℕ) (why : Nothing) → link.0 ≡ 0 → Claims count d link moment (Ok (claims.Nothing why)) after → HasNothing after
-nothing_rests {S} count d after link moment why local h =
-    subst (λ (a : DeskState S). HasNothing a) (sym h.2) (why, subst (λ (k : ℕ). claim_of d.plan d.options d.moves d.stop k ≡ Err why) local h.1)
 
 -- nothing runs behind a claim that took no rule
 pub claim_idle : {S : Type 0} (count : S → ℕ) (d after : DeskState S) (link : LinkNo) (time : ℕ) (why : ClaimRefused) → length (running_rules d.plan (records_of d.moves)) ≤ 0 → Claims count d link time (Err why) after

@@ -28,7 +28,7 @@ use Rattle.desk.specs.declared.answers.EndRefused.TheVariants as unended
 use Rattle.desk.specs.Ends.{Ends, EndsBy}
 use Rattle.run_history.specs.History.{is_cleaned, is_cleaned_kind, is_opening}
 use Rattle.run_history.specs.Links.{records_of}
-use Rattle.run_history.specs.States.{outs_in, running_says}
+use Rattle.run_history.specs.States.{drops, outs_in, running_says}
 use Rattle.run_history.specs.Storage.{running_rules}
 use Rattle.run_history.proofs.Grows.{records-push}
 use Rattle.desk.specs.declared.answers.Trouble.TheVariants as trouble
@@ -39,7 +39,8 @@ use Rattle.outside.specs.Files.{Files}
 use Rattle.desk.specs.State.{Breaks, Closes, DeskState, IsFine, Lacks, Spares, runs_with}
 use Rattle.desk.proofs.Presents.{runs_from}
 use Rattle.desk.proofs.Running.{closing, ended_runs, no_outs}
-use Rattle.local_run.specs.Course.{FailsHonestly, GoesOn, IsBroken, IsUnmade, LeavesAlone, begins_anew}
+use Rattle.local_run.specs.Collecting.{IsUntouched}
+use Rattle.local_run.specs.Course.{FailsHonestly, GoesOn, IsBroken, LeavesAlone, begins_anew}
 use Rattle.local_run.specs.Losses.{is_lost}
 use Rattle.local_run.proofs.Going.{adds, stays}
 
@@ -49,44 +50,44 @@ module _ {S : Type 0} (trust : Type 0) (gives : Function) (may_fail : Job → Fa
   Goes d after = GoesOn trust gives may_fail sources tells files may_leave moment images_since d after
 
   abbrev pub Alone : DeskState S → S → Type 0
-  Alone d s = tells → LeavesAlone files may_leave moment images_since (IsUnmade d.plan d.log) d.site s
+  Alone d s = tells → LeavesAlone files may_leave moment images_since (IsUntouched d.plan d.log (records_of d.moves)) d.site s
 
   -- a desk at which the site or memory failed
   pub breaks_goes : (count : S → ℕ) (d : DeskState S) (k : Option Stop) (before now : ℕ) (after : DeskState S) → (k ≡ None → d.stop ≡ None) → Alone d after.site
       → Breaks count (record d { stop = k }) before now after → Goes d after
   breaks_goes count d k before now after first others h =
-      ⊎_elim (λ was. subst (λ (a : DeskState S). Alone d a.site → Goes d a) (sym was.1) (stays trust gives may_fail sources tells files may_leave moment images_since d k d.trouble d.site first) others)
+      ⊎_elim (λ was. subst (λ (a : DeskState S). Alone d a.site → Goes d a) (sym was.1) (stays trust gives may_fail sources tells files may_leave moment images_since d k d.trouble d.site first (λ fine. fine)) others)
       (λ new. subst (λ (a : DeskState S). Alone d a.site → Goes d a) (sym new.5)
-      (stays trust gives may_fail sources tells files may_leave moment images_since d k (trouble.Broken before now) after.site first) others) h
+      (stays trust gives may_fail sources tells files may_leave moment images_since d k (trouble.Broken before now) after.site first (λ fine. absurd fine)) others) h
 
   pub lacks_goes : (d : DeskState S) (k : Option Stop) (after : DeskState S) → (k ≡ None → d.stop ≡ None) → Alone d after.site → Lacks (record d { stop = k }) after → Goes d after
   lacks_goes d k after first others h =
-      ⊎_elim (λ was. subst (λ (a : DeskState S). Alone d a.site → Goes d a) (sym was.1) (stays trust gives may_fail sources tells files may_leave moment images_since d k d.trouble d.site first) others)
-      (λ new. subst (λ (a : DeskState S). Alone d a.site → Goes d a) (sym new.1) (stays trust gives may_fail sources tells files may_leave moment images_since d k trouble.Wants after.site first) others) h
+      ⊎_elim (λ was. subst (λ (a : DeskState S). Alone d a.site → Goes d a) (sym was.1) (stays trust gives may_fail sources tells files may_leave moment images_since d k d.trouble d.site first (λ fine. fine)) others)
+      (λ new. subst (λ (a : DeskState S). Alone d a.site → Goes d a) (sym new.1) (stays trust gives may_fail sources tells files may_leave moment images_since d k trouble.Wants after.site first (λ fine. absurd fine)) others) h
 
   -- memory may have been wanting for the call alone
   pub spares_goes : (d after : DeskState S) → Alone d after.site → Spares d after → Goes d after
   spares_goes d after others h =
       ⊎_elim (λ lacks. lacks_goes d d.stop after (λ none. none) others lacks)
       (λ same. subst (λ (a : DeskState S). Alone d a.site → Goes d a) (sym same.1)
-      (stays trust gives may_fail sources tells files may_leave moment images_since d d.stop d.trouble d.site (λ none. none)) others) h
+      (stays trust gives may_fail sources tells files may_leave moment images_since d d.stop d.trouble d.site (λ none. none) (λ fine. fine)) others) h
 
   by_answer : (count : S → ℕ) (d : DeskState S) (k : Option Stop) (rule : RuleNo) (number : AttemptNo) (link : LinkNo) (x : Record) (r : Result (Unit {0}) CloseRefused) (after : DeskState S)
-      → (trust → FailsHonestly d.plan may_fail (serial d.plan gives sources) x) → (k ≡ None → d.stop ≡ None) → (k ≡ None → is_lost x ≡ false) → begins_anew x ≡ false → Alone d after.site
+      → (trust → FailsHonestly d.plan may_fail (serial d.plan gives sources) x) → (k ≡ None → d.stop ≡ None) → (k ≡ None → is_lost x ≡ false) → begins_anew x ≡ false → ((f : ℕ) → drops f x ≡ false) → Alone d after.site
       → Closes count (record d { stop = k }) rule number link x r after → Goes d after
-  by_answer count d k rule number link x (Ok done) after honest first held plain others h =
-      subst (λ (a : DeskState S). Alone d a.site → Goes d a) (sym h.2) (adds trust gives may_fail sources tells files may_leave moment images_since d x k after.site honest first held plain) others
-  by_answer count d k rule number link x (Err (refused.Stale named state)) after honest first held plain others h =
-      subst (λ (a : DeskState S). Alone d a.site → Goes d a) (sym h.4) (stays trust gives may_fail sources tells files may_leave moment images_since d k d.trouble d.site first) others
-  by_answer count d k rule number link x (Err (refused.Broken before now)) after honest first held plain others h = breaks_goes count d k before now after first others h
-  by_answer count d k rule number link x (Err refused.Memory) after honest first held plain others h = lacks_goes d k after first others h
+  by_answer count d k rule number link x (Ok done) after honest first held plain keeps others h =
+      subst (λ (a : DeskState S). Alone d a.site → Goes d a) (sym h.2) (adds trust gives may_fail sources tells files may_leave moment images_since d x k after.site honest first held plain keeps) others
+  by_answer count d k rule number link x (Err (refused.Stale named state)) after honest first held plain keeps others h =
+      subst (λ (a : DeskState S). Alone d a.site → Goes d a) (sym h.4) (stays trust gives may_fail sources tells files may_leave moment images_since d k d.trouble d.site first (λ fine. fine)) others
+  by_answer count d k rule number link x (Err (refused.Broken before now)) after honest first held plain keeps others h = breaks_goes count d k before now after first others h
+  by_answer count d k rule number link x (Err refused.Memory) after honest first held plain keeps others h = lacks_goes d k after first others h
 
   -- a closing call, after a stop may have been set
   pub closes_goes : (count : S → ℕ) (d mid : DeskState S) (k : Option Stop) (rule : RuleNo) (number : AttemptNo) (link : LinkNo) (x : Record) (r : Result (Unit {0}) CloseRefused) (after : DeskState S)
-      → mid ≡ record d { stop = k } → (trust → FailsHonestly d.plan may_fail (serial d.plan gives sources) x) → (k ≡ None → d.stop ≡ None) → (k ≡ None → is_lost x ≡ false) → begins_anew x ≡ false → Alone mid after.site
+      → mid ≡ record d { stop = k } → (trust → FailsHonestly d.plan may_fail (serial d.plan gives sources) x) → (k ≡ None → d.stop ≡ None) → (k ≡ None → is_lost x ≡ false) → begins_anew x ≡ false → ((f : ℕ) → drops f x ≡ false) → Alone mid after.site
       → Closes count mid rule number link x r after → Goes d after
-  closes_goes count d mid k rule number link x r after same honest first held plain others h =
-      subst (λ (m : DeskState S). Alone m after.site → Closes count m rule number link x r after → Goes d after) (sym same) (by_answer count d k rule number link x r after honest first held plain) others h
+  closes_goes count d mid k rule number link x r after same honest first held plain keeps others h =
+      subst (λ (m : DeskState S). Alone m after.site → Closes count m rule number link x r after → Goes d after) (sym same) (by_answer count d k rule number link x r after honest first held plain keeps) others h
 
 -- a stop at once is set always
 pub halts_now : (P : Plan) (O : Options) (M : List Move) (stop : Option Stop) → stop_of P O M stop stops.Halt ≡ None → ⊥
@@ -159,14 +160,14 @@ module _ {S : Type 0} (trust : Type 0) (gives : Function) (may_fail : Job → Fa
   GoesThen d after = GoesOn trust gives may_fail sources tells files may_leave moment images_since d after
 
   abbrev pub AloneThen : DeskState S → S → Type 0
-  AloneThen d s = tells → LeavesAlone files may_leave moment images_since (IsUnmade d.plan d.log) d.site s
+  AloneThen d s = tells → LeavesAlone files may_leave moment images_since (IsUntouched d.plan d.log (records_of d.moves)) d.site s
 
   by_kind : (d : DeskState S) (moment : ℕ) (kind : Option EndKind) (after : DeskState S) → ((k : EndKind) → kind ≡ Some k → is_cleaned_kind k ≡ false) → AloneThen d after.site → EndsBy kind d moment after → GoesThen d after
   by_kind d time None after whole others h =
-      subst (λ (a : DeskState S). AloneThen d a.site → GoesThen d a) (sym h) (stays trust gives may_fail sources tells files may_leave moment images_since d d.stop d.trouble d.site (λ none. none)) others
+      subst (λ (a : DeskState S). AloneThen d a.site → GoesThen d a) (sym h) (stays trust gives may_fail sources tells files may_leave moment images_since d d.stop d.trouble d.site (λ none. none) (λ fine. fine)) others
   by_kind d time (Some kind) after whole others h =
       subst (λ (a : DeskState S). AloneThen d a.site → GoesThen d a) (sym h)
-      (adds trust gives may_fail sources tells files may_leave moment images_since d (records.Ended time kind) d.stop after.site (λ trusted. tt) (λ none. none) (λ none. refl) (whole kind refl)) others
+      (adds trust gives may_fail sources tells files may_leave moment images_since d (records.Ended time kind) d.stop after.site (λ trusted. tt) (λ none. none) (λ none. refl) (whole kind refl) (λ f. refl)) others
 
   -- the call that ends a run
   pub ends_goes : (count : S → ℕ) (d : DeskState S) (moment : ℕ) (r : Result Check EndRefused) (after : DeskState S) → AloneThen d after.site → Ends count d moment r after → GoesThen d after

@@ -1,6 +1,6 @@
 -- When a run comes to its end with all rules complete.
 use Rattle.std.proofs.Common.{◌≡◌, ◌≤◌, ◌+◌, ◌∙◌, ℕ, Bool, true, false, not, ◌&&◌, List, [], length, Option, Some, None, refl, sym, ap, subst, arith, true≢false}
-use Rattle.std.specs.Prelude.{filter, find, is_none, is_some, sum_by, unwrap_or}
+use Rattle.std.specs.Prelude.{filter, find, is_some, sum_by, unwrap_or}
 use Rattle.std.specs.Option.{option_map_or}
 use Rattle.std.proofs.lemmas.Bool.{ltb-true}
 use Rattle.flow_types.specs.declared.plan.Plan.{Plan}
@@ -10,7 +10,6 @@ use Rattle.flow_types.specs.Plans.{most_input_bytes, rule_numbers, takes}
 use Rattle.flow_types.specs.Serial.{Contents, Function, serial}
 use Rattle.flow_types.proofs.Totals.{total, total-is, total-le}
 use Rattle.run_history.specs.declared.options.Options.{Options}
-use Rattle.run_history.specs.declared.options.Mode.{Mode}
 use Rattle.run_history.specs.declared.moves.Move.{Move}
 use Rattle.run_history.specs.declared.states.FileState.{FileState}
 use Rattle.run_history.specs.declared.states.FileState.TheVariants as file
@@ -22,30 +21,32 @@ use Rattle.run_history.specs.Laws.{IsPresent}
 use Rattle.run_history.specs.States.{file_state}
 use Rattle.run_history.specs.Storage.{has_failed, input_bytes, ready_rules, running_rules, size_in, size_of, wanted}
 use Rattle.run_history.specs.Answers.{end_of, of_least, passes_inputs, rule_no}
+use Rattle.task_core.proofs.Collecting.{wanted-free}
 use Rattle.outside.specs.Files.{Files}
 use Rattle.file_store.specs.Outputs.{file_name}
 use Rattle.desk.specs.Kept.{Fits, Holds, Keeps}
 use Rattle.local_run.specs.Completing.{SerialInputsFit}
 use Rattle.local_run.specs.Ends.{FitsHere, IsCompleteEnd, records_due}
 use Rattle.local_run.proofs.EndKinds.{Rests, Says, not_going, over_says, unended_over}
-use Rattle.local_run.proofs.Fresh.{places_left}
+use Rattle.local_run.proofs.Fresh.{drop_place, places_left}
 use Rattle.local_run.proofs.Started.{none_pass}
 
--- all rules are complete, or the run goes on
-abbrev EndsWell : Check → Type 0
-EndsWell (checks.Complete collected) = Unit {0}
-EndsWell checks.Going = Unit {0}
-EndsWell check = ⊥
+-- all rules are complete, or there is a limit and no room, or the run goes on
+abbrev EndsWell : Option ℕ → Check → Type 0
+EndsWell limit (checks.Complete collected) = Unit {0}
+EndsWell limit (checks.NoRoom rule need stored most) = limit ≡ Some most
+EndsWell limit checks.Going = Unit {0}
+EndsWell limit check = ⊥
 
-complete_end : (check : Check) → EndsWell check → (check ≡ checks.Going → ⊥) → IsCompleteEnd check
-complete_end (checks.Complete collected) is stays = tt
-complete_end (checks.CommandFailed rule why) is stays = absurd is
-complete_end (checks.InputsTooLarge rule total) is stays = absurd is
-complete_end (checks.LogFull records) is stays = absurd is
-complete_end checks.Going is stays = absurd (stays refl)
-complete_end (checks.NoRoom rule need stored limit) is stays = absurd is
-complete_end (checks.Waited wait) is stays = absurd is
-complete_end checks.Halted is stays = absurd is
+complete_end : (limit : Option ℕ) (check : Check) → EndsWell limit check → (check ≡ checks.Going → ⊥) → IsCompleteEnd limit check
+complete_end limit (checks.Complete collected) is stays = tt
+complete_end limit (checks.CommandFailed rule why) is stays = absurd is
+complete_end limit (checks.InputsTooLarge rule total) is stays = absurd is
+complete_end limit (checks.LogFull records) is stays = absurd is
+complete_end limit checks.Going is stays = absurd (stays refl)
+complete_end limit (checks.NoRoom rule need stored most) is stays = is
+complete_end limit (checks.Waited wait) is stays = absurd is
+complete_end limit checks.Halted is stays = absurd is
 
 -- a file that is present has the size that the serial run leaves
 held_size : (content : Content) (there serial_there : Option (List ℕ)) → Holds content there → there ≡ serial_there → content.size ≤ length (unwrap_or serial_there [])
@@ -87,18 +88,18 @@ none_large : (Q : Check → Type 0) (P : Plan) (H : List Record) → ((r : ℕ) 
 none_large Q P H small =
     subst (λ (xs : List ℕ). Says Q (of_least xs (λ r. checks.InputsTooLarge (rule_no r) (input_bytes P H r)))) (sym (none_pass (passes_inputs P H) (ready_rules P H) small)) tt
 
-unwanted_so : (o : Option ℕ) (b : Bool) → is_none o ≡ true → (is_some o && b) ≡ true → ⊥
-unwanted_so None b none wants = true≢false (sym wants)
-unwanted_so (Some f) b none wants = true≢false (sym none)
+placed_so : (o : Option ℕ) (place : Bool) → ((f : ℕ) → o ≡ Some f → place ≡ true) → (is_some o && not place) ≡ true → ⊥
+placed_so None place there wants = true≢false (sym wants)
+placed_so (Some f) place there wants = true≢false (sym wants ∙ ap not (there f refl))
 
--- The end is that all rules are complete, where none has failed, no inputs are too many and the log has room.
+-- The end is that all rules are complete, or there is a limit and no room, where none has failed, no inputs are too many and the log has room.
 pub completes_so : (P : Plan) (O : Options) (M : List Move) → Rests P O M → FitsHere P O → ((r : ℕ) → find (has_failed (records_of M)) (rule_numbers P) ≡ Some r → ⊥) → ((r : ℕ) → passes_inputs P (records_of M) r ≡ false)
-    → length (running_rules P (records_of M)) ≤ 0 → records_due P (records_of M) + 1 ≤ most_records → IsCompleteEnd (end_of P O M None)
+    → length (running_rules P (records_of M)) ≤ 0 → records_due P (records_of M) + 1 ≤ most_records → IsCompleteEnd O.limit (end_of P O M None)
 completes_so P O M rests here sound small idle few =
     let H = records_of M in
-    complete_end (end_of P O M None)
-    (subst EndsWell (sym (unended_over P O M rests.unended))
-    (over_says EndsWell P O H rests.limit tt (λ r found why. absurd (sound r found))
-    (λ wants. absurd (unwanted_so (wanted P O.mode H) (not (has_places P H 1)) (ap (λ (m : Mode). is_none (wanted P m H)) rests.never) wants)) tt
-    (λ more. none_large EndsWell P H small) (λ more full. absurd (true≢false (sym full ∙ ap not (places_left P H idle more few))))))
+    complete_end O.limit (end_of P O M None)
+    (subst (EndsWell O.limit) (sym (unended_over P O M rests.unended))
+    (over_says (EndsWell O.limit) P O H O.limit rests.limited tt (λ r found why. absurd (sound r found))
+    (λ wants. absurd (placed_so (wanted P O.mode H) (has_places P H 1) (λ f is. drop_place P H f idle (wanted-free P O.mode H f is) few) wants)) tt
+    (λ more. none_large (EndsWell O.limit) P H small) (λ more full. absurd (true≢false (sym full ∙ ap not (places_left P H idle more few)))) (λ r most is. is)))
     (not_going P O M rests here)

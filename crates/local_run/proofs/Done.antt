@@ -47,34 +47,34 @@ sure_ended (Err halts.Runner) sure before now failed same h is = absurd (h is)
 sure_ended (Err halts.Site) sure before now failed same h is = tt
 sure_ended (Err halts.Memory) sure before now failed same h is = tt
 
-complete_done : (check : Check) → IsCompleteEnd check → (let how : Result Check Stopped = Ok check in IsDone how)
-complete_done (checks.Complete collected) h = tt
-complete_done (checks.CommandFailed rule why) h = absurd h
-complete_done (checks.InputsTooLarge rule total) h = absurd h
-complete_done (checks.NoRoom rule need stored limit) h = absurd h
-complete_done (checks.Waited wait) h = absurd h
-complete_done checks.Going h = absurd h
-complete_done checks.Halted h = absurd h
-complete_done (checks.LogFull records) h = absurd h
+complete_done : (limit : Option ℕ) (check : Check) → IsCompleteEnd limit check → (let how : Result Check Stopped = Ok check in IsDone limit how)
+complete_done limit (checks.Complete collected) h = tt
+complete_done limit (checks.CommandFailed rule why) h = absurd h
+complete_done limit (checks.InputsTooLarge rule total) h = absurd h
+complete_done limit (checks.NoRoom rule need stored most) h = h
+complete_done limit (checks.Waited wait) h = absurd h
+complete_done limit checks.Going h = absurd h
+complete_done limit checks.Halted h = absurd h
+complete_done limit (checks.LogFull records) h = absurd h
 
 not_refused : (expected : Option StartFault) (why : StartFault) → expected ≡ None → expected ≡ Some why → ⊥
 not_refused expected why none some = true≢false (sym (ap is_some some) ∙ ap is_some none)
 
 -- A run that nothing stops is done.
-pub all_done : (expected : Option StartFault) (how : Result Check Stopped) (before after first now : ℕ) → StartEnds expected how → expected ≡ None → IsWholeRun how → IsSureEnd how → HasCauses before after first now how → after ≤ before
-    → IfOk how IsCompleteEnd → IsDone how
-all_done expected (Ok check) before after first now starts none whole sure causes stood complete = complete_done check complete
-all_done expected (Err (stopped.Refused (faults.OtherFlow logged found))) before after first now starts none whole sure causes stood complete = absurd (not_refused expected _ none (starts tt))
-all_done expected (Err (stopped.Refused (faults.NotLegal at))) before after first now starts none whole sure causes stood complete = absurd (not_refused expected _ none (starts tt))
-all_done expected (Err (stopped.Refused (faults.LogFull records))) before after first now starts none whole sure causes stood complete = absurd (not_refused expected _ none (starts tt))
-all_done expected (Err (stopped.Refused (faults.StoredAboveLimit stored limit))) before after first now starts none whole sure causes stood complete = absurd (not_refused expected _ none (starts tt))
-all_done expected (Err (stopped.Refused (faults.SourceMissing file))) before after first now starts none whole sure causes stood complete = absurd (not_refused expected _ none (starts tt))
-all_done expected (Err (stopped.Refused (faults.SourceTooLarge file size))) before after first now starts none whole sure causes stood complete = absurd (not_refused expected _ none (starts tt))
-all_done expected (Err (stopped.Refused (faults.SourceChanged file logged found))) before after first now starts none whole sure causes stood complete = absurd (not_refused expected _ none (starts tt))
-all_done expected (Err (stopped.Refused (faults.FileDamaged file logged found))) before after first now starts none whole sure causes stood complete = absurd (not_refused expected _ none (starts tt))
-all_done expected (Err (stopped.Refused (faults.Site one other))) before after first now starts none whole sure causes stood complete = let wrong : ⊥ = omega (arith, causes, stood) in absurd wrong
-all_done expected (Err (stopped.Refused faults.Memory)) before after first now starts none whole sure causes stood complete = tt
-all_done expected (Err (stopped.Halted (halts.Damaged file logged found))) before after first now starts none whole sure causes stood complete = absurd whole
-all_done expected (Err (stopped.Halted halts.Runner)) before after first now starts none whole sure causes stood complete = absurd sure
-all_done expected (Err (stopped.Halted halts.Site)) before after first now starts none whole sure causes stood complete = let wrong : ⊥ = omega (arith, causes, stood) in absurd wrong
-all_done expected (Err (stopped.Halted halts.Memory)) before after first now starts none whole sure causes stood complete = tt
+pub all_done : (limit : Option ℕ) (expected : Option StartFault) (how : Result Check Stopped) (before after first now : ℕ) → StartEnds expected how → expected ≡ None → IsWholeRun how → IsSureEnd how → HasCauses before after first now how → after ≤ before
+    → IfOk how (IsCompleteEnd limit) → IsDone limit how
+all_done limit expected (Ok check) before after first now starts none whole sure causes stood complete = complete_done limit check complete
+all_done limit expected (Err (stopped.Refused (faults.OtherFlow logged found))) before after first now starts none whole sure causes stood complete = absurd (not_refused expected _ none (starts tt))
+all_done limit expected (Err (stopped.Refused (faults.NotLegal at))) before after first now starts none whole sure causes stood complete = absurd (not_refused expected _ none (starts tt))
+all_done limit expected (Err (stopped.Refused (faults.LogFull records))) before after first now starts none whole sure causes stood complete = absurd (not_refused expected _ none (starts tt))
+all_done limit expected (Err (stopped.Refused (faults.StoredAboveLimit stored most))) before after first now starts none whole sure causes stood complete = absurd (not_refused expected _ none (starts tt))
+all_done limit expected (Err (stopped.Refused (faults.SourceMissing file))) before after first now starts none whole sure causes stood complete = absurd (not_refused expected _ none (starts tt))
+all_done limit expected (Err (stopped.Refused (faults.SourceTooLarge file size))) before after first now starts none whole sure causes stood complete = absurd (not_refused expected _ none (starts tt))
+all_done limit expected (Err (stopped.Refused (faults.SourceChanged file logged found))) before after first now starts none whole sure causes stood complete = absurd (not_refused expected _ none (starts tt))
+all_done limit expected (Err (stopped.Refused (faults.FileDamaged file logged found))) before after first now starts none whole sure causes stood complete = absurd (not_refused expected _ none (starts tt))
+all_done limit expected (Err (stopped.Refused (faults.Site one other))) before after first now starts none whole sure causes stood complete = let wrong : ⊥ = omega (arith, causes, stood) in absurd wrong
+all_done limit expected (Err (stopped.Refused faults.Memory)) before after first now starts none whole sure causes stood complete = tt
+all_done limit expected (Err (stopped.Halted (halts.Damaged file logged found))) before after first now starts none whole sure causes stood complete = absurd whole
+all_done limit expected (Err (stopped.Halted halts.Runner)) before after first now starts none whole sure causes stood complete = absurd sure
+all_done limit expected (Err (stopped.Halted halts.Site)) before after first now starts none whole sure causes stood complete = let wrong : ⊥ = omega (arith, causes, stood) in absurd wrong
+all_done limit expected (Err (stopped.Halted halts.Memory)) before after first now starts none whole sure causes stood complete = tt

@@ -1,5 +1,5 @@
--- What an end answers of a run without a limit and without a stop.
-use Rattle.std.proofs.Common.{◌≡◌, ◌+◌, ◌∙◌, ℕ, Bool, true, false, cond, not, ◌&&◌, List, [], ◌∷◌, length, Option, Some, None, Result, Ok, Err, refl, sym, ap, subst, arith, true≢false}
+-- What an end answers of a run without a stop.
+use Rattle.std.proofs.Common.{◌≡◌, ◌+◌, ◌∙◌, ℕ, Bool, true, false, cond, not, ◌&&◌, ◌||◌, List, [], ◌∷◌, length, Option, Some, None, Result, Ok, Err, refl, sym, ap, subst, arith, true≢false}
 use Rattle.std.specs.Prelude.{filter, find, is_none, is_some, nat_lt, unwrap_or}
 use Rattle.std.specs.List.{before_last, list_all, list_any}
 use Rattle.std.specs.Option.{option_and_then, option_map_or}
@@ -9,25 +9,27 @@ use Rattle.flow_types.specs.declared.plan.Plan.{Plan}
 use Rattle.flow_types.specs.declared.records.Record.{Record}
 use Rattle.flow_types.specs.Plans.{IsValid, is_empty, rule_numbers}
 use Rattle.run_history.specs.declared.options.Options.{Options}
-use Rattle.run_history.specs.declared.options.Mode.{Mode}
-use Rattle.run_history.specs.declared.options.Mode.TheVariants.{Never}
 use Rattle.run_history.specs.declared.moves.Move.{Move}
 use Rattle.run_history.specs.declared.answers.Stop.{Stop}
 use Rattle.run_history.specs.declared.answers.Nothing.{Nothing}
+use Rattle.run_history.specs.declared.answers.Nothing.TheVariants as nothing
 use Rattle.run_history.specs.declared.answers.Check.{Check}
 use Rattle.run_history.specs.declared.answers.Check.TheVariants as checks
 use Rattle.run_history.specs.History.{is_end, part, since_opening}
 use Rattle.run_history.specs.States.{limit_of}
 use Rattle.run_history.specs.Storage.{fits_storage, has_failed, input_bytes, is_complete, is_ready, is_within, ready_rules, reserved, rule_bound, running_rules, stored, wanted}
-use Rattle.run_history.specs.Legal.{has_places}
+use Rattle.run_history.specs.Legal.{has_places, is_stopped}
 use Rattle.run_history.specs.Links.{fits, records_of}
-use Rattle.run_history.specs.Answers.{claim_of, collected_count, end_of, end_over, failed_answer, has_ended, idles_in, is_halt, is_waited_end, last_why, log_full, no_room, of_least, or_else, passes_inputs, rule_no, where_none, where_so}
+use Rattle.run_history.specs.Answers.{claim_of, collected_count, end_of, end_over, failed_answer, file_no, has_ended, idles_in, is_halt, is_waited_end, last_why, log_full, no_room, of_least, or_else, passes_inputs, rule_no, where_none, where_so}
 use Rattle.run_history.proofs.Bools.{range_all}
 use Rattle.run_history.proofs.Completes.{all_kept}
 use Rattle.run_history.proofs.Going.{going-rule, idle-fits}
 use Rattle.rule_graph.specs.Spelling.{plan_digest}
+use Rattle.task_core.specs.Collections.{collection_by, collection_of}
 use Rattle.desk.specs.Kept.{IsLegal}
+use Rattle.local_run.specs.Course.{is_collect_first}
 use Rattle.local_run.specs.Ends.{FitsHere, IsRunEnd}
+use Rattle.local_run.proofs.Failures.{none_failed}
 
 -- it is so of the answer, where there is one
 abbrev pub Says : (Check → Type 0) → Option Check → Type 0
@@ -67,15 +69,28 @@ room_says Q (y ∷ ys) xs said same = tt
 all_fit : (P : Plan) (H : List Record) → limit_of H ≡ None → filter (fits_storage P H) (ready_rules P H) ≡ ready_rules P H
 all_fit P H limitless = all_kept (fits_storage P H) (ready_rules P H) (λ r. ap (is_within (stored P H + reserved P H + rule_bound P r)) limitless)
 
--- what may be so of every answer of an end, over records without a limit
-pub over_says : (Q : Check → Type 0) (P : Plan) (O : Options) (H : List Record) → limit_of H ≡ None → Q checks.Going
+none_says : (Q : Check → Type 0) (others xs : List ℕ) (said : ℕ → Check) → ((r : ℕ) → Q (said r)) → Says Q (where_none others xs said)
+none_says Q [] xs said each = least_says Q xs said each
+none_says Q (y ∷ ys) xs said each = tt
+
+-- only where there is a limit is there no room
+limit_says : (Q : Check → Type 0) (P : Plan) (H : List Record) (limit : Option ℕ) → limit_of H ≡ limit → ((r most : ℕ) → limit ≡ Some most → Q (checks.NoRoom (rule_no r) (rule_bound P r) (stored P H) most))
+    → Says Q (where_none (filter (fits_storage P H) (ready_rules P H)) (ready_rules P H) (no_room P H))
+limit_says Q P H None is room = room_says Q (filter (fits_storage P H) (ready_rules P H)) (ready_rules P H) (no_room P H) (all_fit P H is)
+limit_says Q P H (Some most) is room =
+    none_says Q (filter (fits_storage P H) (ready_rules P H)) (ready_rules P H) (no_room P H)
+    (λ r. subst (λ (n : ℕ). Q (checks.NoRoom (rule_no r) (rule_bound P r) (stored P H) n)) (sym (ap (λ (o : Option ℕ). unwrap_or o 0) is)) (room r most refl))
+
+-- what may be so of every answer of an end, over records with this limit
+pub over_says : (Q : Check → Type 0) (P : Plan) (O : Options) (H : List Record) (limit : Option ℕ) → limit_of H ≡ limit → Q checks.Going
     → ((r : ℕ) → find (has_failed H) (rule_numbers P) ≡ Some r → (why : Failure) → Q (checks.CommandFailed (rule_no r) why))
     → ((is_some (wanted P O.mode H) && not (has_places P H 1)) ≡ true → Q (log_full H))
     → Q (checks.Complete (collected_count P H))
     → (list_all (is_complete H) (rule_numbers P) ≡ false → Says Q (of_least (filter (passes_inputs P H) (ready_rules P H)) (λ r. checks.InputsTooLarge (rule_no r) (input_bytes P H r))))
     → (list_all (is_complete H) (rule_numbers P) ≡ false → not (has_places P H 2) ≡ true → Q (log_full H))
+    → ((r most : ℕ) → limit ≡ Some most → Q (checks.NoRoom (rule_no r) (rule_bound P r) (stored P H) most))
     → Q (end_over P O H None)
-over_says Q P O H limitless going failed wanting complete large full =
+over_says Q P O H limit limited going failed wanting complete large full room =
     let none : Option Stop = None in
     let ready : List ℕ = ready_rules P H in
     let roomy : List ℕ = filter (fits_storage P H) ready in
@@ -91,30 +106,31 @@ over_says Q P O H limitless going failed wanting complete large full =
     else_says Q (option_and_then (λ idles. of_least roomy (λ r. checks.Waited (record { idles = idles; rule = rule_no r }))) (option_and_then idles_in none)) _ tt (λ n7.
     (else_says Q (of_least (filter (passes_inputs P H) ready) (λ r. checks.InputsTooLarge (rule_no r) (input_bytes P H r))) _ (large more) (λ n8.
     (else_says Q (where_so (not (has_places P H 2)) (log_full H)) _ (so_says Q (not (has_places P H 2)) (log_full H) (full more)) (λ n9.
-    (else_says Q (where_none roomy ready (no_room P H)) None (room_says Q roomy ready (no_room P H) (all_fit P H limitless)) (λ n10. tt))))))))))))))))))))
+    (else_says Q (where_none roomy ready (no_room P H)) None (limit_says Q P H limit limited room) (λ n10. tt))))))))))))))))))))
   where
     not_all : (all : Bool) → where_so all (checks.Complete (collected_count P H)) ≡ None → all ≡ false
     not_all true is = absurd (true≢false (ap is_some is))
     not_all false is = refl
 
 -- the answer is one of a run's ends, or that it goes on
-abbrev EndsOrGoes : Check → Type 0
-EndsOrGoes (checks.Complete collected) = Unit {0}
-EndsOrGoes (checks.CommandFailed rule why) = Unit {0}
-EndsOrGoes (checks.InputsTooLarge rule total) = Unit {0}
-EndsOrGoes (checks.LogFull records) = Unit {0}
-EndsOrGoes checks.Going = Unit {0}
-EndsOrGoes check = ⊥
+abbrev EndsOrGoes : Option ℕ → Check → Type 0
+EndsOrGoes limit (checks.Complete collected) = Unit {0}
+EndsOrGoes limit (checks.CommandFailed rule why) = Unit {0}
+EndsOrGoes limit (checks.InputsTooLarge rule total) = Unit {0}
+EndsOrGoes limit (checks.LogFull records) = Unit {0}
+EndsOrGoes limit (checks.NoRoom rule need stored most) = limit ≡ Some most
+EndsOrGoes limit checks.Going = Unit {0}
+EndsOrGoes limit check = ⊥
 
-run_end : (check : Check) → EndsOrGoes check → (check ≡ checks.Going → ⊥) → IsRunEnd check
-run_end (checks.Complete collected) is stays = tt
-run_end (checks.CommandFailed rule why) is stays = tt
-run_end (checks.InputsTooLarge rule total) is stays = tt
-run_end (checks.LogFull records) is stays = tt
-run_end checks.Going is stays = absurd (stays refl)
-run_end (checks.NoRoom rule need stored limit) is stays = absurd is
-run_end (checks.Waited wait) is stays = absurd is
-run_end checks.Halted is stays = absurd is
+run_end : (limit : Option ℕ) (check : Check) → EndsOrGoes limit check → (check ≡ checks.Going → ⊥) → IsRunEnd limit check
+run_end limit (checks.Complete collected) is stays = tt
+run_end limit (checks.CommandFailed rule why) is stays = tt
+run_end limit (checks.InputsTooLarge rule total) is stays = tt
+run_end limit (checks.LogFull records) is stays = tt
+run_end limit (checks.NoRoom rule need stored most) is stays = is
+run_end limit checks.Going is stays = absurd (stays refl)
+run_end limit (checks.Waited wait) is stays = absurd is
+run_end limit checks.Halted is stays = absurd is
 
 -- an end over the records of a run that hasn't ended
 pub unended_over : (P : Plan) (O : Options) (M : List Move) → has_ended (records_of M) ≡ false → end_of P O M None ≡ end_over P O (records_of M) None
@@ -132,17 +148,14 @@ pub record Rests (P : Plan) (O : Options) (M : List Move) : Type 0 where
   pub opened : is_empty (part (records_of M)) ≡ false
   pub idle : is_empty (running_rules P (records_of M)) ≡ true
   pub unended : has_ended (records_of M) ≡ false
-  pub limit : limit_of (records_of M) ≡ None
-  pub never : O.mode ≡ Never
+  pub limited : limit_of (records_of M) ≡ O.limit
   pub why : Nothing
   pub none : claim_of P O M None 0 ≡ Err why
+  pub undropped : is_collect_first why ≡ true → (file : ℕ) → collection_of P O M ≡ Ok (Some file) → ⊥
 
 abbrev is_claim : Result ℕ Nothing → Bool
 is_claim (Ok r) = true
 is_claim (Err why) = false
-
-unwanted : (P : Plan) (O : Options) (H : List Record) → O.mode ≡ Never → is_none (wanted P O.mode H) ≡ true
-unwanted P O H never = ap (λ (m : Mode). is_none (wanted P m H)) never
 
 fits_all : (P : Plan) (O : Options) (M : List Move) (rs : List ℕ) → is_empty (running_rules P (records_of M)) ≡ true → FitsHere P O → list_all (λ r. nat_lt r (length P.rules)) rs ≡ true
     → list_all (λ r. fits P O M r 0) (filter (is_ready P (records_of M)) rs) ≡ true
@@ -156,19 +169,77 @@ fits_all P O M (r ∷ rs) idle here inside =
     by_test true fit rest = ap (λ t. t && list_all (λ r. fits P O M r 0) (filter (is_ready P (records_of M)) rs)) fit ∙ rest
     by_test false fit rest = rest
 
+-- what is to be dropped first comes before all else of a run that isn't stopped
+first_of_all : (stopped : Bool) (file : Option ℕ) (f : ℕ) (rest : Option Nothing) (rule : Result ℕ Nothing) (why : Nothing) → stopped ≡ false → file ≡ Some f
+    → option_map_or Err (or_else (where_so stopped nothing.Stopping) (or_else (option_map_or (λ g. Some (nothing.CollectFirst (file_no g))) file None) rest)) rule ≡ Err why → is_collect_first why ≡ true
+first_of_all true file f rest rule why going is claim = absurd (true≢false going)
+first_of_all false None f rest rule why going is claim = absurd (true≢false (sym (ap is_some is)))
+first_of_all false (Some g) f rest rule why going is claim = sym (ap is_first claim)
+  where
+    is_first : Result ℕ Nothing → Bool
+    is_first (Ok r) = false
+    is_first (Err n) = is_collect_first n
+
+-- a wanted file is dropped where the log has a place
+collection_there : (file : Option ℕ) (f : ℕ) (place : Bool) → file ≡ Some f → place ≡ true → collection_by file place ≡ Ok (Some f)
+collection_there None f place is there = absurd (true≢false (sym (ap is_some is)))
+collection_there (Some g) f true is there = ap Ok is
+collection_there (Some g) f false is there = absurd (true≢false (sym there))
+
+abbrev is_going : Check → Bool
+is_going checks.Going = true
+is_going check = false
+
+failed_stops : (H : List Record) (failing : Option ℕ) (check : Check) → option_and_then (failed_answer H) failing ≡ Some check → is_going check ≡ false
+failed_stops H None check is = absurd (true≢false (sym (ap is_some is)))
+failed_stops H (Some r) check is = by_why (last_why H r) is
+  where
+    by_why : (w : Option Failure) → option_map_or (λ why. Some (checks.CommandFailed (rule_no r) why)) w None ≡ Some check → is_going check ≡ false
+    by_why None is = absurd (true≢false (sym (ap is_some is)))
+    by_why (Some why) is = sym (ap (λ (o : Option Check). option_map_or is_going o false) is)
+
+-- where a file is wanted the answer is a failed command's, or that the log is full
+wanting_answer : (H : List Record) (idle wants place : Bool) (failing : Option ℕ) (failed : Option Check) (rest : Option Check) → option_and_then (failed_answer H) failing ≡ failed → idle ≡ true → wants ≡ true
+    → (failed ≡ None → place ≡ false)
+    → unwrap_or (or_else (where_so (not idle) checks.Going) (or_else failed (or_else (where_so (wants && not place) (log_full H)) (or_else (where_so wants checks.Going) rest)))) checks.Going ≡ checks.Going → ⊥
+wanting_answer H false wants place failing failed rest are idle is full going = true≢false (sym idle)
+wanting_answer H true false place failing failed rest are idle is full going = true≢false (sym is)
+wanting_answer H true true true failing None rest are idle is full going = true≢false (full refl)
+wanting_answer H true true false failing None rest are idle is full going = true≢false (sym (ap is_going going))
+wanting_answer H true true place failing (Some check) rest are idle is full going = true≢false (sym (ap is_going going) ∙ failed_stops H failing check are)
+
+unstopped : (ended failed : Bool) → ended ≡ false → failed ≡ false → (ended || failed) ≡ false
+unstopped ended failed one two = ap (λ (b : Bool). b || failed) one ∙ two
+
+wanted_ends : (P : Plan) (O : Options) (M : List Move) (f : ℕ) → Rests P O M → wanted P O.mode (records_of M) ≡ Some f → end_of P O M None ≡ checks.Going → ⊥
+wanted_ends P O M f rests is going =
+    let H = records_of M in
+    let failing : Option ℕ = find (has_failed H) (rule_numbers P) in
+    wanting_answer H (is_empty (running_rules P H)) (is_some (wanted P O.mode H)) (has_places P H 1) failing (option_and_then (failed_answer H) failing) _ refl rests.idle (ap is_some is)
+    (λ none. by_place (has_places P H 1) refl (first_of_all (is_stopped P H) (wanted P O.mode H) f _ _ rests.why (unstopped (has_ended H) (list_any (has_failed H) (rule_numbers P)) rests.unended (none_failed P H none)) is rests.none))
+    (sym (unended_over P O M rests.unended) ∙ going)
+  where
+    by_place : (b : Bool) → has_places P (records_of M) 1 ≡ b → is_collect_first rests.why ≡ true → b ≡ false
+    by_place true there first = absurd (rests.undropped first f (collection_there (wanted P O.mode (records_of M)) f (has_places P (records_of M) 1) is there))
+    by_place false there first = refl
+
 -- it isn't to go on
 pub not_going : (P : Plan) (O : Options) (M : List Move) → Rests P O M → FitsHere P O → end_of P O M None ≡ checks.Going → ⊥
-not_going P O M rests here going =
-    let claim = going-rule P (plan_digest P) O M None rests.valid rests.legal rests.opened rests.idle rests.unended here.here (unwanted P O (records_of M) rests.never)
-    (fits_all P O M (rule_numbers P) rests.idle here (range_all 0 (length P.rules) (length P.rules) (omega arith))) going in
-    true≢false (sym (ap is_claim claim.1) ∙ ap is_claim rests.none)
+not_going P O M rests here going = by_wanted (wanted P O.mode (records_of M)) refl
+  where
+    by_wanted : (file : Option ℕ) → wanted P O.mode (records_of M) ≡ file → ⊥
+    by_wanted None is =
+        let claim = going-rule P (plan_digest P) O M None rests.valid rests.legal rests.opened rests.idle rests.unended here.here (ap is_none is)
+        (fits_all P O M (rule_numbers P) rests.idle here (range_all 0 (length P.rules) (length P.rules) (omega arith))) going in
+        true≢false (sym (ap is_claim claim.1) ∙ ap is_claim rests.none)
+    by_wanted (Some f) is = wanted_ends P O M f rests is going
 
 -- but answers one of the ends of a run
-pub ends_so : (P : Plan) (O : Options) (M : List Move) → Rests P O M → FitsHere P O → IsRunEnd (end_of P O M None)
+pub ends_so : (P : Plan) (O : Options) (M : List Move) → Rests P O M → FitsHere P O → IsRunEnd O.limit (end_of P O M None)
 ends_so P O M rests here =
     let H = records_of M in
-    run_end (end_of P O M None)
-    (subst EndsOrGoes (sym (unended_over P O M rests.unended))
-    (over_says EndsOrGoes P O H rests.limit tt (λ r found why. tt) (λ wants. tt) tt
-    (λ more. least_says EndsOrGoes (filter (passes_inputs P H) (ready_rules P H)) (λ r. checks.InputsTooLarge (rule_no r) (input_bytes P H r)) (λ r. tt)) (λ more full. tt)))
+    run_end O.limit (end_of P O M None)
+    (subst (EndsOrGoes O.limit) (sym (unended_over P O M rests.unended))
+    (over_says (EndsOrGoes O.limit) P O H O.limit rests.limited tt (λ r found why. tt) (λ wants. tt) tt
+    (λ more. least_says (EndsOrGoes O.limit) (filter (passes_inputs P H) (ready_rules P H)) (λ r. checks.InputsTooLarge (rule_no r) (input_bytes P H r)) (λ r. tt)) (λ more full. tt) (λ r most is. is)))
     (not_going P O M rests here)

@@ -1,18 +1,21 @@
 -- The failed commands that a runner counts, and those that are logged.
-use Rattle.std.proofs.Common.{◌≡◌, ◌≤◌, ◌<◌, ◌+◌, ◌∙◌, ℕ, Bool, true, false, cond, List, [], ◌∷◌, ◌++◌, Option, Some, None, refl, sym, ap, arith, true≢false}
-use Rattle.std.specs.Prelude.{◌==◌, count_by, find, nat_le}
-use Rattle.std.specs.List.{list_any}
-use Rattle.std.specs.Option.{option_map_or}
+use Rattle.std.proofs.Common.{◌≡◌, ◌≤◌, ◌<◌, ◌+◌, ◌∙◌, ℕ, Bool, true, false, cond, ◌||◌, List, [], ◌∷◌, ◌++◌, Option, Some, None, refl, sym, ap, arith, true≢false}
+use Rattle.std.specs.Prelude.{◌==◌, count_by, filter_map, find, is_some, nat_le}
+use Rattle.std.specs.List.{cons_option, last_or, list_any}
+use Rattle.std.specs.Option.{option_and_then, option_map_or}
 use Rattle.std.proofs.lemmas.Bool.{leb-true}
 use Rattle.std.proofs.lemmas.List.Sums.{sum_by-append}
 use Rattle.flow_types.specs.declared.plan.Plan.{Plan}
+use Rattle.flow_types.specs.declared.job.Failure.{Failure}
 use Rattle.flow_types.specs.declared.numbers.Content.{Content}
 use Rattle.flow_types.specs.declared.records.Record.{Record}
 use Rattle.flow_types.specs.declared.records.Record.TheVariants as records
 use Rattle.flow_types.specs.Plans.{rule_numbers}
 use Rattle.flow_types.proofs.SerialRun.{find-passes}
 use Rattle.flow_types.proofs.Totals.{total, total-is, total-le}
+use Rattle.run_history.specs.declared.answers.Check.TheVariants as checks
 use Rattle.run_history.specs.declared.states.RuleState.TheVariants as rule
+use Rattle.run_history.specs.Answers.{failed_answer, last_why, rule_no, why_in}
 use Rattle.run_history.specs.History.{since_opening}
 use Rattle.run_history.specs.States.{Place, failures_of, is_failure_of, outs_of, retries_of, running_in, unfinished_state}
 use Rattle.run_history.specs.Storage.{has_failed, is_failed_state}
@@ -80,6 +83,62 @@ has_failure H r failed =
     let enough : retries_of H + 1 ≤ failures_of H r = leb-true (retries_of H + 1) (failures_of H r) (failed_by (outs_of H r) (running_in H r) (nat_le (retries_of H + 1) (failures_of H r)) failed) in
     let le = failures_among r (since_opening H) in
     omega (arith, enough, le)
+
+last_some : (o : Option Failure) (xs : List Failure) → is_some o ≡ true → is_some (last_or o xs) ≡ true
+last_some o [] some = some
+last_some o (x ∷ xs) some = last_some (Some x) xs refl
+
+why_of : (r : ℕ) (x : Record) → is_some (why_in r x) ≡ is_failure_of r x
+why_of r (records.Opened moment run retries limit plan sources) = refl
+why_of r (records.Resumed moment run retries limit) = refl
+why_of r (records.Started moment q attempt link) = refl
+why_of r (records.Done moment q attempt outs) = refl
+why_of r (records.Failed moment q attempt why) = by_test (q.0 == r)
+  where
+    by_test : (b : Bool) → is_some (cond b (Some why) None) ≡ b
+    by_test true = refl
+    by_test false = refl
+why_of r (records.Lost moment q attempt) = refl
+why_of r (records.Dropped moment f) = refl
+why_of r (records.Ended moment kind) = refl
+
+-- where one is, the last says why
+why_said : (r : ℕ) (o : Option Failure) (xs : List Record) → 1 ≤ total (λ x. one (is_failure_of r x)) xs → is_some (last_or o (filter_map (why_in r) xs)) ≡ true
+why_said r o [] some = absurd (let wrong : ⊥ = omega (arith, some) in wrong)
+why_said r o (x ∷ xs) some = by_why (why_in r x) (is_failure_of r x) (why_of r x) some (why_said r o xs)
+  where
+    by_why : (w : Option Failure) (b : Bool) → is_some w ≡ b → 1 ≤ one b + total (λ x. one (is_failure_of r x)) xs → (1 ≤ total (λ x. one (is_failure_of r x)) xs → is_some (last_or o (filter_map (why_in r) xs)) ≡ true)
+        → is_some (last_or o (cons_option w (filter_map (why_in r) xs))) ≡ true
+    by_why None true is some rest = absurd (true≢false (sym is))
+    by_why None false is some rest = rest (omega (arith, some))
+    by_why (Some w) b is some rest = last_some (Some w) (filter_map (why_in r) xs) refl
+
+-- why a rule failed last is known, where it has
+failed_why : (H : List Record) (r : ℕ) → has_failed H r ≡ true → is_some (last_why H r) ≡ true
+failed_why H r failed =
+    let enough : retries_of H + 1 ≤ failures_of H r = leb-true (retries_of H + 1) (failures_of H r) (failed_by (outs_of H r) (running_in H r) (nat_le (retries_of H + 1) (failures_of H r)) failed) in
+    let same : total (λ x. one (is_failure_of r x)) (since_opening H) ≡ failures_of H r = total-is (λ x. one (is_failure_of r x)) (since_opening H) in
+    why_said r None (since_opening H) (omega (arith, enough, same))
+
+find_none : (p : ℕ → Bool) (xs : List ℕ) → find p xs ≡ None → list_any p xs ≡ false
+find_none p [] none = refl
+find_none p (x ∷ xs) none = by_test (p x) none (find_none p xs)
+  where
+    by_test : (b : Bool) → cond b (Some x) (find p xs) ≡ None → (find p xs ≡ None → list_any p xs ≡ false) → (b || list_any p xs) ≡ false
+    by_test true none rest = absurd (true≢false (ap is_some none))
+    by_test false none rest = rest none
+
+-- without an answer by a failure no rule has failed
+pub none_failed : (P : Plan) (H : List Record) → option_and_then (failed_answer H) (find (has_failed H) (rule_numbers P)) ≡ None → list_any (has_failed H) (rule_numbers P) ≡ false
+none_failed P H none = by_found (find (has_failed H) (rule_numbers P)) refl none
+  where
+    by_why : (r : ℕ) (w : Option Failure) → is_some w ≡ true → option_map_or (λ why. Some (checks.CommandFailed (rule_no r) why)) w None ≡ None → ⊥
+    by_why r None some none = true≢false (sym some)
+    by_why r (Some w) some none = true≢false (ap is_some none)
+
+    by_found : (o : Option ℕ) → find (has_failed H) (rule_numbers P) ≡ o → option_and_then (failed_answer H) o ≡ None → list_any (has_failed H) (rule_numbers P) ≡ false
+    by_found None found none = find_none (has_failed H) (rule_numbers P) found
+    by_found (Some r) found none = absurd (by_why r (last_why H r) (failed_why H r (find-passes (has_failed H) (rule_numbers P) r found)) none)
 
 -- where one has failed since the run began, the runner counted a failed command more
 pub failed_rose : (P : Plan) (H more all : List Record) (r before now : ℕ) → since_opening H ≡ [] → list_any begins_anew more ≡ false → all ≡ H ++ more → LogsFailures H all before now

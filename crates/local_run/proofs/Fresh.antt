@@ -8,6 +8,7 @@ use Rattle.std.proofs.lemmas.List.{append-nil}
 use Rattle.flow_types.specs.declared.plan.Plan.{Plan}
 use Rattle.flow_types.specs.declared.numbers.Content.{Content}
 use Rattle.flow_types.specs.declared.numbers.AttemptNo.{AttemptNo}
+use Rattle.flow_types.specs.declared.numbers.FileNo.{FileNo}
 use Rattle.flow_types.specs.declared.numbers.RuleNo.{RuleNo}
 use Rattle.flow_types.specs.declared.records.Record.{Record}
 use Rattle.flow_types.specs.declared.records.Record.TheVariants as records
@@ -15,7 +16,7 @@ use Rattle.flow_types.specs.Plans.{is_empty, rule_numbers}
 use Rattle.flow_types.proofs.Totals.{at_place, place-inside, total, total-is, total-take}
 use Rattle.run_history.specs.History.{is_cleaned, is_end, is_opening, since_opening}
 use Rattle.run_history.specs.States.{limit_in, limit_of, outs_in, outs_of}
-use Rattle.run_history.specs.Storage.{is_complete, running_rules}
+use Rattle.run_history.specs.Storage.{is_complete, is_free, running_rules}
 use Rattle.run_history.specs.Legal.{has_places, most_records}
 use Rattle.run_history.specs.Answers.{has_ended}
 use Rattle.run_history.proofs.Steps.{complete-is, limit-push, outs-push, since-push}
@@ -23,6 +24,7 @@ use Rattle.task_core.proofs.Standing.{ended-same}
 use Rattle.local_run.specs.Completing.{HasRecordRoom}
 use Rattle.local_run.specs.Course.{begins_anew}
 use Rattle.local_run.specs.Ends.{IsFresh, left_count, records_due}
+use Rattle.local_run.proofs.Collecting.{drops_drop, drops_few, drops_less}
 
 -- an opening says nothing of a rule, and a record that is none says nothing of the limit
 limit_none : (x : Record) → is_opening x ≡ false → limit_in x ≡ None
@@ -54,15 +56,15 @@ limit_more H (x ∷ xs) none =
     ∙ limit_more (H ++ (x ∷ [])) xs parts.1
     ∙ limit-push H x both.1 ∙ ap (λ (o : Option (Option ℕ)). option_map_or (λ limit. limit) o (limit_of H)) (limit_none x both.0)
 
--- behind an opening without a limit
-pub fresh_opened : (H : List Record) (x : Record) (limit : Option ℕ) → is_cleaned x ≡ false → is_opening x ≡ true → limit_in x ≡ Some limit → limit ≡ None → IsFresh (H ++ (x ∷ []))
-fresh_opened H x limit more opens says none = record {
+-- behind an opening with this limit
+pub fresh_opened : (H : List Record) (x : Record) (limit : Option ℕ) → is_cleaned x ≡ false → is_opening x ≡ true → limit_in x ≡ Some limit → IsFresh limit (H ++ (x ∷ []))
+fresh_opened H x limit more opens says = record {
   since = since-push H x more ∙ ap (λ (b : Bool). cond b [] (since_opening H ++ (x ∷ []))) opens;
-  limit = limit-push H x more ∙ ap (λ (o : Option (Option ℕ)). option_map_or (λ limit. limit) o (limit_of H)) says ∙ none;
+  limited = limit-push H x more ∙ ap (λ (o : Option (Option ℕ)). option_map_or (λ limit. limit) o (limit_of H)) says;
 }
 
-pub fresh_unended : (H : List Record) → IsFresh H → has_ended H ≡ false
-fresh_unended H fresh = ap (list_any is_end) fresh.since
+pub fresh_unended : (limit : Option ℕ) (H : List Record) → IsFresh limit H → has_ended H ≡ false
+fresh_unended limit H fresh = ap (list_any is_end) fresh.since
 
 -- a record that ends or begins no run
 pub unended_by : (H all : List Record) (x : Record) → all ≡ H ++ (x ∷ []) → is_cleaned x ≡ false → is_opening x ≡ false → is_end x ≡ false → has_ended H ≡ false → has_ended all ≡ false
@@ -78,8 +80,14 @@ left_same : (P : Plan) (H : List Record) (x : Record) → is_cleaned x ≡ false
 left_same P H x more none = ap (λ (p : ℕ → Bool). count_by p (rule_numbers P)) (λ i r. not ((complete_same H x r more (none r)) i))
 
 -- a record that says nothing of outputs
-pub due_more : (P : Plan) (H : List Record) (x : Record) → is_cleaned x ≡ false → ((r : ℕ) → outs_in r x ≡ None) → records_due P (H ++ (x ∷ [])) ≡ records_due P H + 1
-due_more P H x more none = let long = length-append H (x ∷ []) in let same = left_same P H x more none in omega (arith, long, same)
+pub due_more : (P : Plan) (H : List Record) (x : Record) → is_cleaned x ≡ false → ((r : ℕ) → outs_in r x ≡ None) → records_due P (H ++ (x ∷ [])) ≤ records_due P H + 1
+due_more P H x more none = let long = length-append H (x ∷ []) in let same = left_same P H x more none in let less = drops_less P H x more in omega (arith, long, same, less)
+
+-- the drop of a free file was due
+pub due_dropped : (P : Plan) (H : List Record) (moment : ℕ) (f : FileNo) → is_free P H f.0 ≡ true → records_due P (H ++ (records.Dropped moment f ∷ [])) ≤ records_due P H
+due_dropped P H moment f free =
+    let x : Record = records.Dropped moment f in
+    let long = length-append H (x ∷ []) in let same = left_same P H x refl (λ r. refl) in let fewer = drops_drop P H moment f free in omega (arith, long, same, fewer)
 
 -- one for each rule that isn't complete
 abbrev one : Bool → ℕ
@@ -119,7 +127,8 @@ due_done P H all moment rule attempt outs are inside before =
     let same : records_due P all ≡ records_due P (H ++ (x ∷ [])) = ap (records_due P) are in
     let fewer = left_done P H moment rule attempt outs inside before in
     let long = length-append H (x ∷ []) in
-    omega (arith, same, fewer, long)
+    let less = drops_less P H x refl in
+    omega (arith, same, fewer, long, less)
 
 some_left : (p : ℕ → Bool) (xs : List ℕ) → list_all p xs ≡ false → 1 ≤ total (λ r. one (not (p r))) xs
 some_left p [] not_all = absurd (true≢false not_all)
@@ -136,11 +145,17 @@ places_left P H idle some few =
     let are : total (λ r. one (not (is_complete H r))) (rule_numbers P) ≡ left_count P H = total-is (λ r. one (not (is_complete H r))) (rule_numbers P) in
     le-leb (length H + length (running_rules P H) + 1 + 2) most_records (omega (arith, left, are, idle, few))
 
+-- and where a file is free it has one for its drop
+pub drop_place : (P : Plan) (H : List Record) (f : ℕ) → length (running_rules P H) ≤ 0 → is_free P H f ≡ true → records_due P H + 1 ≤ most_records → has_places P H 1 ≡ true
+drop_place P H f idle free few =
+    let fewer = drops_drop P H 0 (record { 0 = f }) free in
+    le-leb (length H + length (running_rules P H) + 1 + 1) most_records (omega (arith, fewer, idle, few))
+
 -- a list without items
 pub empty_from : (xs : List ℕ) → length xs ≤ 0 → is_empty xs ≡ true
 empty_from [] le = refl
 empty_from (x ∷ xs) le = absurd (let wrong : ⊥ = omega (arith, le) in wrong)
 
 -- a log with room for a run has it still behind the opening
-pub has_room_due : (P : Plan) (H : List Record) (due : ℕ) → due ≡ records_due P H + 1 → HasRecordRoom P H → due + 1 ≤ most_records
-has_room_due P H due is room = omega (arith, is, room)
+pub has_room_due : (P : Plan) (H : List Record) (due : ℕ) → due ≤ records_due P H + 1 → HasRecordRoom P H → due + 1 ≤ most_records
+has_room_due P H due is room = let few = drops_few P H in omega (arith, is, room, few)

@@ -1,11 +1,14 @@
+pub mod Collecting
 pub mod Alone
 pub mod Going
 pub mod Closings
 pub mod Claimed
+pub mod Dropping
 pub mod Reading
 pub mod Tasks
 pub mod Outputs
 pub mod Results
+pub mod Modes
 pub mod Started
 pub mod Starts
 pub mod Refused

@@ -16,7 +16,6 @@ use Rattle.flow_types.specs.declared.records.EndKind.{EndKind}
 use Rattle.flow_types.specs.declared.records.Record.{Record}
 use Rattle.flow_types.specs.declared.records.Record.TheVariants as records
 use Rattle.run_history.specs.declared.answers.Check.{Check}
-use Rattle.run_history.specs.declared.answers.Nothing.{Nothing}
 use Rattle.run_history.specs.declared.answers.Stop.{Stop}
 use Rattle.run_history.specs.Answers.{has_ended, logged_end}
 use Rattle.run_history.specs.Laws.{IsPresent, started_as}
@@ -48,7 +47,7 @@ use Rattle.desk.specs.State.{Closes, DeskState, IsFine, is_place, runs_with}
 use Rattle.local_run.specs.declared.halt.Halt.{Halt}
 use Rattle.local_run.specs.declared.halt.Halt.TheVariants as halts
 use Rattle.local_run.specs.Course.{Closed, FailsBy, GivesUp, IsBroken, IsGivenUp}
-use Rattle.local_run.specs.Ends.{IsApart, IsDamaged, IsFoundDamaged, IsSureHalt, IsWholeHalt, LogsFailures, failed_count, records_due}
+use Rattle.local_run.specs.Ends.{IsApart, IsDamaged, IsFoundDamaged, IsSureHalt, IsWholeHalt, LogsFailures, failed_count}
 use Rattle.local_run.specs.Jobs.{IsRefusedDamage, IsWholeInput, ReadsOver, halt_by}
 use Rattle.local_run.proofs.Failures.{logs_plain}
 use Rattle.local_run.proofs.Fresh.{unended_by}
@@ -84,15 +83,7 @@ taken_logs {S} count d after attempt link moment h = ap (λ (a : DeskState S). r
 pub taken_plan : {S : Type 0} (count : S → ℕ) (d after : DeskState S) (attempt : Attempt) (link : LinkNo) (moment : ℕ) → Claims count d link moment (Ok (claims.Taken attempt)) after → after.plan ≡ d.plan
 taken_plan {S} count d after attempt link moment h = ap (λ (a : DeskState S). a.plan) h.2.5
 
--- a claim that takes nothing
-pub nothing_same : {S : Type 0} (count : S → ℕ) (d after : DeskState S) (link : LinkNo) (moment : ℕ) (why : Nothing) → Claims count d link moment (Ok (claims.Nothing why)) after → records_of after.moves ≡ records_of d.moves
-nothing_same {S} count d after link moment why h = ap (λ (a : DeskState S). records_of a.moves) h.2
-
-pub nothing_due : {S : Type 0} (count : S → ℕ) (d after : DeskState S) (link : LinkNo) (moment : ℕ) (why : Nothing) → Claims count d link moment (Ok (claims.Nothing why)) after
-    → records_due after.plan (records_of after.moves) ≡ records_due d.plan (records_of d.moves)
-nothing_due {S} count d after link moment why h = ap (λ (a : DeskState S). records_due a.plan (records_of a.moves)) h.2
-
--- one that is refused
+-- a claim that is refused
 pub refused_same : {S : Type 0} (count : S → ℕ) (d after : DeskState S) (link : LinkNo) (moment : ℕ) (why : ClaimRefused) → Claims count d link moment (Err why) after → IsFine after.trouble
     → records_of after.moves ≡ records_of d.moves
 refused_same {S} count d after link moment (unclaimed.Broken before now) h fine =
@@ -210,6 +201,24 @@ fails_sure t (halts.Damaged file logged found) h = tt
 fails_sure t halts.Runner h = absurd h
 fails_sure t halts.Site h = tt
 fails_sure t halts.Memory h = tt
+
+pub err_whole : {A : Type 0} (t : Trouble) (r : Result A Halt) → FailsBy t r → IfErr r (λ halt. IsWholeHalt halt)
+err_whole t (Ok done) h = tt
+err_whole t (Err (halts.Damaged file logged found)) h = absurd h
+err_whole t (Err halts.Runner) h = tt
+err_whole t (Err halts.Site) h = tt
+err_whole t (Err halts.Memory) h = tt
+
+pub err_sure : {A : Type 0} (t : Trouble) (r : Result A Halt) → FailsBy t r → IfErr r (λ halt. IsSureHalt halt)
+err_sure t (Ok done) h = tt
+err_sure t (Err (halts.Damaged file logged found)) h = absurd h
+err_sure t (Err halts.Runner) h = absurd h
+err_sure t (Err halts.Site) h = tt
+err_sure t (Err halts.Memory) h = tt
+
+pub map_err : {A : Type 0} (r : Result A Halt) (P Q : Halt → Type 0) → ((halt : Halt) → P halt → Q halt) → IfErr r P → IfErr r Q
+map_err (Ok done) P Q so h = tt
+map_err (Err halt) P Q so h = so halt h
 
 -- what is so of each error
 pub on_err : {A : Type 0} (r : Result A Halt) (P : Halt → Type 0) → ((halt : Halt) → r ≡ Err halt → P halt) → IfErr r P

@@ -12,6 +12,7 @@ use Rattle.flow_types.specs.declared.job.Failure.{Failure}
 use Rattle.flow_types.specs.Serial.{Contents, Function}
 use Rattle.run_history.specs.declared.states.FileState.{FileState}
 use Rattle.run_history.specs.declared.states.FileState.TheVariants as file
+use Rattle.run_history.specs.Links.{records_of}
 use Rattle.run_history.specs.States.{file_state}
 use Rattle.run_history.specs.Storage.{is_present, size_in}
 use Rattle.run_history.specs.Laws.{IsPresent}
@@ -23,7 +24,8 @@ use Rattle.desk.specs.declared.answers.InputRefused.{InputRefused}
 use Rattle.desk.specs.declared.answers.InputRefused.TheVariants as refused
 use Rattle.desk.specs.Inputs.{Looks}
 use Rattle.desk.specs.State.{DeskState, IsFine}
-use Rattle.local_run.specs.Course.{GoesOn, IsUnmade, LeavesAlone}
+use Rattle.local_run.specs.Collecting.{IsUntouched}
+use Rattle.local_run.specs.Course.{GoesOn, LeavesAlone}
 use Rattle.local_run.specs.Jobs.{ReadsOver, given_at}
 use Rattle.local_run.proofs.Alone.{reads_alone}
 use Rattle.local_run.proofs.Going.{stays}
@@ -71,19 +73,19 @@ module _ {S : Type 0} (trust : Type 0) (gives : Function) (may_fail : Job → Fa
   Goes d after = GoesOn trust gives may_fail sources tells files may_leave moment images_since d after
 
   abbrev pub Alone : DeskState S → S → Type 0
-  Alone d s = tells → LeavesAlone files may_leave moment images_since (IsUnmade d.plan d.log) d.site s
+  Alone d s = tells → LeavesAlone files may_leave moment images_since (IsUntouched d.plan d.log (records_of d.moves)) d.site s
 
-  by_trouble : (d after : DeskState S) (t : Trouble) → after ≡ record d { trouble = t; site = after.site } → Alone d after.site → Goes d after
-  by_trouble d after t same others =
-      subst (λ (a : DeskState S). Alone d a.site → Goes d a) (sym same) (stays trust gives may_fail sources tells files may_leave moment images_since d d.stop t after.site (λ none. none)) others
+  by_trouble : (d after : DeskState S) (t : Trouble) → after ≡ record d { trouble = t; site = after.site } → (IsFine t → IsFine d.trouble) → Alone d after.site → Goes d after
+  by_trouble d after t same works others =
+      subst (λ (a : DeskState S). Alone d a.site → Goes d a) (sym same) (stays trust gives may_fail sources tells files may_leave moment images_since d d.stop t after.site (λ none. none) works) others
 
-  over_answer : (A : Type 0) (d after : DeskState S) (r : Result A InputRefused) → ReadsOver d r after → Alone d after.site → Goes d after
-  over_answer A d after (Ok inputs) h others = by_trouble d after d.trouble h others
-  over_answer A d after (Err (refused.Damaged f logged found)) h others = by_trouble d after d.trouble h others
-  over_answer A d after (Err (refused.Broken before now)) h others = by_trouble d after (trouble.Broken before now) h others
-  over_answer A d after (Err refused.Memory) h others = by_trouble d after after.trouble h others
+  over_answer : (A : Type 0) (d after : DeskState S) (r : Result A InputRefused) → IsFine d.trouble → ReadsOver d r after → Alone d after.site → Goes d after
+  over_answer A d after (Ok inputs) fine h others = by_trouble d after d.trouble h (λ still. still) others
+  over_answer A d after (Err (refused.Damaged f logged found)) fine h others = by_trouble d after d.trouble h (λ still. still) others
+  over_answer A d after (Err (refused.Broken before now)) fine h others = by_trouble d after (trouble.Broken before now) h (λ still. fine) others
+  over_answer A d after (Err refused.Memory) fine h others = by_trouble d after after.trouble h (λ still. fine) others
 
   -- the reading of files adds nothing
-  pub reads_goes : (A : Type 0) (d after : DeskState S) (r : Result A InputRefused) → ReadsOver d r after
+  pub reads_goes : (A : Type 0) (d after : DeskState S) (r : Result A InputRefused) → IsFine d.trouble → ReadsOver d r after
       → (tells → LeavesAlone files may_leave moment images_since (λ m. Unit {0}) d.site after.site) → Goes d after
-  reads_goes A d after r h others = over_answer A d after r h (λ told. reads_alone files may_leave moment images_since d.plan d.log d.site after.site (others told))
+  reads_goes A d after r fine h others = over_answer A d after r fine h (λ told. reads_alone files may_leave moment images_since d.plan d.log (records_of d.moves) d.site after.site (others told))

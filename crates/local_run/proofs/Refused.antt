@@ -1,6 +1,6 @@
 -- What a run that didn't start leaves.
-use Rattle.std.proofs.Common.{◌≡◌, ◌≢◌, ◌∙◌, ℕ, Bool, true, false, List, [], ◌∷◌, map, length, Option, Some, None, Result, Ok, Err, refl, sym, ap, subst, true≢false}
-use Rattle.std.specs.Prelude.{nat_lt, if◌then◌else◌}
+use Rattle.std.proofs.Common.{◌≡◌, ◌≢◌, ◌∙◌, ℕ, Bool, true, false, List, [], ◌∷◌, map, length, Option, Some, None, Result, Ok, Err, refl, sym, ap, true≢false}
+use Rattle.std.specs.Prelude.{nat_le, nat_lt, if◌then◌else◌}
 use Rattle.flow_types.specs.declared.plan.Plan.{Plan}
 use Rattle.flow_types.specs.declared.records.Record.{Record}
 use Rattle.run_history.specs.declared.options.Options.{Options}
@@ -90,8 +90,13 @@ late_among : (said : ℕ → Option StartFault) → ((f : ℕ) → is_early_in (
 late_among said late [] = refl
 late_among said late (f ∷ fs) = late_first (said f) (first_of (map said fs)) (late f) (late_among said late fs)
 
-empty_none : (P : Plan) (O : Options) → O.limit ≡ None → early_fault P O [] ≡ None
-empty_none P O is = ap (λ l. or_else (stored_fault (stored P []) l) None) is
+above_late : (bytes : ℕ) (limit : Option ℕ) → is_early_in (stored_fault bytes limit) ≡ false
+above_late bytes None = refl
+above_late bytes (Some most) = by_test (nat_le bytes most)
+  where
+    by_test : (b : Bool) → is_early_in (if b then None else Some (faults.StoredAboveLimit bytes most)) ≡ false
+    by_test true = refl
+    by_test false = refl
 
 file_late : (P : Plan) (files : Files) (f : ℕ) → is_early_in (file_fault P true (file_state P []) files f) ≡ false
 file_late P files f = early_within (is_source P f) (source_fault f (files (file_name P f))) (source_late f (files (file_name P f)))
@@ -100,19 +105,19 @@ last_late : (o : Option StartFault) → is_early_in o ≡ false → is_early_in 
 last_late None is = is
 last_late (Some why) is = is
 
-empty_late : (P : Plan) (O : Options) (files : Files) → O.limit ≡ None → is_early_in (run_fault P O [] files) ≡ false
-empty_late P O files is =
-    ap (λ o. is_early_in (or_else o (or_else (first_file_fault P [] files) None))) (empty_none P O is)
-    ∙ last_late (first_file_fault P [] files) (late_among (file_fault P true (file_state P []) files) (file_late P files) (file_numbers P))
+empty_late : (P : Plan) (O : Options) (files : Files) → is_early_in (run_fault P O [] files) ≡ false
+empty_late P O files =
+    late_first (early_fault P O []) (or_else (first_file_fault P [] files) None) (last_late (stored_fault (stored P []) O.limit) (above_late (stored P []) O.limit))
+    (last_late (first_file_fault P [] files) (late_among (file_fault P true (file_state P []) files) (file_late P files) (file_numbers P)))
 
 -- Only over records a run is refused for them.
-pub early_over : (P : Plan) (O : Options) (H : List Record) (files : Files) (how : Result Check Stopped) → O.limit ≡ None → StartEnds (run_fault P O H files) how → IsEarlyRun how → H ≡ [] → ⊥
-early_over P O H files (Ok check) limit starts early none = early
-early_over P O H files (Err (stopped.Halted halt)) limit starts early none = early
-early_over P O H files (Err (stopped.Refused why)) limit starts early none =
+pub early_over : (P : Plan) (O : Options) (H : List Record) (files : Files) (how : Result Check Stopped) → StartEnds (run_fault P O H files) how → IsEarlyRun how → H ≡ [] → ⊥
+early_over P O H files (Ok check) starts early none = early
+early_over P O H files (Err (stopped.Halted halt)) starts early none = early
+early_over P O H files (Err (stopped.Refused why)) starts early none =
     let refusal = early_uncut why early in
     let same : run_fault P O [] files ≡ Some why = ap (λ (G : List Record). run_fault P O G files) (sym none) ∙ starts refusal.0 in
-    let wrong : true ≡ false = sym refusal.1 ∙ sym (ap is_early_in same) ∙ empty_late P O files limit in
+    let wrong : true ≡ false = sym refusal.1 ∙ sym (ap is_early_in same) ∙ empty_late P O files in
     true≢false wrong
 
 -- what a recovery answers that finds damage

@@ -1,7 +1,6 @@
 -- From the desk at its end to what a run leaves.
-use Rattle.std.proofs.Common.{length-append, ◌≡◌, ◌≤◌, ◌<◌, arith, ◌⊎◌, ◌∙◌, inl, inr, ⊎_elim, ℕ, true, List, [], ◌∷◌, ◌++◌, length, map, Option, None, Result, Ok, Err, refl, sym, ap, subst}
-use Rattle.std.specs.Prelude.{IfOk, OnOk, filter_map}
-use Rattle.std.proofs.lemmas.List.Elements.{filter_map-append}
+use Rattle.std.proofs.Common.{length-append, ◌≡◌, ◌≤◌, ◌<◌, arith, ◌⊎◌, ◌∙◌, inl, inr, ⊎_elim, ℕ, true, List, [], ◌∷◌, ◌++◌, length, Option, None, Result, Ok, Err, refl, sym, ap, subst}
+use Rattle.std.specs.Prelude.{IfOk, OnOk}
 use mathlib.Core.List.{IsPrefix}
 use Rattle.flow_types.specs.declared.plan.Plan.{Plan}
 use Rattle.flow_types.specs.declared.numbers.Content.{Content}
@@ -13,8 +12,7 @@ use Rattle.run_history.specs.declared.answers.Check.{Check}
 use Rattle.run_history.specs.declared.options.Options.{Options}
 use Rattle.run_history.specs.Answers.{before_end, end_over}
 use Rattle.run_history.specs.declared.moves.Move.{Move}
-use Rattle.run_history.specs.declared.moves.Move.TheVariants as moves
-use Rattle.run_history.specs.Links.{logged_in, records_of}
+use Rattle.run_history.specs.Links.{records_of}
 use Rattle.outside.specs.Disk.{Outcomes}
 use Rattle.outside.specs.Files.{Files}
 use Rattle.desk.specs.declared.answers.Trouble.{Trouble}
@@ -35,14 +33,7 @@ use Rattle.local_run.specs.Course.{Closed, GoesOn, HaltsBy, IsBroken}
 use Rattle.local_run.specs.declared.ended.Stopped.{Stopped}
 use Rattle.local_run.specs.declared.ended.Stopped.TheVariants as stopped
 use Rattle.local_run.specs.Runs.{Adds, HasCauses, IsAdmitted, IsClosedRun, IsCutRun, LosesNone, ended_by}
-
-logged_all : (xs : List Record) → filter_map logged_in (map moves.Logged xs) ≡ xs
-logged_all [] = refl
-logged_all (x ∷ xs) = ap (λ (l : List Record). x ∷ l) (logged_all xs)
-
--- records that were added stand behind the others
-pub records_more : (M : List Move) (xs : List Record) → records_of (M ++ map moves.Logged xs) ≡ records_of M ++ xs
-records_more M xs = filter_map-append logged_in M (map moves.Logged xs) ∙ ap (λ (l : List Record). records_of M ++ l) (logged_all xs)
+use Rattle.local_run.proofs.Going.{records_more}
 
 pub adds_records : {S : Type 0} (trust : Type 0) (gives : Function) (may_fail : Job → Failure → Type 0) (sources : Contents) (tells : Type 0) (files : S → Files) (may_leave : S → Outcomes) (moment : S → ℕ)
     (images_since : S → ℕ → Files → Type 0) (d after : DeskState S) (all : List Record) → all ≡ records_of after.moves

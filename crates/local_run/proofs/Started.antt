@@ -5,7 +5,7 @@ use Rattle.std.specs.Option.{option_and_then, option_map_or}
 use Rattle.std.specs.List.{list_any}
 use Rattle.std.specs.Str.{bytes_eq}
 use Rattle.std.proofs.lemmas.Bool.{and_right}
-use Rattle.std.proofs.lemmas.List.{append-nil}
+use Rattle.std.proofs.lemmas.List.{append-nil, map-append}
 use Rattle.std.proofs.lemmas.List.Elements.{All-nil, All-cons}
 use Rattle.flow_types.specs.declared.plan.Plan.{Plan}
 use Rattle.flow_types.specs.declared.numbers.Content.{Content}
@@ -21,7 +21,7 @@ use Rattle.run_history.specs.Answers.{or_else}
 use Rattle.run_history.specs.History.{is_cleaned, is_opening}
 use Rattle.run_history.specs.Legal.{first_illegal}
 use Rattle.run_history.specs.Links.{records_of}
-use Rattle.run_history.specs.States.{limit_in, outs_in, outs_of, running_in}
+use Rattle.run_history.specs.States.{drops, limit_in, outs_in, outs_of, running_in}
 use Rattle.run_history.specs.Storage.{is_running, running_rules}
 use Rattle.run_history.proofs.Grows.{records-push}
 use Rattle.run_history.proofs.Steps.{running-is, running-opened}
@@ -38,11 +38,11 @@ use Rattle.desk.specs.Openings.{Opens, early_fault, opened_plan, opening, other_
 use Rattle.desk.proofs.Starting.{early_legal, none_illegal}
 use Rattle.desk.specs.State.{DeskState, IsFine}
 use Rattle.local_run.specs.Course.{FailsHonestly}
-use Rattle.local_run.specs.Ends.{IsFresh, is_failed, records_due}
+use Rattle.local_run.specs.Ends.{BeganOver, IsFresh, is_failed, records_due}
 use Rattle.local_run.specs.Losses.{is_lost}
 use Rattle.local_run.specs.Runs.{Adds, HasCauses, IsAdmitted, LosesNone}
 use Rattle.local_run.proofs.Fresh.{due_more, fresh_opened}
-use Rattle.local_run.proofs.Results.{records_more}
+use Rattle.local_run.proofs.Going.{records_more}
 
 pub none_pass : (p : ℕ → Bool) (xs : List ℕ) → ((x : ℕ) → p x ≡ false) → filter p xs ≡ []
 none_pass p [] fails = refl
@@ -86,9 +86,9 @@ late_legal P O H why is late =
 
 opening_by : (P : Plan) (O : Options) (first : Bool) (number moment : ℕ) (rows : List Content) (may_fail : Job → Failure → Type 0) (contents : Contents)
     → let x : Record = opening P O (record { first = first; number = number; moment = moment }) rows in (is_cleaned x ≡ false) × (is_opening x ≡ true) × FailsHonestly P may_fail contents x × (is_lost x ≡ false)
-    × (limit_in x ≡ Some O.limit) × (is_failed x ≡ false) × ((r : ℕ) → outs_in r x ≡ None)
-opening_by P O true number moment rows may_fail contents = (refl, refl, tt, refl, refl, refl, λ r. refl)
-opening_by P O false number moment rows may_fail contents = (refl, refl, tt, refl, refl, refl, λ r. refl)
+    × (limit_in x ≡ Some O.limit) × (is_failed x ≡ false) × (((r : ℕ) → outs_in r x ≡ None) × ((f : ℕ) → drops f x ≡ false))
+opening_by P O true number moment rows may_fail contents = (refl, refl, tt, refl, refl, refl, ((λ r. refl), λ f. refl))
+opening_by P O false number moment rows may_fail contents = (refl, refl, tt, refl, refl, refl, ((λ r. refl), λ f. refl))
 
 -- What a start tells of its desk.
 pub record IsBegun {S : Type 0} (first : ℕ) (P : Plan) (O : Options) (log : List ℕ) (H : List Record) (may_fail : Job → Failure → Type 0) (contents : Contents) (d : DeskState S) : Type 0 where
@@ -104,9 +104,11 @@ pub record IsBegun {S : Type 0} (first : ℕ) (P : Plan) (O : Options) (log : Li
   pub honest : FailsHonestly P may_fail contents entry
   pub kept : is_lost entry ≡ false
   pub idle : length (running_rules d.plan (records_of d.moves)) ≤ 0
-  pub fresh : O.limit ≡ None → IsFresh (records_of d.moves)
-  pub due : records_due P (records_of d.moves) ≡ records_due P H + 1
+  pub fresh : IsFresh O.limit (records_of d.moves)
+  pub due : records_due P (records_of d.moves) ≤ records_due P H + 1
   pub failed : is_failed entry ≡ false
+  pub keeps : (f : ℕ) → drops f entry ≡ false
+  pub over : BeganOver d H
 
 pub begun : {S : Type 0} (count : S → ℕ) (P : Plan) (O : Options) (log : List ℕ) (H : List Record) (moment : ℕ) (tells : Type 0) (files : Files) (old : S) (may_fail : Job → Failure → Type 0) (contents : Contents) (d : DeskState S)
     → (let begun : Result (DeskState S) (StartRefused S) = Ok d in BeginsRun count P O log H moment tells files old begun) → IsBegun (count old) P O log H may_fail contents d
@@ -130,9 +132,11 @@ begun {S} count P O log H moment tells files old may_fail contents d h =
       kept = ap is_lost opens.1 ∙ by.3;
       idle = subst (λ (G : List Record). length (running_rules d.plan G) ≤ 0) (sym records)
           (opened_idle d.plan H x (ap is_cleaned opens.1 ∙ by.0) (ap is_opening opens.1 ∙ by.1));
-      fresh = λ unlimited. subst IsFresh (sym records) (fresh_opened H x O.limit (ap is_cleaned opens.1 ∙ by.0) (ap is_opening opens.1 ∙ by.1) (ap limit_in opens.1 ∙ by.4) unlimited);
-      due = ap (records_due P) records ∙ due_more P H x (ap is_cleaned opens.1 ∙ by.0) (λ r. ap (outs_in r) opens.1 ∙ by.6 r);
+      fresh = subst (IsFresh O.limit) (sym records) (fresh_opened H x O.limit (ap is_cleaned opens.1 ∙ by.0) (ap is_opening opens.1 ∙ by.1) (ap limit_in opens.1 ∙ by.4));
+      due = subst (λ (G : List Record). records_due P G ≤ records_due P H + 1) (sym records) (due_more P H x (ap is_cleaned opens.1 ∙ by.0) (λ r. ap (outs_in r) opens.1 ∙ by.6.0 r));
       failed = ap is_failed opens.1 ∙ by.5;
+      keeps = λ f. ap (drops f) opens.1 ∙ by.6.1 f;
+      over = (ap (λ (v : DeskState S). v.base) h.2.2, (x, ap is_opening opens.1 ∙ by.1, ap (λ (v : DeskState S). v.moves) h.2.2 ∙ sym (map-append moves.Logged H (x ∷ []))));
     }
 
 -- what the run of the desk added, and the record with which it began

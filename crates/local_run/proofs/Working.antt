@@ -7,7 +7,6 @@ use Rattle.flow_types.specs.declared.job.Failure.{Failure}
 use Rattle.flow_types.specs.Plans.{IsValid, is_empty, rule_numbers}
 use Rattle.flow_types.specs.Serial.{Contents, Function}
 use Rattle.run_history.specs.declared.options.Options.{Options}
-use Rattle.run_history.specs.declared.options.Mode.TheVariants.{Never}
 use Rattle.run_history.specs.declared.answers.Stop.{Stop}
 use Rattle.run_history.specs.declared.answers.Check.{Check}
 use Rattle.run_history.specs.declared.answers.Check.TheVariants as checks
@@ -29,7 +28,7 @@ use Rattle.local_run.proofs.Completed.{completes_so, inputs_fit}
 use Rattle.local_run.proofs.EndKinds.{Rests, ends_so, least_says, over_says, unended_over}
 use Rattle.local_run.proofs.Failures.{failed_rose}
 use Rattle.local_run.proofs.Fresh.{empty_from, limit_more}
-use Rattle.local_run.proofs.Results.{records_more}
+use Rattle.local_run.proofs.Going.{records_more}
 
 module _ {S : Type 0} (trust : Type 0) (gives : Function) (may_fail : Job → Failure → Type 0) (sources : Contents) (tells : Type 0) (files : S → Files) (may_leave : S → Outcomes) (moment : S → ℕ)
     (images_since : S → ℕ → Files → Type 0) (d mid : DeskState S) (goes : GoesOn trust gives may_fail sources tells files may_leave moment images_since d mid) where
@@ -37,21 +36,21 @@ module _ {S : Type 0} (trust : Type 0) (gives : Function) (may_fail : Job → Fa
   pub grown : records_of mid.moves ≡ records_of d.moves ++ goes.more
   grown = ap records_of goes.moves ∙ records_more d.moves goes.more
 
-  pub limitless : IsFresh (records_of d.moves) → limit_of (records_of mid.moves) ≡ None
-  limitless fresh = ap limit_of grown ∙ limit_more (records_of d.moves) goes.more goes.anew ∙ fresh.limit
+  limited : IsFresh d.options.limit (records_of d.moves) → limit_of (records_of mid.moves) ≡ mid.options.limit
+  limited fresh = ap limit_of grown ∙ limit_more (records_of d.moves) goes.more goes.anew ∙ fresh.limited ∙ sym (ap (λ (O : Options). O.limit) goes.options)
 
-  pub rests_at : IsValid d.plan → IsFresh (records_of d.moves) → mid.stop ≡ None → d.options.mode ≡ Never → IsLegal mid.plan (records_of mid.moves) → is_empty (part (records_of mid.moves)) ≡ false
+  pub rests_at : IsValid d.plan → IsFresh d.options.limit (records_of d.moves) → mid.stop ≡ None → IsLegal mid.plan (records_of mid.moves) → is_empty (part (records_of mid.moves)) ≡ false
       → length (running_rules mid.plan (records_of mid.moves)) ≤ 0 → has_ended (records_of mid.moves) ≡ false → HasNothing mid → Rests mid.plan mid.options mid.moves
-  rests_at valid fresh unset never legal opened idle unended nothing = record {
+  rests_at valid fresh unset legal opened idle unended nothing = record {
     valid = subst IsValid (sym goes.plan) valid;
     legal = legal;
     opened = opened;
     idle = empty_from (running_rules mid.plan (records_of mid.moves)) idle;
     unended = unended;
-    limit = limitless fresh;
-    never = ap (λ (O : Options). O.mode) goes.options ∙ never;
+    limited = limited fresh;
     why = nothing.0;
     none = subst (λ (stop : Option Stop). claim_of mid.plan mid.options mid.moves stop 0 ≡ Err nothing.0) unset nothing.1;
+    undropped = nothing.2;
   }
 
   fits_still : FitsHere d.plan d.options → FitsHere mid.plan mid.options
@@ -62,31 +61,33 @@ module _ {S : Type 0} (trust : Type 0) (gives : Function) (may_fail : Job → Fa
   answer_is count time check after h unset = sym (h.1 ∙ ap (end_of mid.plan mid.options mid.moves) unset)
 
   -- is one of a run's ends
-  pub ending_at : (count : S → ℕ) (time : ℕ) (check : Check) (after : DeskState S) → Ends count mid time (Ok check) after → mid.stop ≡ None → Rests mid.plan mid.options mid.moves → FitsHere d.plan d.options → IsRunEnd check
+  pub ending_at : (count : S → ℕ) (time : ℕ) (check : Check) (after : DeskState S) → Ends count mid time (Ok check) after → mid.stop ≡ None → Rests mid.plan mid.options mid.moves → FitsHere d.plan d.options
+      → IsRunEnd d.options.limit check
   ending_at count time check after h unset rests here =
-      subst IsRunEnd (answer_is count time check after h unset) (ends_so mid.plan mid.options mid.moves rests (fits_still here))
+      subst (λ (O : Options). IsRunEnd O.limit check) goes.options (subst (IsRunEnd mid.options.limit) (answer_is count time check after h unset) (ends_so mid.plan mid.options mid.moves rests (fits_still here)))
 
-  rose_at : (before now : ℕ) → IsFresh (records_of d.moves) → LogsFailures (records_of d.moves) (records_of mid.moves) before now
+  rose_at : (before now : ℕ) → IsFresh d.options.limit (records_of d.moves) → LogsFailures (records_of d.moves) (records_of mid.moves) before now
       → (r : ℕ) → find (has_failed (records_of mid.moves)) (rule_numbers mid.plan) ≡ Some r → before < now
   rose_at before now fresh logs r found = failed_rose mid.plan (records_of d.moves) goes.more (records_of mid.moves) r before now fresh.since goes.anew grown logs found
 
   -- and is a failed command's only where the runner counted one
-  pub failed_at : (count : S → ℕ) (time : ℕ) (check : Check) (after : DeskState S) (before now : ℕ) → Ends count mid time (Ok check) after → mid.stop ≡ None → IsFresh (records_of d.moves) → has_ended (records_of mid.moves) ≡ false
+  pub failed_at : (count : S → ℕ) (time : ℕ) (check : Check) (after : DeskState S) (before now : ℕ) → Ends count mid time (Ok check) after → mid.stop ≡ None → IsFresh d.options.limit (records_of d.moves) → has_ended (records_of mid.moves) ≡ false
       → LogsFailures (records_of d.moves) (records_of mid.moves) before now → before ≤ now → HasFailed before now (Ok check)
   failed_at count time check after before now h unset fresh unended logs risen =
       let H = records_of mid.moves in
       let Q : Check → Type 0 = λ c. HasFailed before now (Ok c) in
       subst Q (sym (unended_over mid.plan mid.options mid.moves unended) ∙ answer_is count time check after h unset)
-      (over_says Q mid.plan mid.options H (limitless fresh) risen (λ r found why. rose_at before now fresh logs r found) (λ wants. risen) risen
-      (λ more. least_says Q (filter (passes_inputs mid.plan H) (ready_rules mid.plan H)) (λ r. checks.InputsTooLarge (rule_no r) (input_bytes mid.plan H r)) (λ r. risen)) (λ more full. risen))
+      (over_says Q mid.plan mid.options H mid.options.limit (limited fresh) risen (λ r found why. rose_at before now fresh logs r found) (λ wants. risen) risen
+      (λ more. least_says Q (filter (passes_inputs mid.plan H) (ready_rules mid.plan H)) (λ r. checks.InputsTooLarge (rule_no r) (input_bytes mid.plan H r)) (λ r. risen)) (λ more full. risen) (λ r most is. risen))
 
-  -- All rules are complete, over a sure runner, where the inputs fit and the log has room.
+  -- All rules are complete, or there is a limit and no room, over a sure runner, where the inputs fit and the log has room.
   pub complete_at : (count : S → ℕ) (time : ℕ) (check : Check) (after : DeskState S) (before now : ℕ) (image : Files) → Ends count mid time (Ok check) after → mid.stop ≡ None → Rests mid.plan mid.options mid.moves → FitsHere d.plan d.options
-      → IsFresh (records_of d.moves) → LogsFailures (records_of d.moves) (records_of mid.moves) before now → now ≡ before → trust → Keeps (Fits trust gives sources) mid.plan mid.log (records_of mid.moves) image
+      → IsFresh d.options.limit (records_of d.moves) → LogsFailures (records_of d.moves) (records_of mid.moves) before now → now ≡ before → trust → Keeps (Fits trust gives sources) mid.plan mid.log (records_of mid.moves) image
       → SerialInputsFit d.plan gives sources → length (running_rules mid.plan (records_of mid.moves)) ≤ 0 → records_due mid.plan (records_of mid.moves) ≤ records_due d.plan (records_of d.moves)
-      → records_due d.plan (records_of d.moves) + 1 ≤ most_records → IsCompleteEnd check
+      → records_due d.plan (records_of d.moves) + 1 ≤ most_records → IsCompleteEnd d.options.limit check
   complete_at count time check after before now image h unset rests here fresh logs same trusted keeps fit idle due few =
-      subst IsCompleteEnd (answer_is count time check after h unset)
+      subst (λ (O : Options). IsCompleteEnd O.limit check) goes.options
+      (subst (IsCompleteEnd mid.options.limit) (answer_is count time check after h unset)
       (completes_so mid.plan mid.options mid.moves rests (fits_still here)
       (λ r found. let rose = rose_at before now fresh logs r found in let wrong : ⊥ = omega (arith, rose, same) in wrong)
-      (inputs_fit trust mid.plan gives sources mid.log (records_of mid.moves) image trusted keeps (subst (λ (P : Plan). SerialInputsFit P gives sources) (sym goes.plan) fit)) idle (omega (arith, due, few)))
+      (inputs_fit trust mid.plan gives sources mid.log (records_of mid.moves) image trusted keeps (subst (λ (P : Plan). SerialInputsFit P gives sources) (sym goes.plan) fit)) idle (omega (arith, due, few))))

@@ -4,6 +4,7 @@ use Rattle.std.specs.List.{list_any}
 use Rattle.flow_types.specs.declared.plan.Plan.{Plan}
 use Rattle.flow_types.specs.declared.plan.Rule.{Rule}
 use Rattle.flow_types.specs.declared.numbers.AttemptNo.{AttemptNo}
+use Rattle.flow_types.specs.declared.numbers.FileNo.{FileNo}
 use Rattle.flow_types.specs.declared.numbers.RuleNo.{RuleNo}
 use Rattle.flow_types.specs.declared.job.Job.{Job}
 use Rattle.flow_types.specs.declared.job.Failure.{Failure}
@@ -12,16 +13,22 @@ use Rattle.flow_types.specs.declared.records.Record.TheVariants as records
 use Rattle.flow_types.specs.Plans.{maker_of}
 use Rattle.flow_types.specs.Serial.{Contents, Function, job_of, serial}
 use Rattle.run_history.specs.declared.answers.Nothing.{Nothing}
+use Rattle.run_history.specs.declared.answers.Nothing.TheVariants as nothing
 use Rattle.run_history.specs.Answers.{claim_of}
 use Rattle.run_history.specs.declared.moves.Move.TheVariants as moves
 use Rattle.run_history.specs.History.{is_cleaned, is_opening}
+use Rattle.run_history.specs.Links.{records_of}
+use Rattle.run_history.specs.States.{drops}
 use Rattle.desk.specs.declared.answers.Trouble.{Trouble}
 use Rattle.desk.specs.declared.answers.Trouble.TheVariants as trouble
+use Rattle.task_core.specs.Collections.{collection_of}
 use Rattle.outside.specs.Disk.{Outcomes}
 use Rattle.outside.specs.Files.{Files}
 use Rattle.file_store.specs.Outputs.{file_name}
 use Rattle.desk.specs.Kept.{ReadsStay, StaysBeside}
-use Rattle.desk.specs.State.{DeskState, IsFine}
+use Rattle.desk.specs.State.{AreNamed, DeskState, IsFine}
+use Rattle.local_run.specs.Collecting.{IsUntouched, is_collected}
+use Rattle.local_run.specs.Ends.{IsApart}
 use Rattle.local_run.specs.Losses.{is_lost}
 use Rattle.local_run.specs.declared.halt.Halt.{Halt}
 use Rattle.local_run.specs.declared.halt.Halt.TheVariants as halts
@@ -48,7 +55,7 @@ pub record LeavesAlone {S : Type 0} (files : S → Files) (may_leave : S → Out
 abbrev pub begins_anew : Record → Bool
 begins_anew x = is_opening x || is_cleaned x
 
--- The desk is that of the same start, and these records were added, none of which begins a run or a part. Where there is trust each failure among them is one that the rule's job over the serial run's contents may fail with. Where no stop is set none was set before, and no attempt was given up. Files that no rule makes stay.
+-- The desk is that of the same start, and these records were added, none of which begins a run or a part. Where there is trust each failure among them is one that the rule's job over the serial run's contents may fail with. Where no stop is set none was set before, and no attempt was given up. A desk that works did so before. What was dropped is collected, and where the desk works it is gone. Files that no rule makes, or that were collected already, stay.
 pub record GoesOn {S : Type 0} (trust : Type 0) (gives : Function) (may_fail : Job → Failure → Type 0) (sources : Contents) (tells : Type 0) (files : S → Files) (may_leave : S → Outcomes) (moment : S → ℕ)
     (images_since : S → ℕ → Files → Type 0) (d after : DeskState S) : Type 0 where
   pub more : List Record
@@ -62,7 +69,10 @@ pub record GoesOn {S : Type 0} (trust : Type 0) (gives : Function) (may_fail : J
   pub stops : after.stop ≡ None → d.stop ≡ None
   pub lost : after.stop ≡ None → list_any is_lost more ≡ false
   pub anew : list_any begins_anew more ≡ false
-  pub others : tells → LeavesAlone files may_leave moment images_since (IsUnmade d.plan d.log) d.site after.site
+  pub works : IsFine after.trouble → IsFine d.trouble
+  pub collected : (f : ℕ) → list_any (drops f) more ≡ true → is_collected d.plan (records_of after.moves) f ≡ true
+  pub gone : tells → IsFine after.trouble → IsApart d.plan d.log → AreNamed d.plan → (f : ℕ) → list_any (drops f) more ≡ true → files after.site (file_name d.plan f) ≡ None
+  pub others : tells → LeavesAlone files may_leave moment images_since (IsUntouched d.plan d.log (records_of d.moves)) d.site after.site
 
 -- its site failed
 abbrev pub IsBroken : Trouble → Type 0
@@ -99,9 +109,19 @@ FailsBy after (Err halts.Runner) = ⊥
 FailsBy after (Err halts.Site) = IsBroken after
 FailsBy after (Err halts.Memory) = Unit {0}
 
--- A claim for the local place gives no rule.
+-- it is that a file is to be dropped first
+abbrev pub is_collect_first : Nothing → Bool
+is_collect_first (nothing.CollectFirst file) = true
+is_collect_first why = false
+
+-- A claim for the local place gives no rule. Where that is since a file is to be dropped first, none can be dropped.
 abbrev pub HasNothing : {S : Type 0} → DeskState S → Type 0
 HasNothing d = (why : Nothing) × (claim_of d.plan d.options d.moves d.stop 0 ≡ Err why)
+    × (is_collect_first why ≡ true → (file : ℕ) → collection_of d.plan d.options d.moves ≡ Ok (Some file) → ⊥)
+
+-- No record was added, or the drop of a file.
+abbrev pub MayDrop : List Record → List Record → Type 0
+MayDrop H all = (all ≡ H) ⊎ ((moment : ℕ) × ((file : FileNo) × (all ≡ H ++ (records.Dropped moment file ∷ []))))
 
 -- The last of the records gives an attempt up.
 abbrev pub IsGivenUp : List Record → RuleNo → AttemptNo → List Record → Type 0

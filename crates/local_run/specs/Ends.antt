@@ -1,5 +1,5 @@
 -- How a run ends.
-use Rattle.std.specs.Prelude.{◌≡◌, ◌≢◌, ◌≤◌, ◌<◌, ◌+◌, ◌*◌, ℕ, Bool, true, false, not, List, [], ◌∷◌, length, Option, Some, None, Result, Ok, Err, map, count_by}
+use Rattle.std.specs.Prelude.{◌≡◌, ◌≢◌, ◌≤◌, ◌<◌, ◌+◌, ◌*◌, ℕ, Bool, true, false, not, List, [], ◌∷◌, ◌++◌, length, Option, Some, None, Result, Ok, Err, map, count_by}
 use Rattle.flow_types.specs.declared.plan.Plan.{Plan}
 use Rattle.flow_types.specs.declared.numbers.Content.{Content}
 use Rattle.flow_types.specs.declared.numbers.FileNo.{FileNo}
@@ -7,10 +7,11 @@ use Rattle.flow_types.specs.declared.records.Record.{Record}
 use Rattle.flow_types.specs.declared.records.Record.TheVariants as records
 use Rattle.flow_types.specs.Plans.{file_numbers, is_empty, rule_numbers}
 use Rattle.run_history.specs.declared.options.Options.{Options}
+use Rattle.run_history.specs.declared.moves.Move.TheVariants as moves
 use Rattle.run_history.specs.declared.states.Found.{Found}
 use Rattle.run_history.specs.declared.answers.Check.{Check}
 use Rattle.run_history.specs.declared.answers.Check.TheVariants as checks
-use Rattle.run_history.specs.History.{part, since_opening}
+use Rattle.run_history.specs.History.{is_opening, part, since_opening}
 use Rattle.run_history.specs.States.{file_state, limit_of}
 use Rattle.run_history.specs.Storage.{is_complete}
 use Rattle.run_history.specs.Laws.{IsPresent}
@@ -23,6 +24,8 @@ use Rattle.desk.specs.declared.answers.StartFault.TheVariants as faults
 use Rattle.desk.specs.Begins.{IsUncutBy}
 use Rattle.desk.specs.Inputs.{Finds}
 use Rattle.desk.specs.Openings.{early_fault, file_fault}
+use Rattle.desk.specs.State.{DeskState}
+use Rattle.local_run.specs.Collecting.{drops_due}
 use Rattle.local_run.specs.declared.halt.Halt.{Halt}
 use Rattle.local_run.specs.declared.halt.Halt.TheVariants as halts
 use Rattle.local_run.specs.declared.ended.Stopped.{Stopped}
@@ -47,18 +50,20 @@ pub record FitsHere (P : Plan) (O : Options) : Type 0 where
   pub here : O.wq ≡ false
   pub needs : (r : ℕ) → r < length P.rules → is_at_most (amounts_on 0 O.local (needs_of P r)) O.local ≡ true
 
--- With no limit, no stop and no collecting, the end of a local run is one of these.
-abbrev pub IsRunEnd : Check → Type 0
-IsRunEnd (checks.Complete collected) = Unit {0}
-IsRunEnd (checks.CommandFailed rule why) = Unit {0}
-IsRunEnd (checks.InputsTooLarge rule total) = Unit {0}
-IsRunEnd (checks.LogFull records) = Unit {0}
-IsRunEnd check = ⊥
+-- With no stop the end of a local run is one of these: for want of room only where there is a limit, which it names.
+abbrev pub IsRunEnd : Option ℕ → Check → Type 0
+IsRunEnd limit (checks.Complete collected) = Unit {0}
+IsRunEnd limit (checks.CommandFailed rule why) = Unit {0}
+IsRunEnd limit (checks.InputsTooLarge rule total) = Unit {0}
+IsRunEnd limit (checks.LogFull records) = Unit {0}
+IsRunEnd limit (checks.NoRoom rule need stored most) = limit ≡ Some most
+IsRunEnd limit check = ⊥
 
--- all rules are complete
-abbrev pub IsCompleteEnd : Check → Type 0
-IsCompleteEnd (checks.Complete collected) = Unit {0}
-IsCompleteEnd check = ⊥
+-- All rules are complete, or there is a limit and no room.
+abbrev pub IsCompleteEnd : Option ℕ → Check → Type 0
+IsCompleteEnd limit (checks.Complete collected) = Unit {0}
+IsCompleteEnd limit (checks.NoRoom rule need stored most) = limit ≡ Some most
+IsCompleteEnd limit check = ⊥
 
 -- no file of the plan has the log's name
 abbrev pub IsApart : Plan → List ℕ → Type 0
@@ -102,12 +107,13 @@ abbrev pub HasFailed : ℕ → ℕ → Result Check Stopped → Type 0
 HasFailed before now (Ok (checks.CommandFailed rule why)) = before < now
 HasFailed before now how = before ≤ now
 
--- The run came to its end with all rules complete, or memory was wanting.
-abbrev pub IsDone : Result Check Stopped → Type 0
-IsDone (Ok (checks.Complete collected)) = Unit {0}
-IsDone (Err (stopped.Refused faults.Memory)) = Unit {0}
-IsDone (Err (stopped.Halted halts.Memory)) = Unit {0}
-IsDone how = ⊥
+-- The run came to its end with all rules complete, or memory was wanting, or there is a limit and no room.
+abbrev pub IsDone : Option ℕ → Result Check Stopped → Type 0
+IsDone limit (Ok (checks.Complete collected)) = Unit {0}
+IsDone limit (Ok (checks.NoRoom rule need stored most)) = limit ≡ Some most
+IsDone limit (Err (stopped.Refused faults.Memory)) = Unit {0}
+IsDone limit (Err (stopped.Halted halts.Memory)) = Unit {0}
+IsDone limit how = ⊥
 
 -- ---- of the desk of a run
 
@@ -115,14 +121,18 @@ IsDone how = ⊥
 abbrev pub left_count : Plan → List Record → ℕ
 left_count P H = count_by (λ r. not (is_complete H r)) (rule_numbers P)
 
--- so many records has the log once each rule was started and done
+-- so many records has the log at most once each rule was started and done, and each made file dropped
 abbrev pub records_due : Plan → List Record → ℕ
-records_due P H = length H + 2 * left_count P H
+records_due P H = length H + 2 * left_count P H + drops_due P H
 
--- A run has just begun over these records, without a limit.
-pub record IsFresh (H : List Record) : Type 0 where
+-- A run has just begun over these records, with this limit.
+pub record IsFresh (limit : Option ℕ) (H : List Record) : Type 0 where
   pub since : since_opening H ≡ []
-  pub limit : limit_of H ≡ None
+  pub limited : limit_of H ≡ limit
+
+-- The desk was started over these records, and has one more, with which the run begins.
+abbrev pub BeganOver : {S : Type 0} → DeskState S → List Record → Type 0
+BeganOver d H = (d.base ≡ length H) × ((x : Record) × (is_opening x ≡ true) × (d.moves ≡ map moves.Logged (H ++ (x ∷ []))))
 
 -- Where it is why a run stopped, a damaged input was found damaged.
 abbrev pub IsFoundDamaged : Plan → List Record → Files → Halt → Type 0

@@ -1,9 +1,9 @@
 pub mod Jobs
+pub mod Collecting
 pub mod Course
 pub mod Runs
 pub mod Ends
 pub mod Moments
 pub mod Losses
-pub mod Lines
 pub mod Completing
 pub mod Laws

@@ -4,7 +4,6 @@ ghost use Rattle.std.specs.Prelude.{◌<◌, None, Option};
 ghost use Rattle.flow_types.specs.declared.records.Record.{Record as RecordValue};
 ghost use Rattle.flow_types.specs.Plans.{IsValid};
 ghost use Rattle.flow_types.specs.Serial.{serial};
-ghost use Rattle.run_history.specs.declared.options.Mode.TheVariants.{Never};
 ghost use Rattle.run_history.specs.Answers.{before_end, end_over};
 ghost use Rattle.run_history.specs.History.{since_opening};
 ghost use Rattle.run_history.specs.Spent.{SpentOnce};
@@ -15,6 +14,7 @@ ghost use Rattle.file_store.specs.Outputs.{file_name};
 ghost use Rattle.desk.specs.Kept.{IsLegal, Keeps, ReadsStay, StaysBeside};
 ghost use Rattle.log_recover.specs.declared.fault.RecoverFault.TheVariants as faults;
 ghost use Rattle.log_recover.specs.Recovery.{IsRecovering};
+ghost use Rattle.local_run.specs.Collecting.{AreGone, CollectsBy, RunCollects};
 ghost use Rattle.local_run.specs.Completing.{HasRecordRoom, SerialInputsFit};
 ghost use Rattle.local_run.specs.Course.{IsUnmade, TellsJobs};
 ghost use Rattle.local_run.specs.Ends.{FitsHere, HasFailed, IsDone, IsRunEnd, IsSureEnd};
@@ -48,8 +48,6 @@ pub fn resume<F: Commands, S: Site, R: Runner<F>, C: Clock, B: Born>(
     clock: &C,
 ) -> Result<RunEnded<S>, ResumeRefused<S>>
     requires valid { IsValid plan }
-    requires mode { options.mode ≡ Never }
-    requires limit { options.limit ≡ None }
     requires apart { (f : ℕ) → file_name plan f ≢ «name» }
     requires later { S.tells → B.born ≤ S.moment site }
     ensures damaged { IfErr result (λ refused. S.tells
@@ -121,7 +119,16 @@ pub fn resume<F: Commands, S: Site, R: Runner<F>, C: Clock, B: Born>(
     ensures starts { IfOk result (λ ended. S.tells → (H : List RecordValue)
         → Spells H (S.files site «name»)
         → StartEnds (run_fault plan options H (S.files site)) ended.how) }
-    ensures closed { IfOk result (λ ended. FitsHere plan options → IfOk ended.how IsRunEnd) }
+    ensures modes { IfOk result (λ ended. S.tells → (H : List RecordValue)
+        → Spells H (S.files site «name»)
+        → CollectsBy plan options.mode H ended.records) }
+    ensures collects { IfOk result (λ ended. (IsRefusedRun ended.how → ⊥)
+        → RunCollects plan options.mode ended.records) }
+    ensures gone { IfOk result (λ ended. S.tells → (IsCutRun ended.how → ⊥)
+        → (H : List RecordValue) → Spells H (S.files site «name»)
+        → AreGone plan (S.files ended.site) H ended.records) }
+    ensures closed { IfOk result (λ ended. FitsHere plan options
+        → IfOk ended.how (IsRunEnd options.limit)) }
     ensures damage { IfOk result (λ ended. S.tells
         → RunDamage plan ended.records (S.files ended.site) ended.how) }
     ensures whole { IfOk result (λ ended. S.tells → (H : List RecordValue)
@@ -140,7 +147,8 @@ pub fn resume<F: Commands, S: Site, R: Runner<F>, C: Clock, B: Born>(
         → TellsJobs plan (R.tells runner.old) (serial plan F.gives sources)
         → FitsHere plan options → SerialInputsFit plan F.gives sources
         → HasRecordRoom plan H → run_fault plan options H (S.files site) ≡ None
-        → R.sure runner.old → S.count ended.site ≤ S.count site → IsDone ended.how) }
+        → R.sure runner.old → S.count ended.site ≤ S.count site
+        → IsDone options.limit ended.how) }
 {
     files_spell_one_list();
     let mut site = site;

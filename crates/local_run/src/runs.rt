@@ -1,9 +1,9 @@
 //! A run over a log, from its start to its end.
 ghost use Rattle.std.specs.Prelude.{◌≡◌, ◌≢◌, ◌≤◌, ◌+◌, ◌⊎◌, ℕ, List, length, IfOk, OnOk, None};
 ghost use Rattle.std.specs.Prelude.{true};
+ghost use Rattle.flow_types.specs.declared.records.Record.{Record as RecordValue};
 ghost use Rattle.flow_types.specs.Plans.{IsValid, is_empty, is_source};
 ghost use Rattle.flow_types.specs.Serial.{serial};
-ghost use Rattle.run_history.specs.declared.options.Mode.TheVariants.{Never};
 ghost use Rattle.run_history.specs.Answers.{before_end, end_over};
 ghost use Rattle.run_history.specs.History.{part, since_opening};
 ghost use Rattle.run_history.specs.Legal.{most_records};
@@ -16,9 +16,11 @@ ghost use Rattle.txn_log.specs.Logs.{IsAt};
 ghost use Rattle.file_store.specs.Outputs.{file_name};
 ghost use Rattle.desk.specs.Kept.{Fits, IsLegal, Keeps, ReadsStay, StaysBeside, WasKept};
 ghost use Rattle.desk.specs.State.{IsFine, Takes};
+ghost use Rattle.local_run.specs.Collecting.{AreGone, CollectsBy, RunCollects};
 ghost use Rattle.local_run.specs.Completing.{HasRecordRoom, SerialInputsFit};
 ghost use Rattle.local_run.specs.Course.{IsUnmade, LeavesAlone, TellsJobs};
-ghost use Rattle.local_run.specs.Ends.{FitsHere, HasFailed, IsApart, IsCompleteEnd, IsDone};
+ghost use Rattle.local_run.specs.Ends.{BeganOver, FitsHere, HasFailed, IsApart, IsCompleteEnd};
+ghost use Rattle.local_run.specs.Ends.{IsDone};
 ghost use Rattle.local_run.specs.Ends.{IsFresh, IsRunEnd, IsSureEnd, IsWholeRun, LogsFailures};
 ghost use Rattle.local_run.specs.Ends.{RunDamage, StartEnds, records_due, run_fault};
 ghost use Rattle.local_run.specs.Runs.{Adds, BeginsWith, HasCauses, Held, IsAdmitted, IsClosedRun};
@@ -56,8 +58,7 @@ fn run_desk<F: Commands, S: Site, R: Runner<F>, C: Clock, T: Terms>(
     requires valid { IsValid desk.plan }
     requires fine { IsFine desk.trouble }
     requires unset { desk.stop ≡ None }
-    requires fresh { IsFresh (records_of desk.moves) }
-    requires never { desk.options.mode ≡ Never }
+    requires fresh { IsFresh desk.options.limit (records_of desk.moves) }
     requires idle { length (running_rules desk.plan (records_of desk.moves)) ≤ 0 }
     requires base { T.trust → S.tells × T.kept
         × TellsJobs desk.plan (R.tells runner.old) (serial desk.plan F.gives T.sources) }
@@ -82,7 +83,14 @@ fn run_desk<F: Commands, S: Site, R: Runner<F>, C: Clock, T: Terms>(
         → Keeps (Fits T.trust F.gives T.sources) desk.plan desk.log result.records image }
     ensures starts { StartEnds None result.how }
     ensures started { IsRefusedRun result.how → ⊥ }
-    ensures ending { FitsHere desk.plan desk.options → IfOk result.how IsRunEnd }
+    ensures modes { (H : List RecordValue) → BeganOver desk H
+        → CollectsBy desk.plan desk.options.mode H result.records }
+    ensures collects { (H : List RecordValue) → BeganOver desk H
+        → RunCollects desk.plan desk.options.mode result.records }
+    ensures gone { S.tells → (IsCutRun result.how → ⊥) → IsApart desk.plan desk.log
+        → AreGone desk.plan (S.files result.site) (records_of desk.moves) result.records }
+    ensures ending { FitsHere desk.plan desk.options
+        → IfOk result.how (IsRunEnd desk.options.limit) }
     ensures damage { S.tells → IsApart desk.plan desk.log
         → RunDamage desk.plan result.records (S.files result.site) result.how }
     ensures whole { S.tells → T.kept → IsWholeRun result.how }
@@ -93,7 +101,7 @@ fn run_desk<F: Commands, S: Site, R: Runner<F>, C: Clock, T: Terms>(
     ensures completes { FitsHere desk.plan desk.options → S.tells → T.kept → T.trust
         → SerialInputsFit desk.plan F.gives T.sources → R.sure runner.old
         → records_due desk.plan (records_of desk.moves) + 1 ≤ most_records
-        → IfOk result.how IsCompleteEnd }
+        → IfOk result.how (IsCompleteEnd desk.options.limit) }
 {
     let mut desk = desk;
     let how = ended_by(work(alloc, &mut desk, runner, clock));
@@ -114,8 +122,6 @@ fn run_by<F: Commands, S: Site, R: Runner<F>, C: Clock, T: Terms>(
     clock: &C,
 ) -> RunEnded<S>
     requires valid { IsValid plan }
-    requires mode { options.mode ≡ Never }
-    requires limit { options.limit ≡ None }
     requires takes { Takes log history }
     requires gate { S.tells → IsAt history log.gate (S.may_leave site log.name) }
     requires apart { (f : ℕ) → file_name plan f ≢ log.name }
@@ -152,7 +158,12 @@ fn run_by<F: Commands, S: Site, R: Runner<F>, C: Clock, T: Terms>(
         → StartEnds (run_fault plan options history (S.files site)) result.how }
     ensures same { IsRefusedRun result.how → result.records ≡ history }
     ensures quiet { IsEarlyRun result.how → result.site ≡ site }
-    ensures ending { FitsHere plan options → IfOk result.how IsRunEnd }
+    ensures modes { CollectsBy plan options.mode history result.records }
+    ensures collects { (IsRefusedRun result.how → ⊥)
+        → RunCollects plan options.mode result.records }
+    ensures gone { S.tells → (IsCutRun result.how → ⊥)
+        → AreGone plan (S.files result.site) history result.records }
+    ensures ending { FitsHere plan options → IfOk result.how (IsRunEnd options.limit) }
     ensures damage { S.tells
         → RunDamage plan result.records (S.files result.site) result.how }
     ensures whole { S.tells → T.kept → IsWholeRun result.how }
@@ -162,7 +173,7 @@ fn run_by<F: Commands, S: Site, R: Runner<F>, C: Clock, T: Terms>(
         (R.failures runner.old) (R.failures runner.new) }
     ensures completes { FitsHere plan options → S.tells → T.kept → T.trust
         → SerialInputsFit plan F.gives T.sources → HasRecordRoom plan history
-        → R.sure runner.old → IfOk result.how IsCompleteEnd }
+        → R.sure runner.old → IfOk result.how (IsCompleteEnd options.limit) }
 {
     match Desk::<F, S, T>::start(alloc, plan, site, log, history, options, clock.now()) {
         Ok(desk) => run_desk(alloc, desk, runner, clock),
@@ -194,8 +205,6 @@ pub fn run<F: Commands, S: Site, R: Runner<F>, C: Clock, B: Born>(
     clock: &C,
 ) -> RunEnded<S>
     requires valid { IsValid plan }
-    requires mode { options.mode ≡ Never }
-    requires limit { options.limit ≡ None }
     requires takes { Takes log history }
     requires gate { S.tells → IsAt history log.gate (S.may_leave site log.name) }
     requires apart { (f : ℕ) → file_name plan f ≢ log.name }
@@ -237,7 +246,12 @@ pub fn run<F: Commands, S: Site, R: Runner<F>, C: Clock, B: Born>(
         → StartEnds (run_fault plan options history (S.files site)) result.how }
     ensures same { IsRefusedRun result.how → result.records ≡ history }
     ensures quiet { IsEarlyRun result.how → result.site ≡ site }
-    ensures closed { FitsHere plan options → IfOk result.how IsRunEnd }
+    ensures modes { CollectsBy plan options.mode history result.records }
+    ensures collects { (IsRefusedRun result.how → ⊥)
+        → RunCollects plan options.mode result.records }
+    ensures gone { S.tells → (IsCutRun result.how → ⊥)
+        → AreGone plan (S.files result.site) history result.records }
+    ensures closed { FitsHere plan options → IfOk result.how (IsRunEnd options.limit) }
     ensures damage { S.tells
         → RunDamage plan result.records (S.files result.site) result.how }
     ensures whole { S.tells → IsKeeping plan log.name history (S.may_leave site)
@@ -252,7 +266,8 @@ pub fn run<F: Commands, S: Site, R: Runner<F>, C: Clock, B: Born>(
         → TellsJobs plan (R.tells runner.old) (serial plan F.gives sources)
         → FitsHere plan options → SerialInputsFit plan F.gives sources
         → HasRecordRoom plan history → run_fault plan options history (S.files site) ≡ None
-        → R.sure runner.old → S.count result.site ≤ S.count site → IsDone result.how }
+        → R.sure runner.old → S.count result.site ≤ S.count site
+        → IsDone options.limit result.how }
 {
     run_by::<F, S, R, C, Brand>(alloc, plan, site, log, history, options, runner, clock)
 }

@@ -73,27 +73,27 @@ returns-in-Ok-Failed-clause-halts g c = halts_from c.fail.new.desk.trouble _ _ c
 pub returns-in-Err-clause-goes : goal.returns-in-Err-clause-goes
 returns-in-Err-clause-goes g c =
     goes_on g.T.Terms.trust g.F.Commands.gives g.F.Commands.may_fail g.T.Terms.sources g.S.Site.tells g.S.Site.files g.S.Site.may_leave g.S.Site.moment g.S.Site.images_since c.args.desk.now c.job_for.new.desk c.give_up.new.desk
-    (reads_goes g.T.Terms.trust g.F.Commands.gives g.F.Commands.may_fail g.T.Terms.sources g.S.Site.tells g.S.Site.files g.S.Site.may_leave g.S.Site.moment g.S.Site.images_since Job c.args.desk.now c.job_for.new.desk (Err c.in-Err.why) c.in-Err.ensures.reply (λ told. c.job_for.ensures.others told)) c.give_up.ensures.goes
+    (reads_goes g.T.Terms.trust g.F.Commands.gives g.F.Commands.may_fail g.T.Terms.sources g.S.Site.tells g.S.Site.files g.S.Site.may_leave g.S.Site.moment g.S.Site.images_since Job c.args.desk.now c.job_for.new.desk (Err c.in-Err.why) c.requires.fine c.in-Err.ensures.reply (λ told. c.job_for.ensures.others told)) c.give_up.ensures.goes
 
 pub returns-in-Ok-Success-clause-goes : goal.returns-in-Ok-Success-clause-goes
 returns-in-Ok-Success-clause-goes g c =
     goes_on g.T.Terms.trust g.F.Commands.gives g.F.Commands.may_fail g.T.Terms.sources g.S.Site.tells g.S.Site.files g.S.Site.may_leave g.S.Site.moment g.S.Site.images_since c.args.desk.now c.job_for.new.desk c.finish.new.desk
-    (reads_goes g.T.Terms.trust g.F.Commands.gives g.F.Commands.may_fail g.T.Terms.sources g.S.Site.tells g.S.Site.files g.S.Site.may_leave g.S.Site.moment g.S.Site.images_since (Unit {0}) c.args.desk.now c.job_for.new.desk (Ok tt) c.in-Ok.ensures.reply (λ told. c.job_for.ensures.others told)) c.finish.ensures.goes
+    (reads_goes g.T.Terms.trust g.F.Commands.gives g.F.Commands.may_fail g.T.Terms.sources g.S.Site.tells g.S.Site.files g.S.Site.may_leave g.S.Site.moment g.S.Site.images_since (Unit {0}) c.args.desk.now c.job_for.new.desk (Ok tt) c.requires.fine c.in-Ok.ensures.reply (λ told. c.job_for.ensures.others told)) c.finish.ensures.goes
 
 pub returns-in-Ok-Failed-clause-goes : goal.returns-in-Ok-Failed-clause-goes
 returns-in-Ok-Failed-clause-goes g c =
     goes_on g.T.Terms.trust g.F.Commands.gives g.F.Commands.may_fail g.T.Terms.sources g.S.Site.tells g.S.Site.files g.S.Site.may_leave g.S.Site.moment g.S.Site.images_since c.args.desk.now c.job_for.new.desk c.fail.new.desk
-    (reads_goes g.T.Terms.trust g.F.Commands.gives g.F.Commands.may_fail g.T.Terms.sources g.S.Site.tells g.S.Site.files g.S.Site.may_leave g.S.Site.moment g.S.Site.images_since (Unit {0}) c.args.desk.now c.job_for.new.desk (Ok tt) c.in-Ok.ensures.reply (λ told. c.job_for.ensures.others told)) c.fail.ensures.goes
+    (reads_goes g.T.Terms.trust g.F.Commands.gives g.F.Commands.may_fail g.T.Terms.sources g.S.Site.tells g.S.Site.files g.S.Site.may_leave g.S.Site.moment g.S.Site.images_since (Unit {0}) c.args.desk.now c.job_for.new.desk (Ok tt) c.requires.fine c.in-Ok.ensures.reply (λ told. c.job_for.ensures.others told)) c.fail.ensures.goes
 
 pub returns-in-Err-Failed-clause-goes : goal.returns-in-Err-Failed-clause-goes
 returns-in-Err-Failed-clause-goes g c =
     goes_on g.T.Terms.trust g.F.Commands.gives g.F.Commands.may_fail g.T.Terms.sources g.S.Site.tells g.S.Site.files g.S.Site.may_leave g.S.Site.moment g.S.Site.images_since c.args.desk.now c.job_for.new.desk c.give_up-in-Err-Failed.new.desk
-    (reads_goes g.T.Terms.trust g.F.Commands.gives g.F.Commands.may_fail g.T.Terms.sources g.S.Site.tells g.S.Site.files g.S.Site.may_leave g.S.Site.moment g.S.Site.images_since (Unit {0}) c.args.desk.now c.job_for.new.desk (Ok tt) c.in-Ok.ensures.reply (λ told. c.job_for.ensures.others told)) c.give_up-in-Err-Failed.ensures.goes
+    (reads_goes g.T.Terms.trust g.F.Commands.gives g.F.Commands.may_fail g.T.Terms.sources g.S.Site.tells g.S.Site.files g.S.Site.may_leave g.S.Site.moment g.S.Site.images_since (Unit {0}) c.args.desk.now c.job_for.new.desk (Ok tt) c.requires.fine c.in-Ok.ensures.reply (λ told. c.job_for.ensures.others told)) c.give_up-in-Err-Failed.ensures.goes
 
 pub returns-clause-goes : goal.returns-clause-goes
 returns-clause-goes g c =
     goes_on g.T.Terms.trust g.F.Commands.gives g.F.Commands.may_fail g.T.Terms.sources g.S.Site.tells g.S.Site.files g.S.Site.may_leave g.S.Site.moment g.S.Site.images_since c.args.desk.now c.job_for.new.desk c.give_up-in-Err-Memory.new.desk
-    (reads_goes g.T.Terms.trust g.F.Commands.gives g.F.Commands.may_fail g.T.Terms.sources g.S.Site.tells g.S.Site.files g.S.Site.may_leave g.S.Site.moment g.S.Site.images_since (Unit {0}) c.args.desk.now c.job_for.new.desk (Ok tt) c.in-Ok.ensures.reply (λ told. c.job_for.ensures.others told)) c.give_up-in-Err-Memory.ensures.goes
+    (reads_goes g.T.Terms.trust g.F.Commands.gives g.F.Commands.may_fail g.T.Terms.sources g.S.Site.tells g.S.Site.files g.S.Site.may_leave g.S.Site.moment g.S.Site.images_since (Unit {0}) c.args.desk.now c.job_for.new.desk (Ok tt) c.requires.fine c.in-Ok.ensures.reply (λ told. c.job_for.ensures.others told)) c.give_up-in-Err-Memory.ensures.goes
 
 pub returns-in-Err-clause-failures : goal.returns-in-Err-clause-failures
 returns-in-Err-clause-failures g c fine =

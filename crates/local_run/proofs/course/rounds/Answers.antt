@@ -7,7 +7,8 @@ use Rattle.run_history.specs.Storage.{running_rules}
 use Rattle.flow_types.specs.declared.plan.Plan.{Plan}
 use Rattle.flow_types.specs.Plans.{IsValid}
 use Rattle.flow_types.specs.Serial.{serial}
-use Rattle.local_run.specs.Course.{IsUnmade, TellsJobs}
+use Rattle.local_run.specs.Collecting.{IsUntouched}
+use Rattle.local_run.specs.Course.{TellsJobs}
 use Rattle.local_run.proofs.Alone.{alone_same}
 use Rattle.local_run.proofs.Failures.{logs_then, sure_then}
 use Rattle.local_run.proofs.Going.{goes_on, stays}
@@ -37,8 +38,8 @@ returns-in-Err-clause-halts g c = halts_later {A = Unit {0}} c.round.new.desk.tr
 
 pub rounds-init : goal.rounds-init
 rounds-init g c = record {
-  goes = stays g.T.Terms.trust g.F.Commands.gives g.F.Commands.may_fail g.T.Terms.sources g.S.Site.tells g.S.Site.files g.S.Site.may_leave g.S.Site.moment g.S.Site.images_since c.args.desk.now c.args.desk.now.stop c.args.desk.now.trouble c.args.desk.now.site (λ none. none)
-      (λ told. alone_same g.S.Site.files g.S.Site.may_leave g.S.Site.moment g.S.Site.images_since (IsUnmade c.args.desk.now.plan c.args.desk.now.log) c.args.desk.now.site
+  goes = stays g.T.Terms.trust g.F.Commands.gives g.F.Commands.may_fail g.T.Terms.sources g.S.Site.tells g.S.Site.files g.S.Site.may_leave g.S.Site.moment g.S.Site.images_since c.args.desk.now c.args.desk.now.stop c.args.desk.now.trouble c.args.desk.now.site (λ none. none) (λ fine. fine)
+      (λ told. alone_same g.S.Site.files g.S.Site.may_leave g.S.Site.moment g.S.Site.images_since (IsUntouched c.args.desk.now.plan c.args.desk.now.log (records_of c.args.desk.now.moves)) c.args.desk.now.site
       (λ image. (g.met.S.Site g.world.𝓛 g.world.𝓜 g.world.𝓡 ((λ s x. x), (λ x. x), (λ x. x), λ x. x)).only_now told c.args.desk.now.site image));
   grew = omega arith;
   fine = c.requires.fine;

@@ -13,21 +13,21 @@ returns-in-Ok-end-clause-goes g c =
     let mid = c.rounds.new.desk in
     goes_on g.T.Terms.trust g.F.Commands.gives g.F.Commands.may_fail g.T.Terms.sources g.S.Site.tells g.S.Site.files g.S.Site.may_leave g.S.Site.moment g.S.Site.images_since c.args.desk.now mid c.end.new.self c.rounds.ensures.goes
     (ends_goes g.T.Terms.trust g.F.Commands.gives g.F.Commands.may_fail g.T.Terms.sources g.S.Site.tells g.S.Site.files g.S.Site.may_leave g.S.Site.moment g.S.Site.images_since g.S.Site.count mid c.now.result c.end.result c.end.new.self
-    (λ told. log_alone g.S.Site.files g.S.Site.may_leave g.S.Site.moment g.S.Site.images_since mid.plan mid.log mid.site c.end.new.self.site (c.end.ensures.others told) (c.end.ensures.reads told)) c.end.ensures.reply)
+    (λ told. log_alone g.S.Site.files g.S.Site.may_leave g.S.Site.moment g.S.Site.images_since mid.plan mid.log (records_of mid.moves) mid.site c.end.new.self.site (c.end.ensures.others told) (c.end.ensures.reads told)) c.end.ensures.reply)
 
 pub returns-in-Err-Broken-clause-goes : goal.returns-in-Err-Broken-clause-goes
 returns-in-Err-Broken-clause-goes g c =
     let mid = c.rounds.new.desk in
     goes_on g.T.Terms.trust g.F.Commands.gives g.F.Commands.may_fail g.T.Terms.sources g.S.Site.tells g.S.Site.files g.S.Site.may_leave g.S.Site.moment g.S.Site.images_since c.args.desk.now mid c.end.new.self c.rounds.ensures.goes
     (ends_goes g.T.Terms.trust g.F.Commands.gives g.F.Commands.may_fail g.T.Terms.sources g.S.Site.tells g.S.Site.files g.S.Site.may_leave g.S.Site.moment g.S.Site.images_since g.S.Site.count mid c.now.result c.end.result c.end.new.self
-    (λ told. log_alone g.S.Site.files g.S.Site.may_leave g.S.Site.moment g.S.Site.images_since mid.plan mid.log mid.site c.end.new.self.site (c.end.ensures.others told) (c.end.ensures.reads told)) c.end.ensures.reply)
+    (λ told. log_alone g.S.Site.files g.S.Site.may_leave g.S.Site.moment g.S.Site.images_since mid.plan mid.log (records_of mid.moves) mid.site c.end.new.self.site (c.end.ensures.others told) (c.end.ensures.reads told)) c.end.ensures.reply)
 
 pub returns-in-Err-Memory-clause-goes : goal.returns-in-Err-Memory-clause-goes
 returns-in-Err-Memory-clause-goes g c =
     let mid = c.rounds.new.desk in
     goes_on g.T.Terms.trust g.F.Commands.gives g.F.Commands.may_fail g.T.Terms.sources g.S.Site.tells g.S.Site.files g.S.Site.may_leave g.S.Site.moment g.S.Site.images_since c.args.desk.now mid c.end.new.self c.rounds.ensures.goes
     (ends_goes g.T.Terms.trust g.F.Commands.gives g.F.Commands.may_fail g.T.Terms.sources g.S.Site.tells g.S.Site.files g.S.Site.may_leave g.S.Site.moment g.S.Site.images_since g.S.Site.count mid c.now.result c.end.result c.end.new.self
-    (λ told. log_alone g.S.Site.files g.S.Site.may_leave g.S.Site.moment g.S.Site.images_since mid.plan mid.log mid.site c.end.new.self.site (c.end.ensures.others told) (c.end.ensures.reads told)) c.end.ensures.reply)
+    (λ told. log_alone g.S.Site.files g.S.Site.may_leave g.S.Site.moment g.S.Site.images_since mid.plan mid.log (records_of mid.moves) mid.site c.end.new.self.site (c.end.ensures.others told) (c.end.ensures.reads told)) c.end.ensures.reply)
 
 pub returns-in-Ok-end-clause-idle : goal.returns-in-Ok-end-clause-idle
 returns-in-Ok-end-clause-idle g c fine =
@@ -72,23 +72,23 @@ pub returns-in-Err-Memory-clause-failed : goal.returns-in-Err-Memory-clause-fail
 returns-in-Err-Memory-clause-failed g c fresh unset = c.rounds.ensures.risen
 
 pub returns-in-Ok-end-clause-ending : goal.returns-in-Ok-end-clause-ending
-returns-in-Ok-end-clause-ending g c fresh unset never here =
+returns-in-Ok-end-clause-ending g c fresh unset here =
     ending_at g.T.Terms.trust g.F.Commands.gives g.F.Commands.may_fail g.T.Terms.sources g.S.Site.tells g.S.Site.files g.S.Site.may_leave g.S.Site.moment g.S.Site.images_since c.args.desk.now c.rounds.new.desk c.rounds.ensures.goes g.S.Site.count c.now.result c.in-Ok-end.check c.end.new.self c.in-Ok-end.ensures.reply (c.in-Ok.ensures.closed.1 ∙ unset)
-    (rests_at g.T.Terms.trust g.F.Commands.gives g.F.Commands.may_fail g.T.Terms.sources g.S.Site.tells g.S.Site.files g.S.Site.may_leave g.S.Site.moment g.S.Site.images_since c.args.desk.now c.rounds.new.desk c.rounds.ensures.goes c.requires.valid fresh (c.in-Ok.ensures.closed.1 ∙ unset) never
-    c.works-works.ensures.legal c.works-works.ensures.opened (c.rounds.ensures.idle c.in-Ok.ensures.closed.0) (c.rounds.ensures.unended c.in-Ok.ensures.closed.0 (fresh_unended (records_of c.args.desk.now.moves) fresh)) c.in-Ok.ensures.rests) here
+    (rests_at g.T.Terms.trust g.F.Commands.gives g.F.Commands.may_fail g.T.Terms.sources g.S.Site.tells g.S.Site.files g.S.Site.may_leave g.S.Site.moment g.S.Site.images_since c.args.desk.now c.rounds.new.desk c.rounds.ensures.goes c.requires.valid fresh (c.in-Ok.ensures.closed.1 ∙ unset)
+    c.works-works.ensures.legal c.works-works.ensures.opened (c.rounds.ensures.idle c.in-Ok.ensures.closed.0) (c.rounds.ensures.unended c.in-Ok.ensures.closed.0 (fresh_unended c.args.desk.now.options.limit (records_of c.args.desk.now.moves) fresh)) c.in-Ok.ensures.rests) here
 
 pub returns-in-Ok-end-clause-failed : goal.returns-in-Ok-end-clause-failed
 returns-in-Ok-end-clause-failed g c fresh unset =
     failed_at g.T.Terms.trust g.F.Commands.gives g.F.Commands.may_fail g.T.Terms.sources g.S.Site.tells g.S.Site.files g.S.Site.may_leave g.S.Site.moment g.S.Site.images_since c.args.desk.now c.rounds.new.desk c.rounds.ensures.goes g.S.Site.count c.now.result c.in-Ok-end.check c.end.new.self
     (g.R.Runner.failures c.args.runner.now) (g.R.Runner.failures c.rounds.new.runner) c.in-Ok-end.ensures.reply (c.in-Ok.ensures.closed.1 ∙ unset) fresh
-    (c.rounds.ensures.unended c.in-Ok.ensures.closed.0 (fresh_unended (records_of c.args.desk.now.moves) fresh)) (c.rounds.ensures.failures c.in-Ok.ensures.closed.0) c.rounds.ensures.risen
+    (c.rounds.ensures.unended c.in-Ok.ensures.closed.0 (fresh_unended c.args.desk.now.options.limit (records_of c.args.desk.now.moves) fresh)) (c.rounds.ensures.failures c.in-Ok.ensures.closed.0) c.rounds.ensures.risen
 
 pub returns-in-Ok-end-clause-completes : goal.returns-in-Ok-end-clause-completes
-returns-in-Ok-end-clause-completes g c fresh unset never here told kept trusted fit sure few =
+returns-in-Ok-end-clause-completes g c fresh unset here told kept trusted fit sure few =
     let image = g.S.Site.files c.rounds.new.desk.site in
     complete_at g.T.Terms.trust g.F.Commands.gives g.F.Commands.may_fail g.T.Terms.sources g.S.Site.tells g.S.Site.files g.S.Site.may_leave g.S.Site.moment g.S.Site.images_since c.args.desk.now c.rounds.new.desk c.rounds.ensures.goes g.S.Site.count c.now.result c.in-Ok-end.check c.end.new.self
     (g.R.Runner.failures c.args.runner.now) (g.R.Runner.failures c.rounds.new.runner) image c.in-Ok-end.ensures.reply (c.in-Ok.ensures.closed.1 ∙ unset)
-    (rests_at g.T.Terms.trust g.F.Commands.gives g.F.Commands.may_fail g.T.Terms.sources g.S.Site.tells g.S.Site.files g.S.Site.may_leave g.S.Site.moment g.S.Site.images_since c.args.desk.now c.rounds.new.desk c.rounds.ensures.goes c.requires.valid fresh (c.in-Ok.ensures.closed.1 ∙ unset) never
-    c.works-works.ensures.legal c.works-works.ensures.opened (c.rounds.ensures.idle c.in-Ok.ensures.closed.0) (c.rounds.ensures.unended c.in-Ok.ensures.closed.0 (fresh_unended (records_of c.args.desk.now.moves) fresh)) c.in-Ok.ensures.rests) here fresh (c.rounds.ensures.failures c.in-Ok.ensures.closed.0) (c.rounds.ensures.sure sure).none trusted
+    (rests_at g.T.Terms.trust g.F.Commands.gives g.F.Commands.may_fail g.T.Terms.sources g.S.Site.tells g.S.Site.files g.S.Site.may_leave g.S.Site.moment g.S.Site.images_since c.args.desk.now c.rounds.new.desk c.rounds.ensures.goes c.requires.valid fresh (c.in-Ok.ensures.closed.1 ∙ unset)
+    c.works-works.ensures.legal c.works-works.ensures.opened (c.rounds.ensures.idle c.in-Ok.ensures.closed.0) (c.rounds.ensures.unended c.in-Ok.ensures.closed.0 (fresh_unended c.args.desk.now.options.limit (records_of c.args.desk.now.moves) fresh)) c.in-Ok.ensures.rests) here fresh (c.rounds.ensures.failures c.in-Ok.ensures.closed.0) (c.rounds.ensures.sure sure).none trusted
     (c.works-works.ensures.now told kept c.in-Ok.ensures.closed.0 image ((g.met.S.Site g.world.𝓛 g.world.𝓜 g.world.𝓡 ((λ s x. x), (λ x. x), (λ x. x), λ x. x)).reads_image told c.rounds.new.desk.site))
     fit (c.rounds.ensures.idle c.in-Ok.ensures.closed.0) (c.in-Ok.ensures.due sure) few

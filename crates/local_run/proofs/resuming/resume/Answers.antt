@@ -3,6 +3,7 @@ use Rattle.flow_types.specs.Serial.{Contents, serial}
 use Rattle.file_store.specs.Outputs.{file_name}
 use Rattle.desk.specs.Kept.{WasKept}
 use Rattle.local_run.specs.Completing.{HasRecordRoom, SerialInputsFit}
+use Rattle.local_run.specs.Collecting.{AreGone, CollectsBy}
 use Rattle.local_run.specs.Course.{TellsJobs}
 use Rattle.local_run.specs.Ends.{LogsFailures}
 use Rattle.local_run.specs.Moments.{IsMoment}
@@ -104,7 +105,7 @@ pub returns-in-Ok-clause-quiet : goal.returns-in-Ok-clause-quiet
 returns-in-Ok-clause-quiet g c told early m =
     ap (λ (s : g.row.S.Denot). g.S.Site.files s m) (c.run.ensures.quiet early)
     ∙ c.in-Ok.ensures.same told
-    (λ unbegun. early_over c.args.plan c.args.options c.in-Ok.history (g.S.Site.files c.recover.new.site) c.run.result.how c.requires.limit (c.run.ensures.starts told) early
+    (λ unbegun. early_over c.args.plan c.args.options c.in-Ok.history (g.S.Site.files c.recover.new.site) c.run.result.how (c.run.ensures.starts told) early
     (c.files_spell_one_list.ensures.one c.in-Ok.history [] (g.S.Site.files c.args.site c.args.name) (c.in-Ok.ensures.answer told) (inl unbegun))) m
 
 pub returns-in-Ok-clause-honest : goal.returns-in-Ok-clause-honest
@@ -120,3 +121,11 @@ pub returns-in-Err-clause-unchanged : goal.returns-in-Err-clause-unchanged
 returns-in-Err-clause-unchanged g c told damaged m =
     reads_same c.args.name m (g.S.Site.files c.args.site) (g.S.Site.files c.recover.new.site)
     (c.recover.ensures.unchanged told (subst IsDamage (sym c.in-Err.is) (damage_told c.in-Err.why damaged))) (c.recover.ensures.others told m)
+
+pub returns-in-Ok-clause-modes : goal.returns-in-Ok-clause-modes
+returns-in-Ok-clause-modes g c told H spelled =
+    subst (λ (G : List Record). CollectsBy c.args.plan c.args.options.mode G c.run.result.records) (c.in-Ok.ensures.exact told H spelled) c.run.ensures.modes
+
+pub returns-in-Ok-clause-gone : goal.returns-in-Ok-clause-gone
+returns-in-Ok-clause-gone g c told whole H spelled =
+    subst (λ (G : List Record). AreGone c.args.plan (g.S.Site.files c.run.result.site) G c.run.result.records) (c.in-Ok.ensures.exact told H spelled) (c.run.ensures.gone told whole)

@@ -72,6 +72,6 @@ returns-clause-whole g c told keeping = c.run_by.ensures.whole told keeping
 pub returns-clause-completes : goal.returns-clause-completes
 returns-clause-completes g c told standing tells here fit room free sure stood =
     let keeping = (standing_keeps g.F.Commands.gives (read_sources c.args.plan (g.S.Site.files c.args.site)) c.args.plan c.args.log.name c.args.history (g.S.Site.may_leave c.args.site) standing) in
-    all_done (run_fault c.args.plan c.args.options c.args.history (g.S.Site.files c.args.site)) c.run_by.result.how (g.S.Site.count c.args.site) (g.S.Site.count c.run_by.result.site)
+    all_done c.args.options.limit (run_fault c.args.plan c.args.options c.args.history (g.S.Site.files c.args.site)) c.run_by.result.how (g.S.Site.count c.args.site) (g.S.Site.count c.run_by.result.site)
     (g.R.Runner.count c.args.runner.now) (g.R.Runner.count c.run_by.new.runner) (c.run_by.ensures.starts told) free (c.run_by.ensures.whole told keeping) (c.run_by.ensures.sure sure) c.run_by.ensures.causes stood
     (c.run_by.ensures.completes here told keeping (told, keeping, standing, tells) fit room sure)

@@ -1,4 +1,4 @@
-use Rattle.std.proofs.Common.{◌≡◌, ◌≢◌, ◌+◌, ◌∙◌, ◌≤◌, ℕ, List, Option, ap, length, refl, subst, sym}
+use Rattle.std.proofs.Common.{◌≡◌, ◌≢◌, ◌+◌, ◌∙◌, ◌≤◌, ℕ, List, Option, length, refl, subst, sym}
 use Rattle.std.specs.Prelude.{IfOk, None}
 use Rattle.flow_types.specs.declared.records.Record.{Record}
 use Rattle.run_history.specs.declared.options.Options.{Options}
@@ -11,11 +11,13 @@ use Rattle.flow_types.specs.Serial.{serial}
 use Rattle.run_history.specs.Storage.{running_rules}
 use Rattle.desk.specs.Kept.{Fits, IsLegal}
 use Rattle.desk.specs.declared.answers.StartFault.{StartFault}
+use Rattle.local_run.specs.Collecting.{AreGone, CollectsBy, RunCollects}
 use Rattle.local_run.specs.Completing.{SerialInputsFit}
 use Rattle.local_run.specs.Course.{IsUnmade, LeavesAlone, TellsJobs}
-use Rattle.local_run.specs.Ends.{FitsHere, IsApart, RunDamage, StartEnds, records_due}
+use Rattle.local_run.specs.Ends.{FitsHere, IsApart, IsCompleteEnd, IsFresh, IsRunEnd, RunDamage, StartEnds, records_due}
 use Rattle.local_run.specs.Runs.{HasCauses, IsCutRun, LosesNone}
 use Rattle.local_run.proofs.Alone.{beside_less}
+use Rattle.local_run.proofs.Modes.{collects_none, gone_begun, gone_none}
 use Rattle.local_run.proofs.Results.{closed_whole, on_ok}
 use Rattle.local_run.proofs.Failures.{logs_plain, logs_then}
 use Rattle.local_run.proofs.Fresh.{has_room_due}
@@ -127,10 +129,9 @@ pub run_desk-requires-clause-unset : goal.run_desk-requires-clause-unset
 run_desk-requires-clause-unset g c κs within = (begun g.S.Site.count c.args.plan c.args.options c.args.log.name c.args.history c.now.result g.S.Site.tells (g.S.Site.files c.args.site) c.args.site g.F.Commands.may_fail (serial c.args.plan g.F.Commands.gives g.T.Terms.sources) c.in-Ok.desk c.in-Ok.ensures.reply).unset
 
 pub run_desk-requires-clause-fresh : goal.run_desk-requires-clause-fresh
-run_desk-requires-clause-fresh g c κs within = (begun g.S.Site.count c.args.plan c.args.options c.args.log.name c.args.history c.now.result g.S.Site.tells (g.S.Site.files c.args.site) c.args.site g.F.Commands.may_fail (serial c.args.plan g.F.Commands.gives g.T.Terms.sources) c.in-Ok.desk c.in-Ok.ensures.reply).fresh c.requires.limit
-
-pub run_desk-requires-clause-never : goal.run_desk-requires-clause-never
-run_desk-requires-clause-never g c κs within = ap (λ (O : Options). O.mode) (begun g.S.Site.count c.args.plan c.args.options c.args.log.name c.args.history c.now.result g.S.Site.tells (g.S.Site.files c.args.site) c.args.site g.F.Commands.may_fail (serial c.args.plan g.F.Commands.gives g.T.Terms.sources) c.in-Ok.desk c.in-Ok.ensures.reply).options ∙ c.requires.mode
+run_desk-requires-clause-fresh g c κs within =
+    let b : IsBegun (g.S.Site.count c.args.site) c.args.plan c.args.options c.args.log.name c.args.history g.F.Commands.may_fail (serial c.args.plan g.F.Commands.gives g.T.Terms.sources) c.in-Ok.desk = (begun g.S.Site.count c.args.plan c.args.options c.args.log.name c.args.history c.now.result g.S.Site.tells (g.S.Site.files c.args.site) c.args.site g.F.Commands.may_fail (serial c.args.plan g.F.Commands.gives g.T.Terms.sources) c.in-Ok.desk c.in-Ok.ensures.reply) in
+    subst (λ (O : Options). IsFresh O.limit (records_of c.in-Ok.desk.moves)) (sym b.options) b.fresh
 
 pub returns-in-Ok-clause-starts : goal.returns-in-Ok-clause-starts
 returns-in-Ok-clause-starts g c told =
@@ -144,7 +145,8 @@ returns-in-Err-clause-starts g c told uncut =
 pub returns-in-Ok-clause-ending : goal.returns-in-Ok-clause-ending
 returns-in-Ok-clause-ending g c here =
     let b : IsBegun (g.S.Site.count c.args.site) c.args.plan c.args.options c.args.log.name c.args.history g.F.Commands.may_fail (serial c.args.plan g.F.Commands.gives g.T.Terms.sources) c.in-Ok.desk = (begun g.S.Site.count c.args.plan c.args.options c.args.log.name c.args.history c.now.result g.S.Site.tells (g.S.Site.files c.args.site) c.args.site g.F.Commands.may_fail (serial c.args.plan g.F.Commands.gives g.T.Terms.sources) c.in-Ok.desk c.in-Ok.ensures.reply) in
-    c.run_desk.ensures.ending (subst (λ (P : Plan). FitsHere P c.in-Ok.desk.options) (sym b.plan) (subst (λ (O : Options). FitsHere c.args.plan O) (sym b.options) here))
+    subst (λ (O : Options). IfOk c.run_desk.result.how (IsRunEnd O.limit)) b.options
+    (c.run_desk.ensures.ending (subst (λ (P : Plan). FitsHere P c.in-Ok.desk.options) (sym b.plan) (subst (λ (O : Options). FitsHere c.args.plan O) (sym b.options) here)))
 
 pub returns-in-Ok-clause-damage : goal.returns-in-Ok-clause-damage
 returns-in-Ok-clause-damage g c told =
@@ -163,10 +165,11 @@ returns-in-Err-clause-failures g c closed = absurd closed
 pub returns-in-Ok-clause-completes : goal.returns-in-Ok-clause-completes
 returns-in-Ok-clause-completes g c here told kept trusted fit room sure =
     let b : IsBegun (g.S.Site.count c.args.site) c.args.plan c.args.options c.args.log.name c.args.history g.F.Commands.may_fail (serial c.args.plan g.F.Commands.gives g.T.Terms.sources) c.in-Ok.desk = (begun g.S.Site.count c.args.plan c.args.options c.args.log.name c.args.history c.now.result g.S.Site.tells (g.S.Site.files c.args.site) c.args.site g.F.Commands.may_fail (serial c.args.plan g.F.Commands.gives g.T.Terms.sources) c.in-Ok.desk c.in-Ok.ensures.reply) in
-    let due : records_due c.in-Ok.desk.plan (records_of c.in-Ok.desk.moves) ≡ records_due c.args.plan c.args.history + 1 =
-    ap (λ (P : Plan). records_due P (records_of c.in-Ok.desk.moves)) b.plan ∙ b.due in
-    c.run_desk.ensures.completes (subst (λ (P : Plan). FitsHere P c.in-Ok.desk.options) (sym b.plan) (subst (λ (O : Options). FitsHere c.args.plan O) (sym b.options) here)) told kept trusted
-    (subst (λ (P : Plan). SerialInputsFit P g.F.Commands.gives g.T.Terms.sources) (sym b.plan) fit) sure (has_room_due c.args.plan c.args.history _ due room)
+    let due : records_due c.in-Ok.desk.plan (records_of c.in-Ok.desk.moves) ≤ records_due c.args.plan c.args.history + 1 =
+    subst (λ (P : Plan). records_due P (records_of c.in-Ok.desk.moves) ≤ records_due c.args.plan c.args.history + 1) (sym b.plan) b.due in
+    subst (λ (O : Options). IfOk c.run_desk.result.how (IsCompleteEnd O.limit)) b.options
+    (c.run_desk.ensures.completes (subst (λ (P : Plan). FitsHere P c.in-Ok.desk.options) (sym b.plan) (subst (λ (O : Options). FitsHere c.args.plan O) (sym b.options) here)) told kept trusted
+    (subst (λ (P : Plan). SerialInputsFit P g.F.Commands.gives g.T.Terms.sources) (sym b.plan) fit) sure (has_room_due c.args.plan c.args.history _ due room))
 
 pub returns-in-Ok-clause-same : goal.returns-in-Ok-clause-same
 returns-in-Ok-clause-same g c refused = absurd (c.run_desk.ensures.started refused)
@@ -180,3 +183,31 @@ returns-in-Err-clause-same g c refused = c.in-Err.ensures.reply.0
 pub returns-in-Err-clause-quiet : goal.returns-in-Err-clause-quiet
 returns-in-Err-clause-quiet g c early =
     early_same g.S.Site.count c.args.plan c.args.options c.args.history g.S.Site.tells (g.S.Site.files c.args.site) c.args.site c.in-Err.refused.site c.in-Err.refused.why c.in-Err.ensures.reply.1 early
+
+pub returns-in-Ok-clause-modes : goal.returns-in-Ok-clause-modes
+returns-in-Ok-clause-modes g c =
+    let b : IsBegun (g.S.Site.count c.args.site) c.args.plan c.args.options c.args.log.name c.args.history g.F.Commands.may_fail (serial c.args.plan g.F.Commands.gives g.T.Terms.sources) c.in-Ok.desk = (begun g.S.Site.count c.args.plan c.args.options c.args.log.name c.args.history c.now.result g.S.Site.tells (g.S.Site.files c.args.site) c.args.site g.F.Commands.may_fail (serial c.args.plan g.F.Commands.gives g.T.Terms.sources) c.in-Ok.desk c.in-Ok.ensures.reply) in
+    subst (λ (P : Plan). CollectsBy P c.args.options.mode c.args.history c.run_desk.result.records) b.plan
+    (subst (λ (O : Options). CollectsBy c.in-Ok.desk.plan O.mode c.args.history c.run_desk.result.records) b.options (c.run_desk.ensures.modes c.args.history b.over))
+
+pub returns-in-Err-clause-modes : goal.returns-in-Err-clause-modes
+returns-in-Err-clause-modes g c = collects_none c.args.plan c.args.options.mode c.args.history c.in-Err.refused.history c.in-Err.ensures.reply.0
+
+pub returns-in-Ok-clause-gone : goal.returns-in-Ok-clause-gone
+returns-in-Ok-clause-gone g c told whole =
+    let b : IsBegun (g.S.Site.count c.args.site) c.args.plan c.args.options c.args.log.name c.args.history g.F.Commands.may_fail (serial c.args.plan g.F.Commands.gives g.T.Terms.sources) c.in-Ok.desk = (begun g.S.Site.count c.args.plan c.args.options c.args.log.name c.args.history c.now.result g.S.Site.tells (g.S.Site.files c.args.site) c.args.site g.F.Commands.may_fail (serial c.args.plan g.F.Commands.gives g.T.Terms.sources) c.in-Ok.desk c.in-Ok.ensures.reply) in
+    gone_begun c.args.plan (g.S.Site.files c.run_desk.result.site) c.args.history (records_of c.in-Ok.desk.moves) c.run_desk.result.records b.entry b.records b.keeps
+    (subst (λ (P : Plan). AreGone P (g.S.Site.files c.run_desk.result.site) (records_of c.in-Ok.desk.moves) c.run_desk.result.records) b.plan
+    (c.run_desk.ensures.gone told whole (subst (λ (P : Plan). IsApart P c.in-Ok.desk.log) (sym b.plan) (subst (λ (n : List ℕ). IsApart c.args.plan n) (sym b.log_is) c.requires.apart))))
+
+pub returns-in-Err-clause-gone : goal.returns-in-Err-clause-gone
+returns-in-Err-clause-gone g c told whole = gone_none c.args.plan (g.S.Site.files c.in-Err.refused.site) c.args.history c.in-Err.refused.history c.in-Err.ensures.reply.0
+
+pub returns-in-Ok-clause-collects : goal.returns-in-Ok-clause-collects
+returns-in-Ok-clause-collects g c started =
+    let b : IsBegun (g.S.Site.count c.args.site) c.args.plan c.args.options c.args.log.name c.args.history g.F.Commands.may_fail (serial c.args.plan g.F.Commands.gives g.T.Terms.sources) c.in-Ok.desk = (begun g.S.Site.count c.args.plan c.args.options c.args.log.name c.args.history c.now.result g.S.Site.tells (g.S.Site.files c.args.site) c.args.site g.F.Commands.may_fail (serial c.args.plan g.F.Commands.gives g.T.Terms.sources) c.in-Ok.desk c.in-Ok.ensures.reply) in
+    subst (λ (P : Plan). RunCollects P c.args.options.mode c.run_desk.result.records) b.plan
+    (subst (λ (O : Options). RunCollects c.in-Ok.desk.plan O.mode c.run_desk.result.records) b.options (c.run_desk.ensures.collects c.args.history b.over))
+
+pub returns-in-Err-clause-collects : goal.returns-in-Err-clause-collects
+returns-in-Err-clause-collects g c started = absurd (started tt)

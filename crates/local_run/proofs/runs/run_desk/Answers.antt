@@ -9,9 +9,14 @@ use Rattle.flow_types.specs.declared.plan.Plan.{Plan}
 use Rattle.run_history.specs.Storage.{running_rules}
 use Rattle.desk.specs.Kept.{Fits, IsLegal, WasKept}
 use Rattle.local_run.specs.declared.ended.Stopped.{Stopped}
+use Rattle.desk.proofs.Named.{named}
+use Rattle.local_run.specs.Collecting.{IsUntouched}
 use Rattle.local_run.specs.Course.{IsUnmade, LeavesAlone}
 use Rattle.local_run.specs.Ends.{HasFailed, IsApart, IsCompleteEnd, IsRunEnd, IsSureEnd, IsWholeRun, LogsFailures, RunDamage, StartEnds}
 use Rattle.local_run.specs.Runs.{HasCauses, IsCutRun, IsRefusedRun, LosesNone, ended_by}
+use Rattle.local_run.proofs.Alone.{alone_less}
+use Rattle.local_run.proofs.Collecting.{unmade_untouched}
+use Rattle.local_run.proofs.Modes.{are_gone, collects_by, run_collects}
 use Rattle.local_run.proofs.Done.{damage_ended, if_ended, sure_ended, whole_ended}
 use Rattle.local_run.proofs.Refused.{not_refused}
 use Rattle.local_run.proofs.Starts.{desk_starts}
@@ -63,15 +68,18 @@ returns-clause-ends g c =
 
 pub returns-clause-others : goal.returns-clause-others
 returns-clause-others g c told =
-    subst (λ (s : g.row.S.Denot). LeavesAlone g.S.Site.files g.S.Site.may_leave g.S.Site.moment g.S.Site.images_since (IsUnmade c.args.desk.plan c.args.desk.log) c.args.desk.site s) (sym c.into_parts-site.ensures.site) (c.work.ensures.goes.others told)
+    subst (λ (s : g.row.S.Denot). LeavesAlone g.S.Site.files g.S.Site.may_leave g.S.Site.moment g.S.Site.images_since (IsUnmade c.args.desk.plan c.args.desk.log) c.args.desk.site s) (sym c.into_parts-site.ensures.site)
+    (let alone = c.work.ensures.goes.others told in
+    alone_less g.S.Site.files g.S.Site.may_leave g.S.Site.moment g.S.Site.images_since (IsUntouched c.args.desk.plan c.args.desk.log (records_of c.args.desk.moves)) (IsUnmade c.args.desk.plan c.args.desk.log) c.args.desk.site c.work.new.desk.site
+    (unmade_untouched c.args.desk.plan c.args.desk.log (records_of c.args.desk.moves)) alone.crash alone.reads)
 
 pub returns-clause-starts : goal.returns-clause-starts
 returns-clause-starts g c = subst (λ (how : Result Check Stopped). StartEnds None how) (sym c.ended_by-how.ensures) (desk_starts c.work.result)
 
 pub returns-clause-ending : goal.returns-clause-ending
 returns-clause-ending g c here =
-    subst (λ (how : Result Check Stopped). IfOk how IsRunEnd) (sym c.ended_by-how.ensures)
-    (if_ended c.work.result IsRunEnd (c.work.ensures.ending c.requires.fresh c.requires.unset c.requires.never here))
+    subst (λ (how : Result Check Stopped). IfOk how (IsRunEnd c.args.desk.options.limit)) (sym c.ended_by-how.ensures)
+    (if_ended c.work.result (IsRunEnd c.args.desk.options.limit) (c.work.ensures.ending c.requires.fresh c.requires.unset here))
 
 pub returns-clause-damage : goal.returns-clause-damage
 returns-clause-damage g c told apart =
@@ -105,8 +113,22 @@ returns-clause-failures g c closed =
 
 pub returns-clause-completes : goal.returns-clause-completes
 returns-clause-completes g c here told kept trusted fit sure few =
-    subst (λ (how : Result Check Stopped). IfOk how IsCompleteEnd) (sym c.ended_by-how.ensures)
-    (if_ended c.work.result IsCompleteEnd (c.work.ensures.completes c.requires.fresh c.requires.unset c.requires.never here told kept trusted fit sure few))
+    subst (λ (how : Result Check Stopped). IfOk how (IsCompleteEnd c.args.desk.options.limit)) (sym c.ended_by-how.ensures)
+    (if_ended c.work.result (IsCompleteEnd c.args.desk.options.limit) (c.work.ensures.completes c.requires.fresh c.requires.unset here told kept trusted fit sure few))
 
 pub returns-clause-started : goal.returns-clause-started
 returns-clause-started g c refused = not_refused c.work.result (subst IsRefusedRun c.ended_by-how.ensures refused)
+
+pub returns-clause-modes : goal.returns-clause-modes
+returns-clause-modes g c H began =
+    collects_by g.T.Terms.trust g.F.Commands.gives g.F.Commands.may_fail g.T.Terms.sources g.S.Site.tells g.S.Site.files g.S.Site.may_leave g.S.Site.moment g.S.Site.images_since c.args.desk c.work.new.desk c.work.ensures.goes H c.into_parts-site.result.1 began c.into_parts-site.ensures.records c.works-works.ensures.serves
+
+pub returns-clause-gone : goal.returns-clause-gone
+returns-clause-gone g c told whole apart =
+    are_gone g.T.Terms.trust g.F.Commands.gives g.F.Commands.may_fail g.T.Terms.sources g.S.Site.tells g.S.Site.files g.S.Site.may_leave g.S.Site.moment g.S.Site.images_since c.args.desk c.work.new.desk c.work.ensures.goes c.into_parts-site.result.1 c.into_parts-site.result.0 told
+    (fine_run c.args.desk c.work.new.desk (g.R.Runner.count c.args.runner.now) (g.R.Runner.count c.work.new.runner) c.work.result c.work.ensures.halts c.work.ensures.closed (subst (λ (how : Result Check Stopped). IsCutRun how → ⊥) c.ended_by-how.ensures whole))
+    apart (named c.args.desk.plan c.requires.valid) c.into_parts-site.ensures.records c.into_parts-site.ensures.site
+
+pub returns-clause-collects : goal.returns-clause-collects
+returns-clause-collects g c H began =
+    run_collects g.T.Terms.trust g.F.Commands.gives g.F.Commands.may_fail g.T.Terms.sources g.S.Site.tells g.S.Site.files g.S.Site.may_leave g.S.Site.moment g.S.Site.images_since c.args.desk c.work.new.desk c.work.ensures.goes H c.into_parts-site.result.1 began c.into_parts-site.ensures.records c.works-works.ensures.serves
