@@ -188,7 +188,8 @@ fn run_by<F: Commands, S: Site, R: Runner<F>, C: Clock, T: Terms>(
     }
 }
 
-/// Runs a plan over a log that was just read, on this machine.
+/// Runs a plan over a log that was just read, on this machine. A file that the mode of the options
+/// wants collected is dropped before another rule starts.
 ///
 /// At any moment of the call a crash leaves the records of the log, or these and some that the run
 /// added, each present file with what was logged, and where the commands are functions of their

@@ -1,4 +1,4 @@
-use Rattle.std.proofs.Common.{Ok, Option, refl, subst}
+use Rattle.std.proofs.Common.{Ok, Option, refl, subst, sym, true≢false}
 use Rattle.flow_types.specs.declared.numbers.FileNo.{FileNo}
 use Rattle.run_history.specs.Links.{records_of}
 use Rattle.desk.specs.Collections.{Collects}
@@ -51,3 +51,6 @@ returns-in-Ok-Some-clause-due g c = collects_due g.S.Site.count c.args.desk.now 
 pub returns-in-Ok-Some-clause-grew : goal.returns-in-Ok-Some-clause-grew
 returns-in-Ok-Some-clause-grew g c dropped = collects_longer g.S.Site.count c.args.desk.now c.now.result c.in-Ok-Some.field-0-0 c.collect.new.self
     (subst (λ (dropped : Option FileNo). Collects g.S.Site.count c.args.desk.now c.now.result (Ok dropped) c.collect.new.self) c.in-Ok-Some.field-0-is c.in-Ok-Some.ensures.reply)
+
+pub returns-in-Err-LogPlaces-clause-grew : goal.returns-in-Err-LogPlaces-clause-grew
+returns-in-Err-LogPlaces-clause-grew g c dropped = absurd (true≢false (sym dropped))
