@@ -1,5 +1,5 @@
 -- What a claim that takes a rule tells of it.
-use Rattle.std.proofs.Common.{length-append, ◌≡◌, ◌≤◌, ◌+◌, ◌∙◌, ⊎_elim, ℕ, Bool, true, false, cond, ◌&&◌, List, [], ◌∷◌, ◌++◌, length, Option, Some, None, Result, Ok, Err, refl, sym, ap, subst, arith, true≢false}
+use Rattle.std.proofs.Common.{length-append, ◌≡◌, ◌≤◌, ◌+◌, ◌∙◌, ⊎_elim, ℕ, Bool, true, false, cond, ◌&&◌, List, [], ◌∷◌, ◌++◌, length, Option, Some, None, Ok, Err, refl, sym, ap, subst, arith, true≢false}
 use Rattle.std.specs.Prelude.{◌==◌, is_some, is_none}
 use Rattle.std.specs.List.{list_all}
 use Rattle.std.specs.Option.{option_map_or}
@@ -15,7 +15,6 @@ use Rattle.flow_types.specs.Plans.{is_empty, takes}
 use Rattle.run_history.specs.declared.options.Options.{Options}
 use Rattle.run_history.specs.declared.moves.Move.{Move}
 use Rattle.run_history.specs.declared.moves.Move.TheVariants as moves
-use Rattle.run_history.specs.declared.answers.Nothing.{Nothing}
 use Rattle.run_history.specs.declared.answers.Stop.{Stop}
 use Rattle.run_history.specs.declared.states.RuleState.TheVariants as rule
 use Rattle.run_history.specs.declared.states.FileState.{FileState}
@@ -34,7 +33,6 @@ use Rattle.task_core.proofs.Standing.{files-same}
 use Rattle.flow_types.specs.declared.job.Job.{Job}
 use Rattle.flow_types.specs.declared.job.Failure.{Failure}
 use Rattle.flow_types.specs.Serial.{Contents, Function}
-use Rattle.desk.specs.declared.answers.Claim.{Claim}
 use Rattle.desk.specs.declared.answers.Claim.TheVariants as claims
 use Rattle.desk.specs.declared.answers.ClaimRefused.{ClaimRefused}
 use Rattle.desk.specs.declared.answers.ClaimRefused.TheVariants as refused
@@ -46,7 +44,7 @@ use Rattle.desk.specs.State.{DeskState, IsFine, is_place, runs_with}
 use Rattle.local_run.specs.Collecting.{IsUntouched}
 use Rattle.local_run.specs.Course.{GoesOn, LeavesAlone}
 use Rattle.local_run.proofs.Closings.{breaks_goes, spares_goes}
-use Rattle.local_run.proofs.Going.{adds, stays}
+use Rattle.local_run.proofs.Going.{adds}
 use Rattle.desk.proofs.Running.{started_runs}
 
 itself : (n : ℕ) → (n == n) ≡ true
@@ -126,22 +124,10 @@ module _ {S : Type 0} (trust : Type 0) (gives : Function) (may_fail : Job → Fa
       subst (λ (a : DeskState S). Alone d a.site → Goes d a) (sym h.2.5)
       (adds trust gives may_fail sources tells files may_leave moment images_since d (started_as d.moves attempt.rule time link) d.stop after.site (λ trusted. tt) (λ none. none) (λ none. refl) refl (λ f. refl)) others
 
-  -- a claim that takes no rule
-  pub untaken_goes : (count : S → ℕ) (d after : DeskState S) (link : LinkNo) (time : ℕ) (why : Nothing) → Alone d after.site → Claims count d link time (Ok (claims.Nothing why)) after → Goes d after
-  untaken_goes count d after link time why others h =
-      subst (λ (a : DeskState S). Alone d a.site → Goes d a) (sym h.2)
-      (stays trust gives may_fail sources tells files may_leave moment images_since d d.stop d.trouble d.site (λ none. none) (λ fine. fine)) others
-
   pub claim_breaks : (count : S → ℕ) (d after : DeskState S) (link : LinkNo) (time : ℕ) (why : ClaimRefused) → Alone d after.site → Claims count d link time (Err why) after → Goes d after
   claim_breaks count d after link time (refused.Broken before now) others h =
       breaks_goes trust gives may_fail sources tells files may_leave moment images_since count d d.stop before now after (λ none. none) others h
   claim_breaks count d after link time refused.Memory others h = spares_goes trust gives may_fail sources tells files may_leave moment images_since d after others h
-
-  -- whatever a claim answers
-  pub claim_goes : (count : S → ℕ) (d after : DeskState S) (link : LinkNo) (time : ℕ) (r : Result Claim ClaimRefused) → Alone d after.site → Claims count d link time r after → Goes d after
-  claim_goes count d after link time (Ok (claims.Taken attempt)) others h = taken_goes count d after attempt link time others h
-  claim_goes count d after link time (Ok (claims.Nothing why)) others h = untaken_goes count d after link time why others h
-  claim_goes count d after link time (Err why) others h = claim_breaks count d after link time why others h
 
 pub taken_longer : {S : Type 0} (count : S → ℕ) (d after : DeskState S) (attempt : Attempt) (link : LinkNo) (moment : ℕ) → Claims count d link moment (Ok (claims.Taken attempt)) after
     → length (records_of d.moves) + 1 ≤ length (records_of after.moves)

@@ -1,5 +1,5 @@
 -- What a collection makes of a desk.
-use Rattle.std.proofs.Common.{length-append, ◌≡◌, ◌≤◌, ◌+◌, ◌∙◌, inl, inr, ⊎_elim, ℕ, Bool, true, false, List, [], ◌∷◌, length, Option, Some, None, Result, Ok, Err, refl, sym, ap, subst, arith, true≢false}
+use Rattle.std.proofs.Common.{length-append, ◌≡◌, ◌≤◌, ◌+◌, ◌∙◌, inl, inr, ⊎_elim, ℕ, List, [], ◌∷◌, length, Option, Some, None, Result, Ok, Err, sym, ap, subst, arith}
 use Rattle.std.specs.Prelude.{IfOk, IfSome}
 use Rattle.flow_types.specs.declared.plan.Plan.{Plan}
 use Rattle.flow_types.specs.declared.job.Job.{Job}
@@ -8,12 +8,9 @@ use Rattle.flow_types.specs.declared.numbers.FileNo.{FileNo}
 use Rattle.flow_types.specs.declared.records.Record.{Record}
 use Rattle.flow_types.specs.declared.records.Record.TheVariants as records
 use Rattle.flow_types.specs.Serial.{Contents, Function}
-use Rattle.run_history.specs.declared.answers.Nothing.{Nothing}
-use Rattle.run_history.specs.Answers.{claim_of, has_ended}
 use Rattle.run_history.specs.Links.{records_of}
 use Rattle.run_history.specs.Storage.{running_rules}
 use Rattle.run_history.proofs.Grows.{records-push}
-use Rattle.task_core.specs.Collections.{collection_of}
 use Rattle.outside.specs.Disk.{Outcomes}
 use Rattle.outside.specs.Files.{Files}
 use Rattle.file_store.specs.Outputs.{file_name}
@@ -25,11 +22,10 @@ use Rattle.desk.specs.State.{Breaks, DeskState, IsFine, Lacks}
 use Rattle.desk.proofs.Removing.{chosen-free}
 use Rattle.desk.proofs.Running.{dropped_runs}
 use Rattle.local_run.specs.Collecting.{IsUntouched}
-use Rattle.local_run.specs.Course.{GoesOn, HasNothing, IsBroken, LeavesAlone, MayDrop, is_collect_first}
-use Rattle.local_run.specs.Ends.{LogsFailures, records_due}
+use Rattle.local_run.specs.Course.{GoesOn, LeavesAlone, MayDrop}
+use Rattle.local_run.specs.Ends.{records_due}
 use Rattle.local_run.proofs.Closings.{breaks_goes, lacks_goes}
-use Rattle.local_run.proofs.Failures.{logs_plain, logs_same}
-use Rattle.local_run.proofs.Fresh.{due_dropped, unended_by}
+use Rattle.local_run.proofs.Fresh.{due_dropped}
 use Rattle.local_run.proofs.Going.{drops_one, stays}
 
 breaks_not : {S : Type 0} (count : S → ℕ) (d : DeskState S) (before now : ℕ) (after : DeskState S) → Breaks count d before now after → IsFine after.trouble → ⊥
@@ -39,10 +35,6 @@ breaks_not {S} count d before now after h fine =
 lacks_not : {S : Type 0} (d after : DeskState S) → Lacks d after → IsFine after.trouble → ⊥
 lacks_not {S} d after h fine =
     ⊎_elim (λ was. subst IsFine (ap (λ (a : DeskState S). a.trouble) was.1 ∙ was.0) fine) (λ new. subst IsFine (ap (λ (a : DeskState S). a.trouble) new.1) fine) h
-
-breaks_broken : {S : Type 0} (count : S → ℕ) (d : DeskState S) (before now : ℕ) (after : DeskState S) → Breaks count d before now after → IsBroken after.trouble
-breaks_broken {S} count d before now after h =
-    ⊎_elim (λ was. subst IsBroken (sym (ap (λ (a : DeskState S). a.trouble) was.1 ∙ was.0)) tt) (λ new. subst IsBroken (sym (ap (λ (a : DeskState S). a.trouble) new.5)) tt) h
 
 module _ {S : Type 0} (trust : Type 0) (gives : Function) (may_fail : Job → Failure → Type 0) (sources : Contents) (tells : Type 0) (files : S → Files) (may_leave : S → Outcomes) (moment : S → ℕ)
     (images_since : S → ℕ → Files → Type 0) where
@@ -108,11 +100,6 @@ collects_logs {S} count d time (Err (refused.Broken before now)) after h fine =
 collects_logs {S} count d time (Err refused.Memory) after h fine =
     absurd (⊎_elim (λ first. lacks_not d after first fine) (λ later. ⊎_elim (λ first. lacks_not d after first fine) (λ behind. lacks_not (dropped_in d time later.0 behind.0) after behind.1 fine) later.3) h)
 
-pub collects_broken : {S : Type 0} (count : S → ℕ) (d : DeskState S) (time before now : ℕ) (after : DeskState S) → Collects count d time (Err (refused.Broken before now)) after → IsBroken after.trouble
-collects_broken {S} count d time before now after h =
-    ⊎_elim (λ first. breaks_broken count d before now after first)
-    (λ later. ⊎_elim (λ first. breaks_broken count d before now after first) (λ behind. breaks_broken count (dropped_in d time later.0 behind.0) before now after behind.2) later.3) h
-
 breaks_plan : {S : Type 0} (count : S → ℕ) (d : DeskState S) (before now : ℕ) (after : DeskState S) → Breaks count d before now after → after.plan ≡ d.plan
 breaks_plan {S} count d before now after h = ⊎_elim (λ was. ap (λ (a : DeskState S). a.plan) was.1) (λ new. ap (λ (a : DeskState S). a.plan) new.5) h
 
@@ -137,14 +124,6 @@ drop_idle P Q H all same logs idle =
     (⊎_elim (λ are. subst (λ (G : List Record). length (running_rules P G) ≤ 0) (sym are) idle)
     (λ drop. subst (λ (G : List Record). length (running_rules P G) ≤ 0) (sym drop.1.1) (let stood = dropped_runs P H drop.0 drop.1.0 in omega (arith, stood, idle))) logs)
 
-pub drop_failures : (H all : List Record) (before : ℕ) → MayDrop H all → LogsFailures H all before before
-drop_failures H all before logs =
-    ⊎_elim (λ are. logs_same H all before are) (λ drop. logs_plain H all (records.Dropped drop.0 drop.1.0) before before drop.1.1 refl refl) logs
-
-pub drop_unended : (H all : List Record) → MayDrop H all → has_ended H ≡ false → has_ended all ≡ false
-drop_unended H all logs unended =
-    ⊎_elim (λ are. ap has_ended are ∙ unended) (λ drop. unended_by H all (records.Dropped drop.0 drop.1.0) drop.1.1 refl refl refl unended) logs
-
 pub collects_idle : {S : Type 0} (count : S → ℕ) (d : DeskState S) (time : ℕ) (r : Result (Option FileNo) CollectRefused) (after : DeskState S) → length (running_rules d.plan (records_of d.moves)) ≤ 0
     → Collects count d time r after → IsFine after.trouble → length (running_rules after.plan (records_of after.moves)) ≤ 0
 collects_idle {S} count d time r after idle h fine =
@@ -164,17 +143,3 @@ collects_longer {S} count d time file after h =
     let same = ap (λ (a : DeskState S). length (records_of a.moves)) h.2 in
     let more = ap length (records-push d.moves (records.Dropped time file)) in
     omega (arith, same, more, length-append (records_of d.moves) (records.Dropped time file ∷ []))
-
-abbrev is_drop : Result (Option ℕ) Nothing → Bool
-is_drop (Ok (Some file)) = true
-is_drop (Ok None) = false
-is_drop (Err why) = false
-
--- where a collection drops none, nothing is left for a claim or a drop
-pub rests_undropped : {S : Type 0} (d after : DeskState S) (why : Nothing) (r : Result (Option ℕ) Nothing) → after ≡ d → claim_of d.plan d.options d.moves d.stop 0 ≡ Err why → collection_of d.plan d.options d.moves ≡ r → is_drop r ≡ false → HasNothing after
-rests_undropped {S} d after why r same none is keeps =
-    subst (λ (a : DeskState S). HasNothing a) (sym same) (why, none, λ first file drops. true≢false (sym (ap is_drop drops) ∙ ap is_drop is ∙ keeps))
-
--- nor where it isn't that a file is to be dropped first
-pub rests_otherwise : {S : Type 0} (d : DeskState S) (why : Nothing) → claim_of d.plan d.options d.moves d.stop 0 ≡ Err why → is_collect_first why ≡ false → HasNothing d
-rests_otherwise d why none other = (why, none, λ first file drops. true≢false (sym first ∙ other))

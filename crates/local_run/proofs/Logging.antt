@@ -202,24 +202,6 @@ fails_sure t halts.Runner h = absurd h
 fails_sure t halts.Site h = tt
 fails_sure t halts.Memory h = tt
 
-pub err_whole : {A : Type 0} (t : Trouble) (r : Result A Halt) → FailsBy t r → IfErr r (λ halt. IsWholeHalt halt)
-err_whole t (Ok done) h = tt
-err_whole t (Err (halts.Damaged file logged found)) h = absurd h
-err_whole t (Err halts.Runner) h = tt
-err_whole t (Err halts.Site) h = tt
-err_whole t (Err halts.Memory) h = tt
-
-pub err_sure : {A : Type 0} (t : Trouble) (r : Result A Halt) → FailsBy t r → IfErr r (λ halt. IsSureHalt halt)
-err_sure t (Ok done) h = tt
-err_sure t (Err (halts.Damaged file logged found)) h = absurd h
-err_sure t (Err halts.Runner) h = absurd h
-err_sure t (Err halts.Site) h = tt
-err_sure t (Err halts.Memory) h = tt
-
-pub map_err : {A : Type 0} (r : Result A Halt) (P Q : Halt → Type 0) → ((halt : Halt) → P halt → Q halt) → IfErr r P → IfErr r Q
-map_err (Ok done) P Q so h = tt
-map_err (Err halt) P Q so h = so halt h
-
 -- what is so of each error
 pub on_err : {A : Type 0} (r : Result A Halt) (P : Halt → Type 0) → ((halt : Halt) → r ≡ Err halt → P halt) → IfErr r P
 on_err (Ok done) P each = tt

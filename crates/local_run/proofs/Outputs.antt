@@ -104,7 +104,7 @@ pub failure_fits : (P : Plan) (r : ℕ) (job : Job) (why : Failure) → r < leng
 failure_fits P r job why inside wants names = index_by P r job why (slice_get P.rules r) refl (there_by P.rules r inside) wants names
 
 -- why a call of the desk stopped the run is why the run stopped
-pub halts_from : {A : Type 0} (t : Trouble) (before now : ℕ) (r : Result A Halt) → FailsBy t r → HaltsBy t before now r
+pub halts_from : (t : Trouble) (before now : ℕ) (r : Result (Unit {0}) Halt) → FailsBy t r → HaltsBy t before now r
 halts_from t before now (Ok done) h = tt
 halts_from t before now (Err (halts.Damaged file logged found)) h = absurd h
 halts_from t before now (Err halts.Runner) h = absurd h
