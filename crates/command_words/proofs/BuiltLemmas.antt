@@ -6,17 +6,14 @@ use Rattle.std.specs.Str.{bytes_eq}
 use Rattle.std.proofs.lemmas.Bool.{or_parts}
 use Rattle.clap.specs.Walk.{Row, Text, first_of}
 use Rattle.flow_types.specs.Names.{name_of}
-use Rattle.command_words.specs.Unbuilt.{IsBuilt, IsFile, asks_collection, asks_generated, asks_unbuilt, asks_workers}
-use Rattle.command_words.specs.Choices.{flow_from, flow_in, language_in, limits_in, mode_in, mode_named, service_in, transport_in, transport_named}
+use Rattle.command_words.specs.Unbuilt.{IsBuilt, IsFile, asks_generated, asks_unbuilt, asks_workers}
+use Rattle.command_words.specs.Choices.{flow_from, flow_in, language_in, service_in, transport_in, transport_named}
 use Rattle.command_words.specs.Numbers.{number_in}
 use Rattle.command_words.specs.Values.{has_value, is_given, number, optional_number}
 use Rattle.command_words.specs.declared.options.Flow.{Flow}
 use Rattle.command_words.specs.declared.options.Flow.TheVariants.{File}
 use Rattle.command_words.specs.declared.options.Language.{Language}
-use Rattle.command_words.specs.declared.options.Limits.{Limits}
 use Rattle.command_words.specs.declared.options.Options.{Options}
-use Rattle.command_words.specs.declared.options.Mode.{Mode}
-use Rattle.command_words.specs.declared.options.Mode.TheVariants.{Never, RefCount, OnDemand}
 use Rattle.command_words.specs.declared.options.Service.{Service}
 use Rattle.command_words.specs.declared.options.Transport.{Transport}
 use Rattle.command_words.specs.declared.options.Transport.TheVariants.{Local, WorkQueue}
@@ -55,29 +52,6 @@ service-local rows s e none =
     (λ p _ rest. chosen (λ s. s.transport ≡ Local) (number rows (codes "j") 1 16 4) _ s
     (λ j _ whole. let local = transport-local rows t is none in cc) rest) rest) e
 
-pub mode-never : (rows : List Row) (m : Mode) → mode_in rows ≡ Some m → has_value rows (codes "g") (codes "ref_cnt") ≡ false → has_value rows (codes "g") (codes "on_demand") ≡ false → m ≡ Never
-unfolding mode_in mode_named has_value
-mode-never rows m e no_count no_demand = by_value (first_of (codes "g") rows) e no_count no_demand
-  where
-    by_test : (a b d : Bool) → (if a then Some Never else (if b then Some RefCount else (if d then Some OnDemand else None))) ≡ Some m → b ≡ false → d ≡ false → m ≡ Never
-    by_test true b d e no_count no_demand = cc
-    by_test false true d e no_count no_demand = cc
-    by_test false false true e no_count no_demand = cc
-    by_test false false false e no_count no_demand = cc
-
-    by_value : (v : Option Text) → option_map_or mode_named v (Some Never) ≡ Some m → option_map_or (bytes_eq (codes "ref_cnt")) v false ≡ false
-        → option_map_or (bytes_eq (codes "on_demand")) v false ≡ false → m ≡ Never
-    by_value None e no_count no_demand = cc
-    by_value (Some text) e no_count no_demand = by_test (bytes_eq (codes "none") text) (bytes_eq (codes "ref_cnt") text) (bytes_eq (codes "on_demand") text) e no_count no_demand
-
-pub limits-storage : (rows : List Row) (l : Limits) → limits_in rows ≡ Some l → is_given rows (codes "storage-limit") ≡ false → l.storage ≡ None
-unfolding limits_in
-limits-storage rows l e none =
-    chosen (λ l. l.storage ≡ None) (number rows (codes "r") 0 1000 0) _ l
-    (λ r _ rest. chosen (λ l. l.storage ≡ None) (optional_number rows (codes "storage-limit") 0 1152921504606846976) _ l
-    (λ s is rest. chosen (λ l. l.storage ≡ None) (number rows (codes "idle-limit") 1 1000000000 1000000000) _ l
-    (λ i _ whole. let default = optional-none rows (codes "storage-limit") 0 1152921504606846976 s is none in cc) rest) rest) e
-
 of_file : (file : Option Text) (language : Language) (flow : Flow) → flow_from file None language ≡ Some flow → IsFile flow
 of_file None language flow e = absurd cc
 of_file (Some text) language flow e = by_name (name_of text) e
@@ -95,17 +69,11 @@ flow-file rows flow e no_generated =
     of_file (first_of (codes "file") rows) (language_in rows) flow (rw none at rest)) e
 
 -- options by which none is given that isn't built are of what is built
-pub options-built : (rows : List Row) (o : Options) → service_in rows ≡ Some o.service → limits_in rows ≡ Some o.limits → mode_in rows ≡ Some o.mode
-    → flow_in rows ≡ Some o.flow → asks_unbuilt rows ≡ false → IsBuilt o
-unfolding asks_unbuilt asks_collection
-options-built rows o service limits mode flow none =
-    let workers = or_parts _ _ none in
-    let generated = or_parts _ _ workers.0 in
-    let storage = or_parts _ _ generated.0 in
-    let modes = or_parts _ _ storage.0 in
+pub options-built : (rows : List Row) (o : Options) → service_in rows ≡ Some o.service → flow_in rows ≡ Some o.flow → asks_unbuilt rows ≡ false → IsBuilt o
+unfolding asks_unbuilt
+options-built rows o service flow none =
+    let parts = or_parts _ _ none in
     record {
-      flow = flow-file rows o.flow flow generated.1;
-      mode = mode-never rows o.mode mode modes.0 modes.1;
-      storage = limits-storage rows o.limits limits storage.1;
-      transport = service-local rows o.service service workers.1;
+      flow = flow-file rows o.flow flow parts.0;
+      transport = service-local rows o.service service parts.1;
     }

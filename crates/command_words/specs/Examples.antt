@@ -63,8 +63,10 @@ UnbuiltCommandLines =
     × (unbuilt (codes "-g" ∷ codes "none" ∷ codes "-T" ∷ codes "local" ∷ codes "flow" ∷ []) ≡ Some false)
     × (unbuilt (codes "-r" ∷ codes "2" ∷ codes "-l" ∷ codes "log" ∷ codes "-c" ∷ codes "flow" ∷ []) ≡ Some false)
     × (unbuilt (codes "--jx" ∷ codes "--print-log" ∷ codes "flow" ∷ []) ≡ Some false)
-    × (unbuilt (codes "-g" ∷ codes "on_demand" ∷ codes "flow" ∷ []) ≡ Some true)
-    × (unbuilt (codes "--storage-limit" ∷ codes "0" ∷ codes "-c" ∷ codes "flow" ∷ []) ≡ Some true)
+    × (unbuilt (codes "-g" ∷ codes "on_demand" ∷ codes "flow" ∷ []) ≡ Some false)
+    × (unbuilt (codes "--storage-limit" ∷ codes "0" ∷ codes "-c" ∷ codes "flow" ∷ []) ≡ Some false)
+    × (unbuilt (codes "-T" ∷ codes "wq" ∷ codes "flow" ∷ []) ≡ Some true)
+    × (unbuilt (codes "--generate" ∷ codes "3" ∷ []) ≡ Some true)
 
 -- command lines of the worker and the foreman
 abbrev pub PeerCommandLines : Type 0

@@ -1,21 +1,10 @@
 // Options that aren't built yet.
 ghost use Rattle.std.specs.Prelude.{◌≡◌};
 ghost use Rattle.command_words.specs.Found.{rows_in};
-ghost use Rattle.command_words.specs.Unbuilt.{asks_collection, asks_generated, asks_workers};
-ghost use Rattle.command_words.specs.Unbuilt.{asks_unbuilt};
+ghost use Rattle.command_words.specs.Unbuilt.{asks_generated, asks_unbuilt, asks_workers};
 
 use crate::values::{has_value, is_given};
 use clap::ArgMatches;
-
-#[tactic(auto, unfolding(crate::specs::Unbuilt::asks_collection))]
-fn asks_collection(matches: &ArgMatches<'_>) -> bool
-    ensures { result ≡ asks_collection (rows_in matches.now) }
-{
-    if has_value(matches, "g", "ref_cnt") || has_value(matches, "g", "on_demand") {
-        return true;
-    }
-    is_given(matches, "storage-limit")
-}
 
 #[tactic(auto, unfolding(crate::specs::Unbuilt::asks_generated))]
 fn asks_generated(matches: &ArgMatches<'_>) -> bool
@@ -36,5 +25,5 @@ fn asks_workers(matches: &ArgMatches<'_>) -> bool
 pub fn asks_unbuilt(matches: &ArgMatches<'_>) -> bool
     ensures { result ≡ asks_unbuilt (rows_in matches.now) }
 {
-    asks_collection(matches) || asks_generated(matches) || asks_workers(matches)
+    asks_generated(matches) || asks_workers(matches)
 }

@@ -5,5 +5,4 @@ use Rattle.command_words.proofs.words.options_in.Goals as goal
 
 pub returns-clause-built : goal.returns-clause-built
 returns-clause-built c = λ none.
-    options-built (rows_in c.args.matches.now) _ (sym c.in-Some.ensures.value) (sym c.in-Some-limits_in.ensures.value) (sym c.in-Some-mode_in.ensures)
-    c.in_ok-flow.ensures.ok (sym c.asks_unbuilt.ensures ∙ none)
+    options-built (rows_in c.args.matches.now) _ (sym c.in-Some.ensures.value) c.in_ok-flow.ensures.ok (sym c.asks_unbuilt.ensures ∙ none)
