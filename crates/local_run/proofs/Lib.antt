@@ -21,3 +21,4 @@ pub mod Working
 pub mod Done
 pub mod Fitting
 pub mod Joining
+pub mod Openings

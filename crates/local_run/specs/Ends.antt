@@ -12,7 +12,7 @@ use Rattle.run_history.specs.declared.states.Found.{Found}
 use Rattle.run_history.specs.declared.answers.Check.{Check}
 use Rattle.run_history.specs.declared.answers.Check.TheVariants as checks
 use Rattle.run_history.specs.History.{is_opening, part, since_opening}
-use Rattle.run_history.specs.States.{file_state, limit_of}
+use Rattle.run_history.specs.States.{file_state, limit_of, retries_of}
 use Rattle.run_history.specs.Storage.{is_complete}
 use Rattle.run_history.specs.Laws.{IsPresent}
 use Rattle.run_history.specs.Links.{amounts_on, is_at_most, needs_of}
@@ -114,6 +114,11 @@ IsDone limit (Ok (checks.NoRoom rule need stored most)) = limit ≡ Some most
 IsDone limit (Err (stopped.Refused faults.Memory)) = Unit {0}
 IsDone limit (Err (stopped.Halted halts.Memory)) = Unit {0}
 IsDone limit how = ⊥
+
+-- The last opening of the records has these options' limit and retries.
+pub record OpensBy (O : Options) (H : List Record) : Type 0 where
+  pub limit : limit_of H ≡ O.limit
+  pub retries : retries_of H ≡ O.retries
 
 -- ---- of the desk of a run
 

@@ -18,6 +18,7 @@ ghost use Rattle.local_run.specs.Collecting.{AreGone, CollectsBy, RunCollects};
 ghost use Rattle.local_run.specs.Completing.{HasRecordRoom, SerialInputsFit};
 ghost use Rattle.local_run.specs.Course.{IsUnmade, TellsJobs};
 ghost use Rattle.local_run.specs.Ends.{FitsHere, HasFailed, IsDone, IsRunEnd, IsSureEnd};
+ghost use Rattle.local_run.specs.Ends.{OpensBy};
 ghost use Rattle.local_run.specs.Ends.{IsWholeRun, LogsFailures, RunDamage, StartEnds, run_fault};
 ghost use Rattle.local_run.specs.Moments.{IsMoment, IsResumable, IsDamageFault, IsUnread, KeepsSome};
 ghost use Rattle.local_run.specs.Runs.{Adds, IsEarlyRun, IsRefusedRun};
@@ -127,6 +128,9 @@ pub fn resume<F: Commands, S: Site, R: Runner<F>, C: Clock, B: Born>(
     ensures gone { IfOk result (λ ended. S.tells → (IsCutRun ended.how → ⊥)
         → (H : List RecordValue) → Spells H (S.files site «name»)
         → AreGone plan (S.files ended.site) H ended.records) }
+    ensures unused { IfOk result (λ ended. IsRefusedRun ended.how → runner.new ≡ runner.old) }
+    ensures opened { IfOk result (λ ended. (IsRefusedRun ended.how → ⊥)
+        → OpensBy options ended.records) }
     ensures closed { IfOk result (λ ended. FitsHere plan options
         → IfOk ended.how (IsRunEnd options.limit)) }
     ensures damage { IfOk result (λ ended. S.tells

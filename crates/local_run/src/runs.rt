@@ -4,6 +4,7 @@ ghost use Rattle.std.specs.Prelude.{true};
 ghost use Rattle.flow_types.specs.declared.records.Record.{Record as RecordValue};
 ghost use Rattle.flow_types.specs.Plans.{IsValid, is_empty, is_source};
 ghost use Rattle.flow_types.specs.Serial.{serial};
+ghost use Rattle.run_history.specs.declared.options.Options.{Options as OptionsValue};
 ghost use Rattle.run_history.specs.Answers.{before_end, end_over};
 ghost use Rattle.run_history.specs.History.{part, since_opening};
 ghost use Rattle.run_history.specs.Legal.{most_records};
@@ -22,7 +23,7 @@ ghost use Rattle.local_run.specs.Course.{IsUnmade, LeavesAlone, TellsJobs};
 ghost use Rattle.local_run.specs.Ends.{BeganOver, FitsHere, HasFailed, IsApart, IsCompleteEnd};
 ghost use Rattle.local_run.specs.Ends.{IsDone};
 ghost use Rattle.local_run.specs.Ends.{IsFresh, IsRunEnd, IsSureEnd, IsWholeRun, LogsFailures};
-ghost use Rattle.local_run.specs.Ends.{RunDamage, StartEnds, records_due, run_fault};
+ghost use Rattle.local_run.specs.Ends.{OpensBy, RunDamage, StartEnds, records_due, run_fault};
 ghost use Rattle.local_run.specs.Runs.{Adds, BeginsWith, HasCauses, Held, IsAdmitted, IsClosedRun};
 ghost use Rattle.local_run.specs.Runs.{IsEarlyRun, IsRefusedRun};
 ghost use Rattle.local_run.specs.Runs.{IsCutRun, IsKeeping, IsSparedName, IsStanding, LosesNone};
@@ -89,6 +90,8 @@ fn run_desk<F: Commands, S: Site, R: Runner<F>, C: Clock, T: Terms>(
         → RunCollects desk.plan desk.options.mode result.records }
     ensures gone { S.tells → (IsCutRun result.how → ⊥) → IsApart desk.plan desk.log
         → AreGone desk.plan (S.files result.site) (records_of desk.moves) result.records }
+    ensures opened { (O : OptionsValue) → OpensBy O (records_of desk.moves)
+        → OpensBy O result.records }
     ensures ending { FitsHere desk.plan desk.options
         → IfOk result.how (IsRunEnd desk.options.limit) }
     ensures damage { S.tells → IsApart desk.plan desk.log
@@ -163,6 +166,8 @@ fn run_by<F: Commands, S: Site, R: Runner<F>, C: Clock, T: Terms>(
         → RunCollects plan options.mode result.records }
     ensures gone { S.tells → (IsCutRun result.how → ⊥)
         → AreGone plan (S.files result.site) history result.records }
+    ensures unused { IsRefusedRun result.how → runner.new ≡ runner.old }
+    ensures opened { (IsRefusedRun result.how → ⊥) → OpensBy options result.records }
     ensures ending { FitsHere plan options → IfOk result.how (IsRunEnd options.limit) }
     ensures damage { S.tells
         → RunDamage plan result.records (S.files result.site) result.how }
@@ -252,6 +257,8 @@ pub fn run<F: Commands, S: Site, R: Runner<F>, C: Clock, B: Born>(
         → RunCollects plan options.mode result.records }
     ensures gone { S.tells → (IsCutRun result.how → ⊥)
         → AreGone plan (S.files result.site) history result.records }
+    ensures unused { IsRefusedRun result.how → runner.new ≡ runner.old }
+    ensures opened { (IsRefusedRun result.how → ⊥) → OpensBy options result.records }
     ensures closed { FitsHere plan options → IfOk result.how (IsRunEnd options.limit) }
     ensures damage { S.tells
         → RunDamage plan result.records (S.files result.site) result.how }

@@ -24,6 +24,7 @@ use Rattle.local_run.proofs.Fresh.{has_room_due}
 use Rattle.local_run.proofs.Refused.{early_refused, early_same}
 use Rattle.local_run.proofs.Starts.{refused_ends, started_free}
 use Rattle.local_run.proofs.Started.{IsBegun, adds_more, adds_nothing, begun, begun_kept, begun_loses, begun_now, refused_causes, refused_kept, refused_legal, refused_now}
+use Rattle.local_run.proofs.Openings.{opens_by}
 use Rattle.local_run.proofs.runs.run_by.Goals as goal
 
 pub run_desk-requires-clause-valid : goal.run_desk-requires-clause-valid
@@ -211,3 +212,13 @@ returns-in-Ok-clause-collects g c started =
 
 pub returns-in-Err-clause-collects : goal.returns-in-Err-clause-collects
 returns-in-Err-clause-collects g c started = absurd (started tt)
+
+pub returns-in-Ok-clause-unused : goal.returns-in-Ok-clause-unused
+returns-in-Ok-clause-unused g c refused = absurd (c.run_desk.ensures.started refused)
+
+pub returns-in-Ok-clause-opened : goal.returns-in-Ok-clause-opened
+returns-in-Ok-clause-opened g c started =
+    c.run_desk.ensures.opened c.args.options (opens_by g.S.Site.count c.args.plan c.args.options c.args.log.name c.args.history c.now.result g.S.Site.tells (g.S.Site.files c.args.site) c.args.site g.F.Commands.may_fail (serial c.args.plan g.F.Commands.gives g.T.Terms.sources) c.in-Ok.desk c.in-Ok.ensures.reply)
+
+pub returns-in-Err-clause-opened : goal.returns-in-Err-clause-opened
+returns-in-Err-clause-opened g c started = absurd (started tt)

@@ -1,4 +1,4 @@
-use Rattle.std.proofs.Common.{◌≡◌, ◌≤◌, ℕ, List, subst, sym}
+use Rattle.std.proofs.Common.{◌≡◌, ◌≤◌, ◌∙◌, ℕ, List, ap, subst, sym}
 use Rattle.run_history.specs.declared.answers.Check.{Check}
 use Rattle.std.specs.Prelude.{◌⊎◌, IfOk, None, OnOk, Result, length}
 use Rattle.flow_types.specs.declared.records.Record.{Record}
@@ -21,6 +21,8 @@ use Rattle.local_run.proofs.Done.{damage_ended, if_ended, sure_ended, whole_ende
 use Rattle.local_run.proofs.Refused.{not_refused}
 use Rattle.local_run.proofs.Starts.{desk_starts}
 use Rattle.local_run.proofs.Results.{adds_records, causes_run, closed_whole, ends_run, fine_run, is_kept, loses_none, was_kept}
+use Rattle.local_run.proofs.Going.{records_more}
+use Rattle.local_run.proofs.Openings.{opens_on}
 use Rattle.local_run.proofs.runs.run_desk.Goals as goal
 
 pub returns-clause-more : goal.returns-clause-more
@@ -132,3 +134,7 @@ returns-clause-gone g c told whole apart =
 pub returns-clause-collects : goal.returns-clause-collects
 returns-clause-collects g c H began =
     run_collects g.T.Terms.trust g.F.Commands.gives g.F.Commands.may_fail g.T.Terms.sources g.S.Site.tells g.S.Site.files g.S.Site.may_leave g.S.Site.moment g.S.Site.images_since c.args.desk c.work.new.desk c.work.ensures.goes H c.into_parts-site.result.1 began c.into_parts-site.ensures.records c.works-works.ensures.serves
+
+pub returns-clause-opened : goal.returns-clause-opened
+returns-clause-opened g c O opens =
+    opens_on O (records_of c.args.desk.moves) c.work.ensures.goes.more c.into_parts-site.result.1 opens (c.into_parts-site.ensures.records ∙ ap records_of c.work.ensures.goes.moves ∙ records_more c.args.desk.moves c.work.ensures.goes.more) c.work.ensures.goes.anew
