@@ -1,7 +1,7 @@
 -- The kinds of causes, their exit statuses, and what a call that ended so may have done.
 use Rattle.std.specs.Prelude.{ℕ, Bool, true, false}
 use Rattle.report.specs.declared.cause.Cause.{Cause}
-use Rattle.report.specs.declared.cause.Cause.TheVariants.{Complete, Cleaned, Printed, CommandFailed, Usage, FlowMissing, FlowRefused, LogNameTaken, Unbuilt, NeedsTooMuch, LogDamaged, OtherFlow, NotLegal, StoredAboveLimit, SourceMissing, SourceTooLarge, SourceChanged, FileDamaged, SiteFault, RunnerFault, SinkFault, InputsTooLarge, Memory, LogFull}
+use Rattle.report.specs.declared.cause.Cause.TheVariants.{Complete, Cleaned, Printed, CommandFailed, Usage, FlowMissing, FlowRefused, LogNameTaken, Unbuilt, NeedsTooMuch, LogDamaged, OtherFlow, NotLegal, StoredAboveLimit, SourceMissing, SourceTooLarge, SourceChanged, FileDamaged, SiteFault, RunnerFault, SinkFault, NoRoom, InputsTooLarge, Memory, LogFull}
 use Rattle.report.specs.declared.cause.Kind.{Kind}
 use Rattle.report.specs.declared.cause.Kind.TheVariants.{Completed, Told, LogPrinted, RuleFailed, WrongWords, WrongFlow, WrongLog, WrongFile, PastLimit, LogFilled, SiteBroke, RunnerBroke, SinkBroke, NoMemory}
 
@@ -28,6 +28,7 @@ kind_of (FileDamaged file logged found) = WrongFile
 kind_of (SiteFault before after) = SiteBroke
 kind_of (RunnerFault before after) = RunnerBroke
 kind_of (SinkFault before after) = SinkBroke
+kind_of (NoRoom rule need stored limit) = PastLimit
 kind_of (InputsTooLarge rule total) = PastLimit
 kind_of Memory = NoMemory
 kind_of (LogFull records) = LogFilled

@@ -20,7 +20,7 @@ use Rattle.jx_flow.specs.declared.fault.JxFlowFault.{JxFlowFault}
 use Rattle.jx_flow.specs.declared.fault.JxFlowFault.TheVariants as jx
 use Rattle.report.specs.declared.cause.FlowFault.TheVariants.{Make, Jx, Graph}
 use Rattle.report.specs.declared.cause.Cause.{Cause}
-use Rattle.report.specs.declared.cause.Cause.TheVariants.{Complete, Cleaned, Printed, CommandFailed, Usage, FlowMissing, FlowRefused, LogNameTaken, Unbuilt, NeedsTooMuch, LogDamaged, OtherFlow, NotLegal, StoredAboveLimit, SourceMissing, SourceTooLarge, SourceChanged, FileDamaged, SiteFault, RunnerFault, SinkFault, InputsTooLarge, Memory, LogFull}
+use Rattle.report.specs.declared.cause.Cause.TheVariants.{Complete, Cleaned, Printed, CommandFailed, Usage, FlowMissing, FlowRefused, LogNameTaken, Unbuilt, NeedsTooMuch, LogDamaged, OtherFlow, NotLegal, StoredAboveLimit, SourceMissing, SourceTooLarge, SourceChanged, FileDamaged, SiteFault, RunnerFault, SinkFault, NoRoom, InputsTooLarge, Memory, LogFull}
 use Rattle.report.specs.Causes.{kind_of, is_printed}
 
 -- the plan's name of a file; no bytes where the plan has no such file
@@ -135,6 +135,10 @@ needs_text rule need total = codes "rule " ++ decimal rule ++ (codes " needs " +
 abbrev pub stored_text : ℕ → ℕ → List ℕ
 stored_text stored limit = codes "stored " ++ decimal stored ++ (codes " is above the limit " ++ decimal limit)
 
+-- for which rule there is no room
+abbrev pub room_text : ℕ → ℕ → ℕ → ℕ → List ℕ
+room_text rule need stored limit = codes "no room for rule " ++ decimal rule ++ (codes ": needs " ++ decimal need ++ (codes ", stored " ++ decimal stored ++ (codes ", limit " ++ decimal limit)))
+
 -- how much the inputs of a rule have together
 abbrev pub inputs_text : ℕ → ℕ → List ℕ
 inputs_text rule total = codes "inputs of rule " ++ decimal rule ++ (codes " too large: " ++ decimal total)
@@ -167,6 +171,7 @@ text_of plan (FileDamaged file logged found) = codes "file " ++ file_name plan f
 text_of plan (SiteFault before after) = codes "folder fault"
 text_of plan (RunnerFault before after) = codes "runner fault"
 text_of plan (SinkFault before after) = []
+text_of plan (NoRoom rule need stored limit) = room_text rule.0 need stored limit
 text_of plan (InputsTooLarge rule total) = inputs_text rule.0 total
 text_of plan Memory = codes "out of memory"
 text_of plan (LogFull records) = codes "log full"

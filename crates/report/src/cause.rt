@@ -126,6 +126,14 @@ pub enum Cause {
         before: u64,
         after: u64,
     },
+    /// No ready rule fits the storage. The least of them asks for so many bytes, where so many are
+    /// stored and the limit is this one.
+    NoRoom {
+        rule: RuleNo,
+        need: u64,
+        stored: u64,
+        limit: u64,
+    },
     /// The inputs of a ready rule have more than 134,217,728 bytes together: so many.
     InputsTooLarge {
         rule: RuleNo,
@@ -243,7 +251,7 @@ impl Cause {
             Cause::SiteFault { .. } => Kind::SiteBroke,
             Cause::RunnerFault { .. } => Kind::RunnerBroke,
             Cause::SinkFault { .. } => Kind::SinkBroke,
-            Cause::InputsTooLarge { .. } => Kind::PastLimit,
+            Cause::NoRoom { .. } | Cause::InputsTooLarge { .. } => Kind::PastLimit,
             Cause::Memory => Kind::NoMemory,
             Cause::LogFull { .. } => Kind::LogFilled,
         }

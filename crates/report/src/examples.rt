@@ -9,7 +9,7 @@ ghost use Rattle.rule_graph.specs.declared.faults.GraphFault.TheVariants.{BadNam
 ghost use Rattle.rule_graph.specs.declared.faults.GraphFault.TheVariants.{TwoMakers, Cycle};
 ghost use Rattle.run_history.specs.declared.states.Found.{Found};
 ghost use Rattle.report.specs.declared.cause.Cause.TheVariants.{Complete, Cleaned, Printed};
-ghost use Rattle.report.specs.declared.cause.Cause.TheVariants.{Usage, FlowMissing, LogFull};
+ghost use Rattle.report.specs.declared.cause.Cause.TheVariants.{Usage, FlowMissing, LogFull, NoRoom};
 ghost use Rattle.report.specs.declared.cause.Cause.TheVariants.{LogNameTaken, LogDamaged};
 ghost use Rattle.report.specs.declared.cause.Cause.TheVariants.{OtherFlow, NotLegal};
 ghost use Rattle.report.specs.declared.cause.Cause.TheVariants.{StoredAboveLimit};
@@ -39,6 +39,8 @@ pub fn lines_of_a_run()
         ≡ codes "makeflow: rule 0 failed: output out missing\n" }
     ensures too_large { line_of one_rule (InputsTooLarge (record { 0 = 0 }) 134217729)
         ≡ codes "makeflow: inputs of rule 0 too large: 134217729\n" }
+    ensures no_room { line_of one_rule (NoRoom (record { 0 = 2 }) 40 80 100)
+        ≡ codes "makeflow: no room for rule 2: needs 40, stored 80, limit 100\n" }
     ensures too_long { line_of one_rule (rule_failed 0 (TooLong 0 4))
         ≡ codes "makeflow: rule 0 failed: output out too long, 4 bytes\n" }
 {}

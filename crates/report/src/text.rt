@@ -3,7 +3,7 @@ ghost use Rattle.std.specs.Prelude.{◌≡◌, ◌++◌, IfOk, codes};
 ghost use Rattle.std.specs.Fmt.{decimal};
 ghost use Rattle.report.specs.Lines.{failure_text, file_name, output_name, output_name_in};
 ghost use Rattle.report.specs.Lines.{rule_text, text_of, fault_text, needs_text, inputs_text};
-ghost use Rattle.report.specs.Lines.{source_text, stored_text};
+ghost use Rattle.report.specs.Lines.{room_text, source_text, stored_text};
 
 use crate::cause::{Cause, FlowFault};
 use crate::flow_text::{graph_text, make_text};
@@ -38,6 +38,12 @@ pub(crate) fn text_of(alloc: Global, plan: &Plan, cause: &Cause) -> Result<Vec<u
         }
         Cause::SiteFault { .. } => Vec::from_slice(alloc, b"folder fault"),
         Cause::RunnerFault { .. } => Vec::from_slice(alloc, b"runner fault"),
+        Cause::NoRoom {
+            rule,
+            need,
+            stored,
+            limit,
+        } => room_text(alloc, *rule, *need, *stored, *limit),
         Cause::InputsTooLarge { rule, total } => inputs_text(alloc, *rule, *total),
         Cause::Memory => Vec::from_slice(alloc, b"out of memory"),
         Cause::LogFull { .. } => Vec::from_slice(alloc, b"log full"),
@@ -82,6 +88,23 @@ fn needs_text(alloc: Global, rule: RuleNo, need: u64, total: u64) -> Result<Vec<
 {
     let number = rule.0;
     let text = format!(in alloc; "rule {number} needs {need}, there is {total}")?;
+    Ok(text.into_bytes())
+}
+
+// For which rule there is no room.
+fn room_text(
+    alloc: Global,
+    rule: RuleNo,
+    need: u64,
+    stored: u64,
+    limit: u64,
+) -> Result<Vec<u8>, AllocError>
+    ensures { IfOk result (λ text. text.items ≡ room_text rule.0 need stored limit) }
+{
+    let number = rule.0;
+    let text = format!(in alloc;
+        "no room for rule {number}: needs {need}, stored {stored}, limit {limit}"
+    )?;
     Ok(text.into_bytes())
 }
 

@@ -1,9 +1,9 @@
 //! Causes by their words: `complete RULES COLLECTED`, `cleaned REMOVED` and `printed LINES`; `failed
 //! RULE status STATUS`, `failed RULE missing OUTPUT` and `failed RULE long OUTPUT SIZE`; `usage`;
 //! `missing FLOW`; `unbuilt LINE`; `source FILE` and `large FILE SIZE`; `needs RULE NEED TOTAL`;
-//! `inputs RULE TOTAL`; `stored STORED LIMIT`; `site BEFORE AFTER`, `runner ..` and `sink ..`;
-//! `memory`; for a log, and for a file that isn't what was logged, the words of `log_faults.rt`; and,
-//! for a flow that is refused, those of `flow_faults.rt`.
+//! `inputs RULE TOTAL`; `stored STORED LIMIT`; `room RULE NEED STORED LIMIT`; `site BEFORE AFTER`,
+//! `runner ..` and `sink ..`; `memory`; for a log, and for a file that isn't what was logged, the
+//! words of `log_faults.rt`; and, for a flow that is refused, those of `flow_faults.rt`.
 use crate::flow_faults::{graph_fault, jx_fault, make_fault};
 use crate::log_faults::{log_fault, unlike};
 use crate::words::{first, name, number, rule, two, whole};
@@ -55,6 +55,18 @@ fn large_source(line: &str) -> Option<Cause> {
 fn stored(line: &str) -> Option<Cause> {
     let (stored, limit) = two(line)?;
     Some(Cause::StoredAboveLimit { stored, limit })
+}
+
+fn room(line: &str) -> Option<Cause> {
+    let (word, rest) = first(line);
+    let (need, rest) = first(rest);
+    let (stored, limit) = two(rest)?;
+    Some(Cause::NoRoom {
+        rule: rule(word)?,
+        need: whole(need)?,
+        stored,
+        limit,
+    })
 }
 
 fn needs(line: &str) -> Option<Cause> {
@@ -122,6 +134,7 @@ pub fn cause_of(alloc: Global, line: &str) -> Option<Cause> {
         }),
         "large" => large_source(rest),
         "stored" => stored(rest),
+        "room" => room(rest),
         "needs" => needs(rest),
         "inputs" => inputs(rest),
         "memory" => Some(Cause::Memory),

@@ -30,3 +30,7 @@ returns-clause-too_long c = refl
 pub returns-clause-too_large : goal.returns-clause-too_large
 unfolding digits
 returns-clause-too_large c = refl
+
+pub returns-clause-no_room : goal.returns-clause-no_room
+unfolding digits
+returns-clause-no_room c = refl
