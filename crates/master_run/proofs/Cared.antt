@@ -1,5 +1,5 @@
 -- What a call does that cleans or prints, by how that ended.
-use Rattle.std.proofs.Common.{◌≡◌, ◌≢◌, ◌≤◌, ◌<◌, ◌⊎◌, ⊎_elim, inl, inr, ◌∙◌, ℕ, suc, ◌+◌, fold, Bool, true, false, cond, List, [], ◌∷◌, ◌++◌, length, Option, Some, None, Result, Ok, Err, All, IsTrue, IsFalse, refl, sym, ap, subst, arith, true≢false, option_map, if◌then◌else◌}
+use Rattle.std.proofs.Common.{◌≡◌, ◌≤◌, ◌<◌, ◌⊎◌, ⊎_elim, inl, inr, ◌∙◌, ℕ, suc, ◌+◌, fold, Bool, true, false, cond, List, [], ◌∷◌, ◌++◌, length, Option, Some, None, refl, sym, ap, subst, arith, true≢false, option_map, if◌then◌else◌}
 use Rattle.std.proofs.lemmas.List.Elements.{All-nil, All-cons}
 use Rattle.flow_types.specs.declared.plan.Plan.{Plan}
 use Rattle.flow_types.specs.declared.job.Job.{Job}
@@ -11,37 +11,39 @@ use Rattle.std.specs.Prelude.{nat_le, not, ◌&&◌}
 use Rattle.run_history.specs.Answers.{or_else, where_so}
 use Rattle.run_history.specs.Legal.{most_records}
 use Rattle.run_history.specs.History.{is_cleaned, part}
-use Rattle.outside.specs.Disk.{IsImage, LeavesOnly, Outcomes}
 use Rattle.outside.specs.Files.{Files}
 use Rattle.txn_log.specs.Spells.{IsUnbegun, Spells}
 use Rattle.log_recover.specs.Laws.{HasAHeader, IsWhole, SpellsOneList}
-use Rattle.log_recover.specs.Recovery.{HasBadHeader, HasBadRecord}
-use Rattle.log_recover.specs.declared.fault.RecoverFault.{RecoverFault}
+use Rattle.log_recover.specs.Recovery.{HasBadRecord}
 use Rattle.log_recover.specs.declared.fault.RecoverFault.TheVariants as recovery
 use Rattle.desk.specs.declared.answers.StartFault.{StartFault}
 use Rattle.desk.specs.declared.answers.StartFault.TheVariants as faults
 use Rattle.desk.specs.Histories.{history_fault}
 use Rattle.desk.specs.Kept.{IsLegal}
+use Rattle.run_history.specs.declared.options.Mode.{Mode}
+use Rattle.run_history.specs.Storage.{wanted}
+use Rattle.local_run.specs.Collecting.{AreGone, CollectsBy, StandsWhere}
 use Rattle.local_run.specs.Course.{FailsHonestly}
-use Rattle.local_run.specs.Runs.{Adds, BeginsWith, LosesNone, read_sources}
+use Rattle.local_run.specs.Ends.{failed_count, is_failed}
+use Rattle.local_run.specs.Runs.{Adds, BeginsWith, LosesNone}
 use Rattle.cleaning.specs.declared.answers.CleanFault.{CleanFault}
 use Rattle.cleaning.specs.declared.answers.CleanFault.TheVariants as cleans
 use Rattle.cleaning.specs.declared.answers.LookFault.{LookFault}
 use Rattle.cleaning.specs.declared.answers.LookFault.TheVariants as looks
-use Rattle.cleaning.specs.Cleanings.{AreEither, IsCleanFault, IsCleanOfFile, IsCutFor, IsLeft, IsOfSite, SpellsSome, WasAdmitted, clean_fault, cleaned, ended_records, made_count}
+use Rattle.cleaning.specs.Cleanings.{AreEither, IsCleanFault, IsCleanOfFile, IsCutFor, IsLeft, IsOfSite, WasAdmitted, clean_fault, cleaned}
 use Rattle.cleaning.specs.Looks.{GivesBack, IsCutFault, IsLookFault, IsOfFile, IsSiteFault, WasRead}
 use Rattle.command_words.specs.declared.options.Work.TheVariants as works
 use Rattle.report.specs.declared.cause.Cause.{Cause}
 use Rattle.report.specs.declared.cause.Cause.TheVariants as causes
 use Rattle.report.specs.declared.cause.Kind.{Kind}
 use Rattle.report.specs.declared.cause.Kind.TheVariants as kinds
-use Rattle.report.specs.Causes.{is_cut, is_failing, is_refusal, kind_of, may_replace, was_read}
+use Rattle.report.specs.Causes.{is_cut, is_failing, is_refusal, kind_of, was_read}
 use Rattle.master_run.specs.declared.ask.Ask.{Ask}
 use Rattle.master_run.specs.declared.counts.Counts.{Counts}
 use Rattle.master_run.specs.Ends.{Answers, FaultEnd, GoesOn, IsDamagedAt, IsReadOr, Yields, start_cause}
-use Rattle.master_run.specs.Headline.{HasLog, IsLegalOr, StartsNone, is_early, is_run_end}
+use Rattle.master_run.specs.Headline.{HasLog, IsCleanedBy, IsLegalOr, StartsNone, is_early, is_run_end}
 use Rattle.master_run.specs.Runs.{clean_cause, look_cause}
-use Rattle.master_run.proofs.Faults.{fault_goes}
+use Rattle.master_run.proofs.Faults.{collects_none, fault_goes}
 use Rattle.master_run.proofs.Moved.{append_nothing}
 
 absent : {A : Type 0} → false ≡ true → A
@@ -64,6 +66,29 @@ pub adds_nothing : (gives : Function) (may_fail : Job → Failure → Type 0) (s
 adds_nothing gives may_fail sources P H all moment either =
     ⊎_elim (λ (same : all ≡ H). record { more = []; are = same ∙ sym (append_nothing H); honest = λ trust. All-nil (FailsHonestly P may_fail (serial P gives sources)) })
     (λ (more : all ≡ H ++ (cleaned moment ∷ [])). record { more = cleaned moment ∷ []; are = more; honest = λ trust. All-cons (FailsHonestly P may_fail (serial P gives sources)) (cleaned moment) [] tt (All-nil (FailsHonestly P may_fail (serial P gives sources))) }) either
+
+failed_push : (count : ℕ) (H : List Record) (moment : ℕ) → fold (λ n x. n + cond (is_failed x) 1 0) count (H ++ (cleaned moment ∷ [])) ≡ fold (λ n x. n + cond (is_failed x) 1 0) count H
+failed_push count [] moment = omega arith
+failed_push count (x ∷ H) moment = failed_push (count + cond (is_failed x) 1 0) H moment
+
+pub fails_nothing : (H all : List Record) (moment : ℕ) → AreEither H moment all → failed_count all ≡ failed_count H
+fails_nothing H all moment either =
+    ⊎_elim (λ (same : all ≡ H). ap failed_count same) (λ (more : all ≡ H ++ (cleaned moment ∷ [])). ap failed_count more ∙ failed_push 0 H moment) either
+
+stands_alone : (file : Option ℕ) (moment : ℕ) (x : Record) (before after : List Record) → cleaned moment ∷ [] ≡ before ++ (x ∷ after) → StandsWhere file x
+stands_alone file moment x [] after is = let same : cleaned moment ≡ x = cc in subst (StandsWhere file) same tt
+stands_alone file moment x (y ∷ []) after is = absurd (cc)
+stands_alone file moment x (y ∷ z ∷ before) after is = absurd (cc)
+
+pub collects_nothing : (P : Plan) (mode : Mode) (H all : List Record) (moment : ℕ) → AreEither H moment all → CollectsBy P mode H all
+collects_nothing P mode H all moment either =
+    ⊎_elim (λ (same : all ≡ H). collects_none P mode H all (same ∙ sym (append_nothing H)))
+    (λ (more : all ≡ H ++ (cleaned moment ∷ [])). record { more = cleaned moment ∷ []; are = more; each = λ before after x at. stands_alone (wanted P mode (H ++ before)) moment x before after at }) either
+
+pub drops_nothing : (P : Plan) (files : Files) (H all : List Record) (moment : ℕ) → AreEither H moment all → AreGone P files H all
+drops_nothing P files H all moment either =
+    ⊎_elim (λ (same : all ≡ H). record { more = []; are = same ∙ sym (append_nothing H); gone = λ f wrong. absent wrong })
+    (λ (more : all ≡ H ++ (cleaned moment ∷ [])). record { more = cleaned moment ∷ []; are = more; gone = λ f wrong. absent wrong }) either
 
 pub begins_so : (H all : List Record) (moment : ℕ) → AreEither H moment all → BeginsWith H all
 begins_so H all moment either = let r = records_are H all moment either in (r.0, r.1)
@@ -287,6 +312,21 @@ look_still b a (looks.Log recovery.Memory) = (refl, refl)
 look_still b a (looks.OtherFlow logged found) = (refl, refl)
 look_still b a (looks.NotLegal at) = (refl, refl)
 look_still b a looks.Memory = (refl, refl)
+
+pub look_cleans : (b a : Counts) (P : Plan) (H : List Record) (files : Files) (why : LookFault) → IsCleanedBy P H files (look_cause b a why)
+look_cleans b a P H files (looks.Log recovery.Site) = tt
+look_cleans b a P H files (looks.Log recovery.BadHeader) = tt
+look_cleans b a P H files (looks.Log (recovery.BadRecord at)) = tt
+look_cleans b a P H files (looks.Log recovery.Memory) = tt
+look_cleans b a P H files (looks.OtherFlow logged found) = tt
+look_cleans b a P H files (looks.NotLegal at) = tt
+look_cleans b a P H files looks.Memory = tt
+
+pub clean_cleans : (b a : Counts) (P : Plan) (H : List Record) (files : Files) (why : CleanFault) → IsCleanedBy P H files (clean_cause b a why)
+clean_cleans b a P H files (cleans.Look why) = look_cleans b a P H files why
+clean_cleans b a P H files (cleans.LogFull count) = tt
+clean_cleans b a P H files cleans.Site = tt
+clean_cleans b a P H files cleans.Memory = tt
 
 pub clean_late : (b a : Counts) (why : CleanFault) → is_early (kind_of (clean_cause b a why)) ≡ false
 clean_late b a (cleans.Look why) = look_late b a why

@@ -1,18 +1,20 @@
 -- What a call does that the site's failure or want of memory ended.
-use Rattle.std.proofs.Common.{◌≡◌, ◌≢◌, ◌≤◌, ◌<◌, ◌⊎◌, ⊎_elim, inl, inr, ◌∙◌, ℕ, Bool, true, false, List, [], ◌∷◌, ◌++◌, Option, Some, None, Result, Ok, Err, All, IsTrue, IsFalse, refl, sym, ap, subst, arith, true≢false}
+use Rattle.std.proofs.Common.{◌≡◌, ◌≢◌, ◌≤◌, ⊎_elim, inl, inr, ◌∙◌, ℕ, true, false, List, [], ◌∷◌, ◌++◌, Option, Some, None, All, refl, sym, ap, subst, true≢false}
 use Rattle.std.proofs.lemmas.List.Elements.{All-nil}
 use Rattle.flow_types.specs.declared.plan.Plan.{Plan}
 use Rattle.flow_types.specs.declared.job.Job.{Job}
 use Rattle.flow_types.specs.declared.job.Failure.{Failure}
 use Rattle.flow_types.specs.declared.records.Record.{Record}
 use Rattle.flow_types.specs.Serial.{Function, serial}
-use Rattle.outside.specs.Disk.{IsImage, LeavesOnly, Outcomes}
+use Rattle.outside.specs.Disk.{LeavesOnly, Outcomes}
 use Rattle.outside.specs.Files.{Files}
 use Rattle.outside.proofs.Moments.{weakened}
 use Rattle.txn_log.specs.Spells.{Spells}
 use Rattle.desk.specs.Kept.{StaysBeside}
+use Rattle.run_history.specs.declared.options.Mode.{Mode}
 use Rattle.command_words.specs.declared.options.Work.{Work}
 use Rattle.command_words.specs.declared.options.Work.TheVariants as works
+use Rattle.local_run.specs.Collecting.{CollectsBy}
 use Rattle.local_run.specs.Course.{FailsHonestly, IsUnmade, TellsJobs}
 use Rattle.local_run.specs.Moments.{IsBefore, IsResumable}
 use Rattle.local_run.specs.Runs.{Adds, BeginsWith, Held, SerialFits, read_sources}
@@ -23,9 +25,9 @@ use Rattle.report.specs.declared.cause.Kind.TheVariants as kinds
 use Rattle.report.specs.Causes.{is_completion, is_cut, is_failing, is_refusal, kind_of, may_lose, may_replace, was_read}
 use Rattle.master_run.specs.declared.ask.Ask.{Ask}
 use Rattle.master_run.specs.declared.counts.Counts.{Counts}
-use Rattle.master_run.specs.Ends.{Answers, FaultEnd, GoesOn, IsStop, LogEnds, NoneRose, RunEnds, Yields, clean_refusal, log_refusal, run_refusal}
-use Rattle.master_run.specs.Headline.{HasLog, IsLegalOr, is_early, is_run_end}
-use Rattle.master_run.specs.Serves.{AllMoments, Fit, IsCut, Serves, StaysResumable}
+use Rattle.master_run.specs.Ends.{FaultEnd, GoesOn, IsStop, NoneRose, RunEnds, Yields, clean_refusal, log_refusal, run_refusal}
+use Rattle.master_run.specs.Headline.{HasLog, IsCleanedBy, IsLegalOr, is_early, is_run_end}
+use Rattle.master_run.specs.Serves.{AllMoments, Completes, Fit, Serves, StaysResumable}
 
 -- what holds of the two kinds
 pub record IsFaultKind (kind : Kind) : Type 0 where
@@ -77,7 +79,17 @@ is_stop P records after (causes.SourceMissing file) cut = absurd (true≢false (
 is_stop P records after (causes.SourceTooLarge file size) cut = absurd (true≢false (sym cut))
 is_stop P records after (causes.SinkFault old new) cut = absurd (true≢false (sym cut))
 is_stop P records after (causes.InputsTooLarge rule total) cut = absurd (true≢false (sym cut))
+is_stop P records after (causes.NoRoom rule need stored limit) cut = absurd (true≢false (sym cut))
 is_stop P records after (causes.LogFull count) cut = absurd (true≢false (sym cut))
+
+-- how a call ends by a fault that could come to its end
+fault_completes : (limit : Option ℕ) (cause : Cause) → is_completion (kind_of cause) ≡ true → Completes limit cause
+fault_completes limit (causes.NoRoom rule need stored most) done = absurd (true≢false (sym done))
+fault_completes limit _ done = done
+
+fault_cleans : (P : Plan) (H : List Record) (files : Files) (cause : Cause) → is_cut (kind_of cause) ≡ true → IsCleanedBy P H files cause
+fault_cleans P H files (causes.Cleaned removed) cut = absurd (true≢false (sym cut))
+fault_cleans P H files _ cut = tt
 
 fault_yields : (refusal : Option Cause) (cause : Cause) (rest : Type 0) → may_replace (kind_of cause) ≡ true → rest → Yields refusal cause rest
 fault_yields None cause rest replaces holds = holds
@@ -112,6 +124,7 @@ module _ {S : Type 0} (tells : Type 0) (files : S → Files) (may_leave : S → 
         → IsResumable (SerialFits gives (read_sources ask.plan (files old))) ask.plan ask.log H (may_leave old)
         → TellsJobs ask.plan told (serial ask.plan gives (read_sources ask.plan (files old)))
         → BeginsWith H records → Adds (Unit {0}) gives may_fail (read_sources ask.plan (files old)) ask.plan H records
+    pub modes : tells → (H : List Record) → Spells H (files old ask.log) → BeginsWith H records → CollectsBy ask.plan ask.options.mode H records
     pub none_rose : NoneRose before after → is_completion (kind_of cause) ≡ true
 
   pub fault_serves : Faulted → Serves tells files may_leave moment images_since born gives may_fail told sure before after ask old new records cause
@@ -137,7 +150,10 @@ module _ {S : Type 0} (tells : Type 0) (files : S → Files) (may_leave : S → 
     contents = f.contents;
     honest = f.honest;
     sure_end = λ is_sure. (fault_kind (kind_of cause) f.cut).sure;
-    completes = λ t H spelled work resumable free there fit room is_sure jobs none. f.none_rose none;
+    completes = λ t H spelled work resumable free there fit room is_sure jobs none. fault_completes ask.options.limit cause (f.none_rose none);
+    modes = f.modes;
+    gone = λ t H spelled whole. absurd (whole f.cut);
+    cleaned = λ t H spelled. fault_cleans ask.plan H (files new) cause f.cut;
   }
 
   -- nothing but the moments before the log was read
@@ -165,3 +181,14 @@ adds_none gives may_fail P files H begins = record {
   are = begins.1;
   honest = λ trust. subst (λ (xs : List Record). All (FailsHonestly P may_fail (serial P gives (read_sources P files))) xs) (sym (begins_none H begins.0 begins.1)) (All-nil (FailsHonestly P may_fail (serial P gives (read_sources P files))));
 }
+
+nothing_at : {A : Type 0} (x : Record) (before after : List Record) → (let none : List Record = [] in none ≡ before ++ (x ∷ after)) → A
+nothing_at x [] after wrong = absurd (cc)
+nothing_at x (y ∷ before) after wrong = absurd (cc)
+
+-- where nothing was added nothing was collected
+pub collects_none : (P : Plan) (mode : Mode) (H all : List Record) → all ≡ H ++ [] → CollectsBy P mode H all
+collects_none P mode H all same = record { more = []; are = same; each = λ before after x at. nothing_at x before after at }
+
+pub unread_collects : (P : Plan) (mode : Mode) (H : List Record) → BeginsWith H [] → CollectsBy P mode H []
+unread_collects P mode H begins = collects_none P mode H [] (begins.1 ∙ ap (λ (xs : List Record). H ++ xs) (begins_none H begins.0 begins.1))

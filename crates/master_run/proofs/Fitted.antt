@@ -1,14 +1,14 @@
 -- Rules that need no more than there is.
-use Rattle.std.proofs.Common.{◌≡◌, ◌<◌, ◌+◌, ◌∙◌, ℕ, zero, suc, Bool, true, false, ◌&&◌, List, [], ◌∷◌, length, Option, Some, None, refl, sym, ap, arith, if◌then◌else◌}
+use Rattle.std.proofs.Common.{◌≡◌, ◌<◌, ◌+◌, ◌∙◌, ℕ, zero, suc, Bool, true, false, ◌&&◌, List, [], ◌∷◌, length, Option, Some, None, refl, ap, arith, if◌then◌else◌}
 use Rattle.std.specs.Prelude.{nat_le, nat_lt, slice_get}
-use Rattle.std.specs.List.{enumerate_from}
 use Rattle.std.specs.Option.{option_map_or}
 use Rattle.std.proofs.lemmas.Bool.{le-leb, ltb-false}
 use Rattle.flow_types.specs.declared.numbers.Amounts.{Amounts}
 use Rattle.flow_types.specs.declared.numbers.Needs.{Needs}
 use Rattle.flow_types.specs.declared.numbers.Needs.TheVariants.{Whole, Stated}
 use Rattle.flow_types.specs.declared.plan.Rule.{Rule}
-use Rattle.rule_graph.specs.Faults.{first_said, or_else}
+use Rattle.rule_graph.specs.Faults.{or_else}
+use Rattle.run_history.specs.declared.options.Options.{Options}
 use Rattle.run_history.specs.Links.{amounts_on, is_at_most}
 use Rattle.master_run.specs.declared.needs.Excess.{Excess}
 use Rattle.master_run.specs.Needs.{exceeds, excess_among, excess_of, rule_excess, taken_here}
@@ -39,12 +39,13 @@ first_none : {A : Type 0} (first rest : Option A) → or_else first rest ≡ Non
 first_none None rest none = (refl, none)
 first_none (Some x) rest none = some_is_none x none
 
-pub all_fit : (total : Amounts) (rules : List Rule) (first : ℕ) → excess_among total first rules ≡ None → (r : ℕ) → r < length rules
-    → is_at_most (amounts_on 0 total (option_map_or (λ (rule : Rule). rule.needs) (slice_get rules r) Whole)) total ≡ true
-all_fit total [] first none r inside = absurd (let wrong : ⊥ = omega (arith, inside) in wrong)
-all_fit total (rule ∷ rules) first none zero inside =
-    let parts = first_none (excess_of total first rule) _ none in
-    ap (λ (a : Amounts). is_at_most a total) (taken_so total rule.needs) ∙ within first (taken_here rule.needs) total parts.0
-all_fit total (rule ∷ rules) first none (suc r) inside =
-    let parts = first_none (excess_of total first rule) _ none in
-    all_fit total rules (first + 1) parts.1 r (omega (arith, inside))
+pub all_fit : (O : Options) (rules : List Rule) (first : ℕ) → excess_among O first rules ≡ None → (r : ℕ) → r < length rules
+    → is_at_most (amounts_on 0 O.local (option_map_or (λ (rule : Rule). rule.needs) (slice_get rules r) Whole)) O.local ≡ true
+all_fit O [] first none r inside = absurd (let wrong : ⊥ = omega (arith, inside) in wrong)
+all_fit O (rule ∷ rules) first none zero inside =
+    let parts = first_none (excess_of O first rule) _ none in
+    let needs = first_none (rule_excess first (taken_here rule.needs) O.local) _ parts.0 in
+    ap (λ (a : Amounts). is_at_most a O.local) (taken_so O.local rule.needs) ∙ within first (taken_here rule.needs) O.local needs.0
+all_fit O (rule ∷ rules) first none (suc r) inside =
+    let parts = first_none (excess_of O first rule) _ none in
+    all_fit O rules (first + 1) parts.1 r (omega (arith, inside))

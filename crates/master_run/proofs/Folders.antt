@@ -1,5 +1,5 @@
 -- One name below another.
-use Rattle.std.proofs.Common.{◌≡◌, ◌≢◌, ℕ, zero, suc, Bool, true, false, not, cond, ◌&&◌, ◌||◌, ◌==◌, List, [], ◌∷◌, ◌++◌, length, drop, take, map, find, Option, Some, None, refl, sym, ap, subst, ◌∙◌, ◌-◌, arith, true≢false}
+use Rattle.std.proofs.Common.{◌≡◌, ◌≢◌, ℕ, zero, suc, Bool, true, false, not, cond, ◌&&◌, ◌||◌, ◌==◌, List, [], ◌∷◌, length, drop, take, map, find, Option, Some, None, refl, sym, ap, subst, ◌∙◌, ◌-◌, arith, true≢false}
 use Rattle.std.specs.Prelude.{codes, nat_eq, nat_lt, slice_get}
 use Rattle.std.specs.List.{list_any, starts_with}
 use Rattle.std.specs.Option.{option_map_or}

@@ -11,3 +11,4 @@ pub mod Works
 pub mod Reprinted
 pub mod Refusals
 pub mod Unread
+pub mod Unneeded

@@ -1,14 +1,14 @@
 -- What is told of a cause whose line was handed to the sink.
-use Rattle.std.proofs.Common.{◌≡◌, ◌∙◌, ℕ, ◌<◌, Bool, true, false, List, [], ◌++◌, length, take, Result, Ok, Err, refl, sym, ap, subst, if◌then◌else◌, arith, IsErrOf}
+use Rattle.std.proofs.Common.{◌≡◌, ◌∙◌, ℕ, ◌<◌, Bool, true, false, List, ◌++◌, take, Result, Ok, Err, refl, sym, subst, if◌then◌else◌, arith, IsErrOf}
 use Rattle.flow_types.specs.declared.plan.Plan.{Plan}
 use Rattle.flow_types.specs.declared.records.Record.{Record}
 use Rattle.outside.specs.declared.fault.Fault.{Fault}
 use Rattle.outside.specs.declared.fault.Fault.TheVariants as faults
 use Rattle.outside.specs.Sent.{Sends}
 use Rattle.report.specs.declared.cause.Cause.{Cause}
-use Rattle.report.specs.declared.cause.Cause.TheVariants.{SinkFault, Memory}
+use Rattle.report.specs.declared.cause.Cause.TheVariants.{SinkFault}
 use Rattle.report.specs.Causes.{is_end, kind_of}
-use Rattle.master_run.specs.Prints.{is_no_memory, is_unprinted, printed_cause, text_of, Told}
+use Rattle.master_run.specs.Prints.{printed_cause, text_of, Told}
 
 true_is_false : {A : Type 0} → true ≡ false → A
 true_is_false wrong = absurd (cc)

@@ -1,6 +1,5 @@
 -- What a call does that runs a plan, by how the run ended.
-use Rattle.std.proofs.Common.{◌≡◌, ◌≢◌, ◌≤◌, ◌<◌, ◌⊎◌, ⊎_elim, inl, inr, ◌∙◌, ℕ, Bool, true, false, List, [], ◌∷◌, ◌++◌, length, Option, Some, None, Result, Ok, Err, IfOk, OnOk, IsTrue, IsFalse, refl, sym, ap, subst, arith, true≢false, option_map, if◌then◌else◌}
-use Rattle.std.specs.List.{list_any}
+use Rattle.std.proofs.Common.{◌≡◌, ◌≤◌, ◌+◌, ◌⊎◌, ⊎_elim, inl, inr, ◌∙◌, ℕ, Bool, true, false, List, [], length, Option, Some, None, Result, Ok, Err, IfOk, OnOk, refl, sym, ap, subst, arith, true≢false, option_map, if◌then◌else◌}
 use Rattle.flow_types.specs.declared.plan.Plan.{Plan}
 use Rattle.flow_types.specs.declared.numbers.Content.{Content}
 use Rattle.flow_types.specs.declared.numbers.FileNo.{FileNo}
@@ -11,7 +10,6 @@ use Rattle.flow_types.specs.Plans.{is_source}
 use Rattle.flow_types.specs.Serial.{Function, serial}
 use Rattle.run_history.specs.declared.answers.Check.{Check}
 use Rattle.run_history.specs.declared.answers.Check.TheVariants as check
-use Rattle.run_history.specs.declared.options.Options.{Options}
 use Rattle.run_history.specs.declared.states.Found.{Found}
 use Rattle.run_history.specs.Answers.{before_end, end_over}
 use Rattle.run_history.specs.History.{since_opening}
@@ -21,30 +19,28 @@ use Rattle.outside.specs.Files.{Files}
 use Rattle.txn_log.specs.Spells.{Spells}
 use Rattle.desk.specs.declared.answers.StartFault.{StartFault}
 use Rattle.desk.specs.declared.answers.StartFault.TheVariants as faults
-use Rattle.desk.specs.Begins.{IsUncutBy}
-use Rattle.desk.specs.Kept.{IsLegal, Keeps, StaysBeside, WasKept}
-use Rattle.local_run.specs.declared.halt.Halt.{Halt}
+use Rattle.desk.specs.Kept.{IsLegal, Keeps, StaysBeside}
 use Rattle.local_run.specs.declared.halt.Halt.TheVariants as halts
 use Rattle.local_run.specs.declared.ended.Stopped.{Stopped}
 use Rattle.local_run.specs.declared.ended.Stopped.TheVariants as stopped
-use Rattle.local_run.specs.Completing.{HasRecordRoom, HasSources, SerialInputsFit}
+use Rattle.local_run.specs.Collecting.{AreGone, CollectsBy}
+use Rattle.local_run.specs.Completing.{HasRecordRoom, SerialInputsFit}
 use Rattle.local_run.specs.Course.{IsUnmade, TellsJobs}
-use Rattle.local_run.specs.Ends.{HasFailed, IsDamaged, IsDone, IsRunEnd, IsSureEnd, RunDamage, StartEnds, run_fault}
+use Rattle.local_run.specs.Ends.{HasFailed, IsDamaged, IsDone, IsRunEnd, IsSureEnd, LogsFailures, RunDamage, StartEnds, failed_count, run_fault}
 use Rattle.local_run.specs.Moments.{IsMoment, IsResumable, KeepsSome}
 use Rattle.local_run.specs.Runs.{Adds, BeginsWith, HasCauses, Held, IsAdmitted, IsClosedRun, IsCutRun, IsEarlyRun, IsRefusedRun, LosesNone, SerialFits, read_sources}
 use Rattle.command_words.specs.declared.options.Work.{Work}
 use Rattle.command_words.specs.declared.options.Work.TheVariants as works
 use Rattle.report.specs.declared.cause.Cause.{Cause}
 use Rattle.report.specs.declared.cause.Cause.TheVariants as causes
-use Rattle.report.specs.declared.cause.Kind.{Kind}
 use Rattle.report.specs.declared.cause.Kind.TheVariants as kinds
-use Rattle.report.specs.Causes.{is_completion, is_cut, is_failing, is_refusal, kind_of, may_lose, may_replace, was_read}
+use Rattle.report.specs.Causes.{is_cut, is_failing, is_refusal, kind_of, may_lose, was_read}
 use Rattle.master_run.specs.declared.ask.Ask.{Ask}
 use Rattle.master_run.specs.declared.counts.Counts.{Counts}
-use Rattle.master_run.specs.Ends.{FaultEnd, GoesOn, IsStop, LogEnds, NoneRose, RunEnds, Yields, end_cause, run_refusal, start_cause}
-use Rattle.master_run.specs.Headline.{FailureEnd, HasLog, IsLegalOr, IsSpentBy, StartsNone, is_early, is_run_end, is_started}
-use Rattle.master_run.specs.Runs.{damage_cause, halt_cause, refused_cause, run_cause}
-use Rattle.master_run.specs.Serves.{AllMoments, Fit, IsCut, Serves}
+use Rattle.master_run.specs.Ends.{FaultEnd, GoesOn, IsSomeRunEnd, IsStop, RunEnds, Yields, end_cause, start_cause}
+use Rattle.master_run.specs.Headline.{FailureEnd, IsCleanedBy, IsLegalOr, IsSpentBy, LogsFailed, StartsNone, is_early, is_run_end}
+use Rattle.master_run.specs.Runs.{damage_cause, run_cause}
+use Rattle.master_run.specs.Serves.{Completes, IsCut, Serves}
 use Rattle.master_run.proofs.Faults.{fault_goes}
 use Rattle.master_run.proofs.Moved.{append_nothing, moment_after}
 
@@ -86,6 +82,7 @@ end_faults b a rules (check.Complete collected) = tt
 end_faults b a rules (check.CommandFailed rule why) = tt
 end_faults b a rules (check.InputsTooLarge rule total) = tt
 end_faults b a rules (check.LogFull count) = tt
+end_faults b a rules (check.NoRoom rule need bytes limit) = tt
 end_faults b a rules _ = tt
 
 -- a fault is told only where that count rose
@@ -135,7 +132,7 @@ admitted_run b a P (Err (stopped.Refused (faults.Site old new))) read = tt
 admitted_run b a P (Ok ended) read = tt
 admitted_run b a P (Err (stopped.Halted halt)) read = tt
 
-closed_run : (b a : Counts) (P : Plan) (how : Result Check Stopped) → is_run_end (kind_of (run_cause b a P how)) ≡ true → IsClosedRun how
+pub closed_run : (b a : Counts) (P : Plan) (how : Result Check Stopped) → is_run_end (kind_of (run_cause b a P how)) ≡ true → IsClosedRun how
 closed_run b a P (Ok ended) ends = tt
 closed_run b a P (Err (stopped.Refused (faults.OtherFlow logged found))) ends = absent ends
 closed_run b a P (Err (stopped.Refused (faults.NotLegal at))) ends = absent ends
@@ -151,6 +148,27 @@ closed_run b a P (Err (stopped.Halted (halts.Damaged file logged found))) ends =
 closed_run b a P (Err (stopped.Halted halts.Runner)) ends = tt
 closed_run b a P (Err (stopped.Halted halts.Site)) ends = absent ends
 closed_run b a P (Err (stopped.Halted halts.Memory)) ends = absent ends
+
+-- a run that was closed was started
+pub closed_starts : (how : Result Check Stopped) → IsClosedRun how → IsRefusedRun how → ⊥
+closed_starts (Ok ended) closed refused = refused
+closed_starts (Err (stopped.Refused why)) closed refused = closed
+closed_starts (Err (stopped.Halted halt)) closed refused = refused
+
+-- some run ends so
+pub some_end : (limit : Option ℕ) (how : Result Check Stopped) → IfOk how (IsRunEnd limit) → IfOk how IsSomeRunEnd
+some_end limit (Ok ended) is = (limit, is)
+some_end limit (Err why) is = tt
+
+-- each command that failed is logged once
+pub logged_run : (b a : Counts) (P : Plan) (H all : List Record) (f0 f1 : ℕ) (how : Result Check Stopped) → (IsClosedRun how → LogsFailures H all f0 f1) → (IsRefusedRun how → all ≡ H) → (IsRefusedRun how → f1 ≡ f0)
+    → (is_cut (kind_of (run_cause b a P how)) ≡ true → ⊥) → LogsFailed H all f0 f1
+logged_run b a P H all f0 f1 (Ok ended) logs same unused whole = logs tt
+logged_run b a P H all f0 f1 (Err (stopped.Refused why)) logs same unused whole = ap (λ (xs : List Record). failed_count xs + f0) (same tt) ∙ ap (λ (n : ℕ). failed_count H + n) (sym (unused tt))
+logged_run b a P H all f0 f1 (Err (stopped.Halted (halts.Damaged file logged found))) logs same unused whole = logs tt
+logged_run b a P H all f0 f1 (Err (stopped.Halted halts.Runner)) logs same unused whole = logs tt
+logged_run b a P H all f0 f1 (Err (stopped.Halted halts.Site)) logs same unused whole = absurd (whole refl)
+logged_run b a P H all f0 f1 (Err (stopped.Halted halts.Memory)) logs same unused whole = absurd (whole refl)
 
 starts_none : (H all : List Record) → all ≡ H → StartsNone H all
 starts_none H all same = ([], same ∙ sym (append_nothing H), refl)
@@ -185,6 +203,7 @@ end_refuses rules (check.Complete collected) = refl
 end_refuses rules (check.CommandFailed rule why) = refl
 end_refuses rules (check.InputsTooLarge rule total) = refl
 end_refuses rules (check.LogFull count) = refl
+end_refuses rules (check.NoRoom rule need bytes limit) = refl
 end_refuses rules _ = refl
 
 damage_refuses : (source : Bool) (file : FileNo) (logged : Content) (found : Found) → is_refusal (kind_of (if source then causes.SourceChanged file logged found else causes.FileDamaged file logged found)) ≡ false
@@ -217,6 +236,7 @@ end_whole rules (check.Complete collected) = refl
 end_whole rules (check.CommandFailed rule why) = refl
 end_whole rules (check.InputsTooLarge rule total) = refl
 end_whole rules (check.LogFull count) = refl
+end_whole rules (check.NoRoom rule need bytes limit) = refl
 end_whole rules _ = refl
 
 input_whole : (source : Bool) (file : FileNo) (logged : Content) (found : Found) → tells_damage (if source then causes.SourceChanged file logged found else causes.FileDamaged file logged found) ≡ false
@@ -253,11 +273,11 @@ damage_stops : (P : Plan) (records : List Record) (after : Files) (file : FileNo
 damage_stops P records after file logged found true is damage = (is, damage)
 damage_stops P records after file logged found false is damage = (is, damage)
 
-run_goes : (b a : Counts) (ask : Ask) (H : List Record) (before after : Files) (records : List Record) (how : Result Check Stopped) → StartEnds (run_fault ask.plan ask.options H before) how → IfOk how IsRunEnd
+run_goes : (b a : Counts) (ask : Ask) (H : List Record) (before after : Files) (records : List Record) (how : Result Check Stopped) → StartEnds (run_fault ask.plan ask.options H before) how → IfOk how (IsRunEnd ask.options.limit)
     → IfOk how (λ ended. ended ≡ end_over ask.plan ask.options (before_end records) None) → RunDamage ask.plan records after how → GoesOn works.Run ask H before after records (run_cause b a ask.plan how)
 run_goes b a ask H before after records (Ok ended) starts closed ends damage =
     free_goes ask H before after records (end_cause (length ask.plan.rules) ended) starts
-    (inl (subst IsRunEnd ends closed, inl (ap (end_cause (length ask.plan.rules)) ends)))
+    (inl (subst (IsRunEnd ask.options.limit) ends closed, inl (ap (end_cause (length ask.plan.rules)) ends)))
 run_goes b a ask H before after records (Err (stopped.Refused (faults.OtherFlow logged found))) starts closed ends damage = uncut_goes ask H before after records (faults.OtherFlow logged found) (starts tt)
 run_goes b a ask H before after records (Err (stopped.Refused (faults.NotLegal at))) starts closed ends damage = uncut_goes ask H before after records (faults.NotLegal at) (starts tt)
 run_goes b a ask H before after records (Err (stopped.Refused (faults.LogFull count))) starts closed ends damage = uncut_goes ask H before after records (faults.LogFull count) (starts tt)
@@ -283,6 +303,7 @@ sure_run b a P (Ok (check.CommandFailed rule why)) is = absurd is
 sure_run b a P (Ok (check.Complete collected)) is = refl
 sure_run b a P (Ok (check.InputsTooLarge rule total)) is = refl
 sure_run b a P (Ok (check.LogFull count)) is = refl
+sure_run b a P (Ok (check.NoRoom rule need bytes limit)) is = refl
 sure_run b a P (Ok _) is = refl
 sure_run b a P (Err (stopped.Refused (faults.OtherFlow logged found))) is = refl
 sure_run b a P (Err (stopped.Refused (faults.NotLegal at))) is = refl
@@ -299,35 +320,36 @@ sure_run b a P (Err (stopped.Halted halts.Runner)) is = absurd is
 sure_run b a P (Err (stopped.Halted halts.Site)) is = refl
 sure_run b a P (Err (stopped.Halted halts.Memory)) is = refl
 
-done_run : (b a : Counts) (P : Plan) (how : Result Check Stopped) → IsDone how → is_completion (kind_of (run_cause b a P how)) ≡ true
-done_run b a P (Ok (check.Complete collected)) done = refl
-done_run b a P (Ok (check.CommandFailed rule why)) done = absurd done
-done_run b a P (Ok (check.InputsTooLarge rule total)) done = absurd done
-done_run b a P (Ok (check.LogFull count)) done = absurd done
-done_run b a P (Ok check.Going) done = absurd done
-done_run b a P (Ok check.Halted) done = absurd done
-done_run b a P (Ok (check.NoRoom rule need bytes limit)) done = absurd done
-done_run b a P (Ok (check.Waited wait)) done = absurd done
-done_run b a P (Err (stopped.Refused (faults.OtherFlow logged found))) done = absurd done
-done_run b a P (Err (stopped.Refused (faults.NotLegal at))) done = absurd done
-done_run b a P (Err (stopped.Refused (faults.LogFull count))) done = absurd done
-done_run b a P (Err (stopped.Refused (faults.StoredAboveLimit bytes limit))) done = absurd done
-done_run b a P (Err (stopped.Refused (faults.SourceMissing file))) done = absurd done
-done_run b a P (Err (stopped.Refused (faults.SourceTooLarge file size))) done = absurd done
-done_run b a P (Err (stopped.Refused (faults.SourceChanged file logged found))) done = absurd done
-done_run b a P (Err (stopped.Refused (faults.FileDamaged file logged found))) done = absurd done
-done_run b a P (Err (stopped.Refused (faults.Site old new))) done = absurd done
-done_run b a P (Err (stopped.Refused faults.Memory)) done = refl
-done_run b a P (Err (stopped.Halted (halts.Damaged file logged found))) done = absurd done
-done_run b a P (Err (stopped.Halted halts.Runner)) done = absurd done
-done_run b a P (Err (stopped.Halted halts.Site)) done = absurd done
-done_run b a P (Err (stopped.Halted halts.Memory)) done = refl
+done_run : (b a : Counts) (P : Plan) (most : Option ℕ) (how : Result Check Stopped) → IsDone most how → Completes most (run_cause b a P how)
+done_run b a P most (Ok (check.Complete collected)) done = refl
+done_run b a P most (Ok (check.CommandFailed rule why)) done = absurd done
+done_run b a P most (Ok (check.InputsTooLarge rule total)) done = absurd done
+done_run b a P most (Ok (check.LogFull count)) done = absurd done
+done_run b a P most (Ok check.Going) done = absurd done
+done_run b a P most (Ok check.Halted) done = absurd done
+done_run b a P most (Ok (check.NoRoom rule need bytes limit)) done = done
+done_run b a P most (Ok (check.Waited wait)) done = absurd done
+done_run b a P most (Err (stopped.Refused (faults.OtherFlow logged found))) done = absurd done
+done_run b a P most (Err (stopped.Refused (faults.NotLegal at))) done = absurd done
+done_run b a P most (Err (stopped.Refused (faults.LogFull count))) done = absurd done
+done_run b a P most (Err (stopped.Refused (faults.StoredAboveLimit bytes limit))) done = absurd done
+done_run b a P most (Err (stopped.Refused (faults.SourceMissing file))) done = absurd done
+done_run b a P most (Err (stopped.Refused (faults.SourceTooLarge file size))) done = absurd done
+done_run b a P most (Err (stopped.Refused (faults.SourceChanged file logged found))) done = absurd done
+done_run b a P most (Err (stopped.Refused (faults.FileDamaged file logged found))) done = absurd done
+done_run b a P most (Err (stopped.Refused (faults.Site old new))) done = absurd done
+done_run b a P most (Err (stopped.Refused faults.Memory)) done = refl
+done_run b a P most (Err (stopped.Halted (halts.Damaged file logged found))) done = absurd done
+done_run b a P most (Err (stopped.Halted halts.Runner)) done = absurd done
+done_run b a P most (Err (stopped.Halted halts.Site)) done = absurd done
+done_run b a P most (Err (stopped.Halted halts.Memory)) done = refl
 
 end_late : (rules : ℕ) (ended : Check) → is_early (kind_of (end_cause rules ended)) ≡ false
 end_late rules (check.Complete collected) = refl
 end_late rules (check.CommandFailed rule why) = refl
 end_late rules (check.InputsTooLarge rule total) = refl
 end_late rules (check.LogFull count) = refl
+end_late rules (check.NoRoom rule need bytes limit) = refl
 end_late rules _ = refl
 
 damage_late : (source : Bool) (file : FileNo) (logged : Content) (found : Found) → is_early (kind_of (if source then causes.SourceChanged file logged found else causes.FileDamaged file logged found)) ≡ false
@@ -351,6 +373,35 @@ run_late b a P (Err (stopped.Halted halts.Runner)) = refl
 run_late b a P (Err (stopped.Halted halts.Site)) = refl
 run_late b a P (Err (stopped.Halted halts.Memory)) = refl
 
+end_cleans : (P : Plan) (H : List Record) (files : Files) (rules : ℕ) (ended : Check) → IsCleanedBy P H files (end_cause rules ended)
+end_cleans P H files rules (check.Complete collected) = tt
+end_cleans P H files rules (check.CommandFailed rule why) = tt
+end_cleans P H files rules (check.InputsTooLarge rule total) = tt
+end_cleans P H files rules (check.LogFull count) = tt
+end_cleans P H files rules (check.NoRoom rule need bytes limit) = tt
+end_cleans P H files rules _ = tt
+
+damage_cleans : (P : Plan) (H : List Record) (files : Files) (source : Bool) (file : FileNo) (logged : Content) (found : Found) → IsCleanedBy P H files (if source then causes.SourceChanged file logged found else causes.FileDamaged file logged found)
+damage_cleans P H files true file logged found = tt
+damage_cleans P H files false file logged found = tt
+
+run_cleans : (b a : Counts) (P : Plan) (H : List Record) (files : Files) (how : Result Check Stopped) → IsCleanedBy P H files (run_cause b a P how)
+run_cleans b a P H files (Ok ended) = end_cleans P H files (length P.rules) ended
+run_cleans b a P H files (Err (stopped.Refused (faults.OtherFlow logged found))) = tt
+run_cleans b a P H files (Err (stopped.Refused (faults.NotLegal at))) = tt
+run_cleans b a P H files (Err (stopped.Refused (faults.LogFull count))) = tt
+run_cleans b a P H files (Err (stopped.Refused (faults.StoredAboveLimit bytes limit))) = tt
+run_cleans b a P H files (Err (stopped.Refused (faults.SourceMissing file))) = tt
+run_cleans b a P H files (Err (stopped.Refused (faults.SourceTooLarge file size))) = tt
+run_cleans b a P H files (Err (stopped.Refused (faults.SourceChanged file logged found))) = tt
+run_cleans b a P H files (Err (stopped.Refused (faults.FileDamaged file logged found))) = tt
+run_cleans b a P H files (Err (stopped.Refused (faults.Site old new))) = tt
+run_cleans b a P H files (Err (stopped.Refused faults.Memory)) = tt
+run_cleans b a P H files (Err (stopped.Halted (halts.Damaged file logged found))) = damage_cleans P H files (is_source P file.0) file logged found
+run_cleans b a P H files (Err (stopped.Halted halts.Runner)) = tt
+run_cleans b a P H files (Err (stopped.Halted halts.Site)) = tt
+run_cleans b a P H files (Err (stopped.Halted halts.Memory)) = tt
+
 none_refused : (o : Option StartFault) → option_map start_cause o ≡ None → o ≡ None
 none_refused None is = refl
 none_refused (Some why) is = absurd (cc)
@@ -361,6 +412,7 @@ failed_run b a P f0 f1 (Ok (check.CommandFailed rule why)) failed = record { lat
 failed_run b a P f0 f1 (Ok (check.Complete collected)) failed = record { later = failed; rose = λ wrong. absurd (cc) }
 failed_run b a P f0 f1 (Ok (check.InputsTooLarge rule total)) failed = record { later = failed; rose = λ wrong. absurd (cc) }
 failed_run b a P f0 f1 (Ok (check.LogFull count)) failed = record { later = failed; rose = λ wrong. absurd (cc) }
+failed_run b a P f0 f1 (Ok (check.NoRoom rule need bytes limit)) failed = record { later = failed; rose = λ wrong. absurd (cc) }
 failed_run b a P f0 f1 (Ok _) failed = record { later = failed; rose = λ wrong. absurd (cc) }
 failed_run b a P f0 f1 (Err (stopped.Refused (faults.OtherFlow logged found))) failed = record { later = failed; rose = λ wrong. absurd (cc) }
 failed_run b a P f0 f1 (Err (stopped.Refused (faults.NotLegal at))) failed = record { later = failed; rose = λ wrong. absurd (cc) }
@@ -393,7 +445,7 @@ module _ {S : Type 0} (tells : Type 0) (files : S → Files) (may_leave : S → 
     pub same : tells → (H : List Record) → Spells H (files old ask.log) → IsRefusedRun how → records ≡ H
     pub quiet : tells → IsEarlyRun how → (m : List ℕ) → files new m ≡ files old m
     pub starts : tells → (H : List Record) → Spells H (files old ask.log) → StartEnds (run_fault ask.plan ask.options H (files old)) how
-    pub closed : IfOk how IsRunEnd
+    pub closed : IfOk how (IsRunEnd ask.options.limit)
     pub ends : IfOk how (λ ended. ended ≡ end_over ask.plan ask.options (before_end records) None)
     pub damage : tells → RunDamage ask.plan records (files new) how
     pub legal : IsAdmitted how → IsLegal ask.plan records
@@ -419,7 +471,9 @@ module _ {S : Type 0} (tells : Type 0) (files : S → Files) (may_leave : S → 
         → IsResumable (SerialFits gives (read_sources ask.plan (files old))) ask.plan ask.log H (may_leave old)
         → TellsJobs ask.plan told (serial ask.plan gives (read_sources ask.plan (files old)))
         → SerialInputsFit ask.plan gives (read_sources ask.plan (files old)) → HasRecordRoom ask.plan H → run_fault ask.plan ask.options H (files old) ≡ None
-        → sure → count new ≤ count old → IsDone how
+        → sure → count new ≤ count old → IsDone ask.options.limit how
+    pub modes : tells → (H : List Record) → Spells H (files old ask.log) → CollectsBy ask.plan ask.options.mode H records
+    pub gone : tells → (IsCutRun how → ⊥) → (H : List Record) → Spells H (files old ask.log) → AreGone ask.plan (files new) H records
 
   on_told : OnOk how (tells → (H : List Record) → Spells H (files old ask.log) → LosesNone H records) → tells → (H : List Record) → Spells H (files old ask.log) → OnOk how (LosesNone H records)
   on_told lost t H spelled = by_how how lost
@@ -460,7 +514,10 @@ module _ {S : Type 0} (tells : Type 0) (files : S → Files) (may_leave : S → 
         inr (moment_after (SerialFits gives (read_sources ask.plan (files old))) ask.plan ask.log (files old) (may_leave old) H records (IsCutRun how) (IsCut (run_cause b a ask.plan how)) image (cut_run b a ask.plan how) m))
         (r.contents t H spelled resumable jobs image left);
     honest = λ t H spelled resumable jobs begins. r.honest t H spelled resumable jobs;
+    modes = λ t H spelled begins. r.modes t H spelled;
+    gone = λ t H spelled whole. r.gone t (λ cut. whole (cut_run b a ask.plan how cut)) H spelled;
+    cleaned = λ t H spelled. run_cleans b a ask.plan H (files new) how;
     sure_end = λ is. sure_run b a ask.plan how (r.is_sure is);
     completes = λ t H spelled work resumable free there fit room is jobs none.
-        done_run b a ask.plan how (r.completes t H spelled resumable jobs fit room (none_refused (run_fault ask.plan ask.options H (files old)) free) is (omega (arith, r.le, r.now_site, none.site)));
+        done_run b a ask.plan ask.options.limit how (r.completes t H spelled resumable jobs fit room (none_refused (run_fault ask.plan ask.options H (files old)) free) is (omega (arith, r.le, r.now_site, none.site)));
   }

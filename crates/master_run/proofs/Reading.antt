@@ -1,7 +1,6 @@
 -- From what a call does behind the reading of the flow to what it does from its entry on.
-use Rattle.std.proofs.Common.{◌≡◌, ◌≢◌, ◌≤◌, ◌<◌, ◌⊎◌, ⊎_elim, inl, inr, ◌∙◌, ℕ, List, Option, refl, sym, ap, subst, arith}
+use Rattle.std.proofs.Common.{◌≡◌, ◌≤◌, ⊎_elim, inl, inr, ◌∙◌, ℕ, List, Option, sym, subst}
 use Rattle.flow_types.specs.declared.plan.Plan.{Plan}
-use Rattle.flow_types.specs.declared.numbers.Content.{Content}
 use Rattle.flow_types.specs.declared.job.Job.{Job}
 use Rattle.flow_types.specs.declared.job.Failure.{Failure}
 use Rattle.flow_types.specs.declared.records.Record.{Record}
@@ -10,7 +9,6 @@ use Rattle.txn_log.specs.Spells.{Spells}
 use Rattle.outside.specs.Disk.{IsImage, LeavesOnly, Outcomes, Within}
 use Rattle.outside.specs.Files.{Files}
 use Rattle.outside.proofs.Moments.{weakened}
-use Rattle.desk.specs.Kept.{StaysBeside}
 use Rattle.desk.proofs.Others.{then_stays}
 use Rattle.local_run.specs.Course.{IsUnmade, TellsJobs}
 use Rattle.local_run.specs.Moments.{IsBefore, IsMoment, IsResumable, KeepsSome}
@@ -96,6 +94,9 @@ module _ {S : Type 0} (tells : Type 0) (files : S → Files) (may_leave : S → 
         (subst (λ (fs : Files). IsResumable (SerialFits gives (read_sources ask.plan fs)) ask.plan ask.log H (may_leave mid)) (sym (looked t).same)
         (resumable_from (SerialFits gives (read_sources ask.plan (files old))) ask.plan ask.log H (may_leave old) (may_leave mid) (looked t).within resumable))
         (subst (λ (fs : Files). TellsJobs ask.plan told (serial ask.plan gives (read_sources ask.plan fs))) (sym (looked t).same) jobs) begins);
+    modes = λ t H spelled. s.modes t H (at_mid t H spelled);
+    gone = λ t H spelled. s.gone t H (at_mid t H spelled);
+    cleaned = λ t H spelled. s.cleaned t H (at_mid t H spelled);
     sure_end = s.sure_end;
     completes = λ t H spelled.
         λ work resumable free.

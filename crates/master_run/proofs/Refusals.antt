@@ -1,9 +1,7 @@
 -- What a call does that is refused before its log is read.
-use Rattle.std.proofs.Common.{◌≡◌, ◌≤◌, ◌<◌, ◌⊎◌, ⊎_elim, inl, inr, ◌∙◌, ℕ, Bool, true, false, List, [], Option, None, Result, Ok, Err, IsOk, IsTrue, IsFalse, refl, sym, ap, subst, arith, true≢false}
-use Rattle.flow_types.specs.declared.plan.Plan.{Plan}
+use Rattle.std.proofs.Common.{◌≡◌, ◌≤◌, ◌<◌, ⊎_elim, inl, inr, ◌∙◌, ℕ, true, false, [], Result, Ok, Err, IsOk, refl, sym, subst, arith, true≢false}
 use Rattle.flow_types.specs.declared.job.Job.{Job}
 use Rattle.flow_types.specs.declared.job.Failure.{Failure}
-use Rattle.flow_types.specs.declared.records.Record.{Record}
 use Rattle.flow_types.specs.Serial.{Function}
 use Rattle.outside.specs.Disk.{IsImage, LeavesOnly, Outcomes}
 use Rattle.outside.specs.Files.{Files}
@@ -15,17 +13,17 @@ use Rattle.report.specs.declared.cause.Cause.{Cause}
 use Rattle.report.specs.declared.cause.Cause.TheVariants as causes
 use Rattle.report.specs.declared.cause.Kind.{Kind}
 use Rattle.report.specs.declared.cause.Kind.TheVariants as kinds
-use Rattle.report.specs.Causes.{is_completion, is_cut, is_failing, is_refusal as changes_nothing, kind_of, may_replace, was_read}
+use Rattle.report.specs.Causes.{is_completion, is_cut, is_failing, kind_of, may_replace, was_read}
 use Rattle.master_run.specs.declared.ask.Ask.{Ask}
 use Rattle.master_run.specs.declared.asking.Refusal.{Refusal}
 use Rattle.master_run.specs.declared.asking.Refusal.TheVariants as refusals
 use Rattle.master_run.specs.declared.counts.Counts.{Counts}
-use Rattle.master_run.specs.Ends.{Answers, CallEnds, FaultEnd, LogEnds, NoneRose, WordsEnd}
-use Rattle.master_run.specs.Headline.{FailureEnd, is_early, is_run_end}
+use Rattle.master_run.specs.Ends.{CallEnds, FaultEnd, NoneRose, WordsEnd}
+use Rattle.master_run.specs.Headline.{is_early, is_run_end}
 use Rattle.master_run.specs.Runs.{refusal_cause}
 use Rattle.master_run.specs.Serves.{Serves}
 use Rattle.master_run.specs.Stages.{SaysRefusal, Stage, WordsStage, is_refusal}
-use Rattle.master_run.proofs.Faults.{Faulted, adds_none, before_all, before_beside, fault_goes, fault_serves}
+use Rattle.master_run.proofs.Faults.{adds_none, before_all, before_beside, fault_goes, fault_serves, unread_collects}
 use Rattle.master_run.proofs.Reading.{WasLooked, entry_before}
 
 absent : {A : Type 0} → false ≡ true → A
@@ -36,6 +34,12 @@ same_ask x y is = cc
 
 no_ask : {A : Type 0} (cause : Cause) (ask : Ask) → (let one : Result Ask Cause = Err cause in one ≡ Ok ask) → A
 no_ask cause ask wrong = absurd (cc)
+
+-- where something is asked for, only what cuts a call short refuses it
+pub refused_cuts : {A : Type 0} (asked : Result Ask Cause) (ask : Ask) (b a : Counts) (refusal : Refusal) → Stage {T = Ask} asked (Err refusal) → asked ≡ Ok ask → (is_cut (kind_of (refusal_cause b a refusal)) ≡ true → ⊥) → A
+refused_cuts asked ask b a (refusals.Said cause) stage is whole = no_ask cause ask (sym stage ∙ is)
+refused_cuts asked ask b a refusals.Site stage is whole = absurd (whole refl)
+refused_cuts asked ask b a refusals.Memory stage is whole = absurd (whole refl)
 
 fault_ends : (asked : Result Ask Cause) (before after : Files) (cause : Cause) → is_cut (kind_of cause) ≡ true → may_replace (kind_of cause) ≡ true → (cause_at : (at : ℕ) → cause ≡ causes.LogDamaged at → ⊥) → after ≡ before
     → CallEnds asked before after [] cause
@@ -126,6 +130,7 @@ module _ {S : Type 0} (tells : Type 0) (files : S → Files) (may_leave : S → 
         others = λ t. before_beside tells files may_leave moment images_since born gives may_fail told sure b a ask old new [] cause (only t) (λ m file other left. (looked t).within m file left);
         contents = λ t H spelled jobs. before_all tells files may_leave moment images_since born gives may_fail told sure b a ask old new [] cause (SerialFits gives (read_sources ask.plan (files old))) H (later t) (only t);
         honest = λ t H spelled resumable jobs begins. adds_none gives may_fail ask.plan (files old) H begins;
+        modes = λ t H spelled begins. unread_collects ask.plan ask.options.mode H begins;
         none_rose = completes;
       })
     where

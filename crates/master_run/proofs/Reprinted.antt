@@ -1,8 +1,7 @@
 -- What holds of a call holds of it once its text was printed.
-use Rattle.std.proofs.Common.{◌≡◌, ◌≤◌, ◌<◌, ◌⊎◌, ⊎_elim, inl, inr, ◌∙◌, ℕ, Bool, true, false, List, [], ◌∷◌, ◌++◌, length, ok_or, Option, Some, None, Result, Ok, Err, IsTrue, IsFalse, IsErrOf, refl, sym, ap, subst, arith, true≢false, if◌then◌else◌}
+use Rattle.std.proofs.Common.{◌≡◌, ◌<◌, ◌⊎◌, ⊎_elim, inl, inr, ◌∙◌, ℕ, Bool, true, false, List, [], length, ok_or, Option, Some, None, Result, Ok, Err, IsErrOf, refl, sym, ap, subst, arith, true≢false, if◌then◌else◌}
 use Rattle.flow_types.specs.declared.plan.Plan.{Plan}
 use Rattle.flow_types.specs.declared.records.Record.{Record}
-use Rattle.run_history.specs.declared.answers.Check.{Check}
 use Rattle.run_history.specs.Answers.{before_end, end_over}
 use Rattle.flow_types.specs.declared.job.Job.{Job}
 use Rattle.flow_types.specs.declared.job.Failure.{Failure}
@@ -23,13 +22,12 @@ use Rattle.report.specs.Causes.{is_cut, is_end, is_failing, is_refusal, kind_of,
 use Rattle.desk.specs.Kept.{IsLegal}
 use Rattle.local_run.specs.Runs.{Held, SerialFits, read_sources}
 use Rattle.master_run.specs.declared.ask.Ask.{Ask}
-use Rattle.master_run.specs.declared.counts.Counts.{Counts}
 use Rattle.master_run.specs.Ends.{Answers, CallEnds, EndsBy, FaultEnd, GoesOn, IsCause, IsReadOr, IsStop, LogEnds, RunEnds, WordsEnd, Yields, clean_refusal, counts, end_cause, log_refusal, run_refusal}
 use Rattle.run_history.specs.History.{since_opening}
 use Rattle.run_history.specs.Spent.{SpentOnce}
 use Rattle.master_run.specs.Headline.{FailureEnd, HasLog, IsLegalOr, is_run_end}
 use Rattle.master_run.specs.Prints.{IsPrinted, is_no_memory, printed_cause}
-use Rattle.master_run.specs.Serves.{AllMoments, Fit, IsCut, Serves}
+use Rattle.master_run.specs.Serves.{IsCut, Serves}
 use Rattle.master_run.specs.Words.{and_then, built, chosen}
 use Rattle.master_run.proofs.Moved.{all_after}
 
@@ -103,7 +101,7 @@ no_stop P records after _ ends stop = stop
 
 sink_run : (b a : ℕ) (ask : Ask) (records : List Record) (after : Files) (cause : Cause) → is_end (kind_of cause) ≡ true → RunEnds ask records after cause → RunEnds ask records after (causes.SinkFault b a)
 sink_run b a ask records after cause ends run =
-    ⊎_elim (λ (by : EndsBy ask.plan (end_over ask.plan ask.options (before_end records) None) cause).
+    ⊎_elim (λ (by : EndsBy ask (end_over ask.plan ask.options (before_end records) None) cause).
     inl (by.0, inr (end_expected (end_cause (length ask.plan.rules) (end_over ask.plan ask.options (before_end records) None)) cause ends by.1, refl)))
     (λ (stop : IsStop ask.plan records after cause). absurd (no_stop ask.plan records after cause ends stop)) run
 
@@ -252,6 +250,9 @@ module _ {S : Type 0} (tells : Type 0) (files : S → Files) (may_leave : S → 
         others = s.others;
         contents = s.contents;
         honest = s.honest;
+        modes = s.modes;
+        gone = s.gone;
+        cleaned = s.cleaned;
         sure_end = s.sure_end;
         completes = λ t H spelled work resumable free there fit room is_sure jobs none.
             s.completes t H spelled work resumable free there fit room is_sure jobs (record { site = none.site; runner = none.runner; sink = refl });
@@ -273,6 +274,9 @@ module _ {S : Type 0} (tells : Type 0) (files : S → Files) (may_leave : S → 
         others = s.others;
         contents = λ t H spelled jobs. all_after files may_leave images_since born ask old new records (SerialFits gives (read_sources ask.plan (files old))) H cause (causes.SinkFault b a) (λ cut. absurd (end_whole (kind_of cause) is cut)) (s.contents t H spelled jobs);
         honest = s.honest;
+        modes = s.modes;
+        gone = λ t H spelled whole. s.gone t H spelled (end_whole (kind_of cause) is);
+        cleaned = λ t H spelled. tt;
         sure_end = λ is_sure. refl;
         completes = λ t H spelled work resumable free there fit room is_sure jobs none. absurd (let wrong : ⊥ = omega (arith, rose, none.sink) in wrong);
       })
@@ -293,6 +297,9 @@ module _ {S : Type 0} (tells : Type 0) (files : S → Files) (may_leave : S → 
         others = s.others;
         contents = λ t H spelled jobs. all_after files may_leave images_since born ask old new records (SerialFits gives (read_sources ask.plan (files old))) H cause causes.Memory (λ cut. refl) (s.contents t H spelled jobs);
         honest = s.honest;
+        modes = s.modes;
+        gone = λ t H spelled whole. absurd (whole refl);
+        cleaned = λ t H spelled. tt;
         sure_end = λ is_sure. refl;
         completes = λ t H spelled work resumable free there fit room is_sure jobs none. refl;
       })
@@ -322,3 +329,21 @@ after_failed f0 f1 b a cause now stood failed =
 pub after_untouched : (old new : Files) (b a : ℕ) (cause now : Cause) → Stands b a cause now → (is_refusal (kind_of cause) ≡ true → new ≡ old) → is_refusal (kind_of now) ≡ true → new ≡ old
 after_untouched old new b a cause now stood same =
     of_each (λ (c : Cause). is_refusal (kind_of c) ≡ true → new ≡ old) b a cause now stood same (λ rose is wrong. absurd (true≢false (sym wrong))) (λ wrong. absurd (true≢false (sym wrong)))
+
+-- what holds unless the call was cut short
+pub after_cut : (A : Type 0) (b a : ℕ) (cause now : Cause) → Stands b a cause now → ((IsCut cause → ⊥) → A) → (IsCut now → ⊥) → A
+after_cut A b a cause now stood holds =
+    of_each (λ (c : Cause). (IsCut c → ⊥) → A) b a cause now stood holds (λ rose is whole. holds (end_whole (kind_of cause) is)) (λ whole. absurd (whole refl))
+
+-- where a run ended its log was read
+pub run_read : (kind : Kind) → is_run_end kind ≡ true → was_read kind ≡ true
+run_read kinds.Completed ends = refl
+run_read kinds.RuleFailed ends = refl
+run_read kinds.PastLimit ends = refl
+run_read kinds.RunnerBroke ends = refl
+run_read _ ends = absurd (true≢false (sym ends))
+
+-- what holds where a run ends
+pub after_run : (A : Type 0) (b a : ℕ) (cause now : Cause) → Stands b a cause now → (is_run_end (kind_of cause) ≡ true → A) → is_run_end (kind_of now) ≡ true → A
+after_run A b a cause now stood holds =
+    of_each (λ (c : Cause). is_run_end (kind_of c) ≡ true → A) b a cause now stood holds (λ rose is wrong. absurd (true≢false (sym wrong))) (λ wrong. absurd (true≢false (sym wrong)))

@@ -1,7 +1,5 @@
 -- One stage of a call after another.
-use Rattle.std.proofs.Common.{◌≡◌, ℕ, suc, zero, ◌+◌, ◌<◌, Bool, true, false, ◌&&◌, List, [], ◌∷◌, Option, Some, None, Result, Ok, Err, ok_or, refl, sym, ◌∙◌, ap, subst, slice_get, is_none, if◌then◌else◌}
-use Rattle.std.specs.Prelude.{is_some}
-use Rattle.std.specs.Option.{option_map_or}
+use Rattle.std.proofs.Common.{◌≡◌, ℕ, true, false, List, Option, Some, None, Result, Ok, Err, refl, sym, ap, subst}
 use Rattle.flow_types.specs.declared.plan.Plan.{Plan}
 use Rattle.report.specs.declared.cause.Cause.{Cause}
 use Rattle.master_run.specs.declared.asking.Refusal.{Refusal}

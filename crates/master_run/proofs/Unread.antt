@@ -1,13 +1,11 @@
 -- What a call does that runs a plan and can't read its log.
-use Rattle.std.proofs.Common.{◌≡◌, ◌≢◌, ◌≤◌, ◌<◌, ◌⊎◌, ⊎_elim, inl, inr, ◌∙◌, ℕ, Bool, true, false, List, [], Option, Some, None, Result, Err, IsTrue, IsFalse, refl, sym, ap, subst, arith, true≢false}
-use Rattle.flow_types.specs.declared.plan.Plan.{Plan}
+use Rattle.std.proofs.Common.{◌≡◌, ◌≢◌, ◌≤◌, ◌<◌, ◌⊎◌, ⊎_elim, inl, inr, ℕ, true, false, List, [], Option, refl, sym, ap, subst, arith, true≢false}
 use Rattle.flow_types.specs.declared.job.Job.{Job}
 use Rattle.flow_types.specs.declared.job.Failure.{Failure}
 use Rattle.flow_types.specs.declared.records.Record.{Record}
 use Rattle.flow_types.specs.Serial.{Function}
 use Rattle.outside.specs.Disk.{IsImage, LeavesOnly, Outcomes}
 use Rattle.outside.specs.Files.{Files}
-use Rattle.outside.proofs.Moments.{weakened}
 use Rattle.txn_log.specs.Spells.{Spells}
 use Rattle.log_recover.specs.Laws.{HasAHeader, IsWhole}
 use Rattle.log_recover.specs.declared.fault.RecoverFault.{RecoverFault}
@@ -22,11 +20,10 @@ use Rattle.report.specs.Causes.{is_completion, is_cut, kind_of, may_replace, was
 use Rattle.master_run.specs.declared.ask.Ask.{Ask}
 use Rattle.master_run.specs.declared.counts.Counts.{Counts}
 use Rattle.master_run.specs.Ends.{FaultEnd, IsDamagedAt, NoneRose}
-use Rattle.master_run.specs.Headline.{FailureEnd}
+use Rattle.master_run.specs.Headline.{FailureEnd, is_run_end}
 use Rattle.master_run.specs.Runs.{unread_cause}
 use Rattle.master_run.specs.Serves.{Serves}
-use Rattle.master_run.proofs.Faults.{Faulted, adds_none, before_all, before_beside, fault_serves}
-use Rattle.report.specs.declared.cause.Kind.TheVariants as kinds
+use Rattle.master_run.proofs.Faults.{adds_none, before_all, before_beside, fault_serves, unread_collects}
 
 -- what a recovery leaves is of before the log was read
 pub recovering_before : (log : List ℕ) (file : Option (List ℕ)) (outcomes : Outcomes) (image : Files) → IsRecovering log file outcomes image → IsBefore log file outcomes image
@@ -37,6 +34,21 @@ unread_failed b a f0 f1 recovery.Site le = record { later = le; rose = λ wrong.
 unread_failed b a f0 f1 recovery.BadHeader le = record { later = le; rose = λ wrong. absurd (cc) }
 unread_failed b a f0 f1 (recovery.BadRecord at) le = record { later = le; rose = λ wrong. absurd (cc) }
 unread_failed b a f0 f1 recovery.Memory le = record { later = le; rose = λ wrong. absurd (cc) }
+
+-- a log that isn't read begins no run
+pub unread_ends : (b a : Counts) (why : RecoverFault) → is_run_end (kind_of (unread_cause b a why)) ≡ false
+unread_ends b a recovery.Site = refl
+unread_ends b a recovery.BadHeader = refl
+unread_ends b a (recovery.BadRecord at) = refl
+unread_ends b a recovery.Memory = refl
+
+-- a log that spells records is read, where nothing cuts the call short
+pub unread_cuts : {A : Type 0} (header : HasAHeader) (whole : IsWhole) (b a : Counts) (file : Option (List ℕ)) (H : List Record) (why : RecoverFault) → Spells H file → IsUnread file why
+    → (is_cut (kind_of (unread_cause b a why)) ≡ true → ⊥) → A
+unread_cuts header whole b a file H recovery.Site spelled is uncut = absurd (uncut refl)
+unread_cuts header whole b a file H recovery.BadHeader spelled is uncut = absurd (header H file spelled is)
+unread_cuts header whole b a file H (recovery.BadRecord at) spelled is uncut = absurd (whole H file at spelled is)
+unread_cuts header whole b a file H recovery.Memory spelled is uncut = absurd (uncut refl)
 
 at_of : (x y : ℕ) → causes.LogDamaged x ≡ causes.LogDamaged y → x ≡ y
 at_of x y is = ap at is
@@ -69,6 +81,7 @@ module _ {S : Type 0} (tells : Type 0) (files : S → Files) (may_leave : S → 
         others = λ t. before_beside tells files may_leave moment images_since born gives may_fail told sure b a ask old new [] cause (only t) (crash t);
         contents = λ t H spelled jobs. before_all tells files may_leave moment images_since born gives may_fail told sure b a ask old new [] cause (SerialFits gives (read_sources ask.plan (files old))) H (later t) (only t);
         honest = λ t H spelled resumable jobs begins. adds_none gives may_fail ask.plan (files old) H begins;
+        modes = λ t H spelled begins. unread_collects ask.plan ask.options.mode H begins;
         none_rose = completes;
       })
 
@@ -97,6 +110,9 @@ module _ {S : Type 0} (tells : Type 0) (files : S → Files) (may_leave : S → 
     honest = λ t H spelled resumable jobs begins. absurd (none t H spelled);
     sure_end = λ is_sure. refl;
     completes = λ t H spelled. absurd (none t H spelled);
+    modes = λ t H spelled. absurd (none t H spelled);
+    gone = λ t H spelled. absurd (none t H spelled);
+    cleaned = λ t H spelled. absurd (none t H spelled);
   }
 
   -- what the call does

@@ -1,14 +1,14 @@
 -- What a call does that cleans or prints.
-use Rattle.std.proofs.Common.{◌≡◌, ◌≢◌, ◌≤◌, ◌<◌, ◌⊎◌, ⊎_elim, inl, inr, ◌∙◌, ℕ, Bool, true, false, List, [], Option, Some, None, IsTrue, IsFalse, refl, sym, ap, subst, arith, true≢false}
-use Rattle.flow_types.specs.declared.plan.Plan.{Plan}
+use Rattle.std.proofs.Common.{◌≡◌, ◌≤◌, ◌⊎◌, ⊎_elim, inl, inr, ◌∙◌, ℕ, true, false, List, [], sym, subst, true≢false}
 use Rattle.flow_types.specs.declared.job.Job.{Job}
 use Rattle.flow_types.specs.declared.job.Failure.{Failure}
 use Rattle.flow_types.specs.declared.records.Record.{Record}
-use Rattle.flow_types.specs.Serial.{Function, serial}
+use Rattle.flow_types.specs.Serial.{Function}
 use Rattle.outside.specs.Disk.{IsImage, LeavesOnly, Outcomes}
 use Rattle.outside.specs.Files.{Files}
 use Rattle.txn_log.specs.Spells.{Spells}
 use Rattle.desk.specs.Kept.{IsLegal, Keeps, StaysBeside}
+use Rattle.local_run.specs.Collecting.{CollectsBy}
 use Rattle.local_run.specs.Course.{IsUnmade}
 use Rattle.local_run.specs.Moments.{IsMoment, IsResumable, KeepsSome}
 use Rattle.local_run.specs.Runs.{Adds, BeginsWith, Held, SerialFits, read_sources}
@@ -18,15 +18,15 @@ use Rattle.report.specs.declared.cause.Cause.{Cause}
 use Rattle.report.specs.declared.cause.Cause.TheVariants as causes
 use Rattle.report.specs.declared.cause.Kind.{Kind}
 use Rattle.report.specs.declared.cause.Kind.TheVariants as kinds
-use Rattle.report.specs.Causes.{is_completion, is_cut, is_failing, is_refusal, kind_of, may_lose, was_read}
+use Rattle.report.specs.Causes.{is_cut, is_failing, is_refusal, kind_of, may_lose, was_read}
 use Rattle.master_run.specs.declared.ask.Ask.{Ask}
 use Rattle.master_run.specs.declared.counts.Counts.{Counts}
-use Rattle.master_run.specs.Ends.{FaultEnd, GoesOn, IsDamagedAt, IsReadOr, LogEnds}
-use Rattle.master_run.specs.Headline.{HasLog, IsLegalOr, is_early, is_run_end}
+use Rattle.master_run.specs.Ends.{FaultEnd, GoesOn, IsDamagedAt, IsReadOr}
+use Rattle.master_run.specs.Headline.{HasLog, IsCleanedBy, IsLegalOr, is_early, is_run_end}
 use Rattle.master_run.specs.Serves.{AllMoments, Fit, IsCut, Serves}
 use Rattle.master_run.proofs.Moved.{moment_after}
-use Rattle.master_run.proofs.Cared.{adds_nothing, loses_nothing, starts_nothing}
-use Rattle.master_run.proofs.Faults.{adds_none}
+use Rattle.master_run.proofs.Cared.{adds_nothing, collects_nothing, drops_nothing, loses_nothing, starts_nothing}
+use Rattle.master_run.proofs.Faults.{adds_none, unread_collects}
 
 module _ {S : Type 0} (tells : Type 0) (files : S → Files) (may_leave : S → Outcomes) (moment : S → ℕ) (images_since : S → ℕ → Files → Type 0) (born : ℕ)
     (gives : Function) (may_fail : Job → Failure → Type 0) (told : Job → Type 0) (sure : Type 0) (before after : Counts) (ask : Ask) (old new : S) (records : List Record) (cause : Cause) (time : ℕ) (cut : Type 0) where
@@ -53,6 +53,7 @@ module _ {S : Type 0} (tells : Type 0) (files : S → Files) (may_leave : S → 
     pub resumable : tells → ((image : Files) → IsImage (may_leave old) image → KeepsSome Held ask.plan ask.log image) → LeavesOnly moment images_since old new (KeepsSome Held ask.plan ask.log)
     pub at_end : tells → (H : List Record) → Spells H (files old ask.log) → IsResumable Held ask.plan ask.log H (may_leave old) → (is_cut (kind_of cause) ≡ true → ⊥)
         → (image : Files) → IsImage (may_leave new) image → Keeps Held ask.plan ask.log records image
+    pub cleaned : tells → (H : List Record) → Spells H (files old ask.log) → IsCleanedBy ask.plan H (files new) cause
     pub untouched : tells → is_refusal (kind_of cause) ≡ true → (m : List ℕ) → files new m ≡ files old m
     pub others : tells → StaysBeside may_leave moment images_since (IsUnmade ask.plan ask.log) old new
 
@@ -90,6 +91,11 @@ module _ {S : Type 0} (tells : Type 0) (files : S → Files) (may_leave : S → 
         ⊎_elim (λ (either : AreEither H time records). adds_nothing gives may_fail (read_sources ask.plan (files old)) ask.plan H records time either)
         (λ (none : records ≡ []). subst (λ (xs : List Record). Adds (Unit {0}) gives may_fail (read_sources ask.plan (files old)) ask.plan H xs) (sym none)
         (adds_none gives may_fail ask.plan (files old) H (subst (BeginsWith H) none begins))) (c.begun t H spelled begins);
+    modes = λ t H spelled begins.
+        ⊎_elim (λ (either : AreEither H time records). collects_nothing ask.plan ask.options.mode H records time either)
+        (λ (none : records ≡ []). subst (CollectsBy ask.plan ask.options.mode H) (sym none) (unread_collects ask.plan ask.options.mode H (subst (BeginsWith H) none begins))) (c.begun t H spelled begins);
+    gone = λ t H spelled whole. drops_nothing ask.plan (files new) H records time (c.either t H spelled whole);
+    cleaned = c.cleaned;
     sure_end = λ is. c.runs_not.1;
     completes = λ t H spelled work resumable free there fit room is jobs none. absurd (c.work work);
   }

@@ -1,7 +1,6 @@
 -- What words, environment and files ask for, or the first refusal. Each stage is asked once the ones before it let pass.
-use Rattle.std.specs.Prelude.{◌≡◌, ℕ, List, map, string_bytes, None, false, Result, Ok, Err, ok_or}
+use Rattle.std.specs.Prelude.{ℕ, List, map, string_bytes, false, Result, Ok, Err, ok_or}
 use Rattle.std.proofs.Common.{String, Global}
-use Rattle.flow_types.specs.declared.numbers.Amounts.{Amounts}
 use Rattle.flow_types.specs.declared.flow.RawFlow.{RawFlow}
 use Rattle.flow_types.specs.declared.plan.Plan.{Plan}
 use Rattle.mf_text.specs.declared.fault.MakeFault.{MakeFault}
@@ -12,7 +11,10 @@ use Rattle.rule_graph.specs.declared.faults.GraphFault.{GraphFault}
 use Rattle.rule_graph.specs.Faults.{plan_of}
 use Rattle.outside.specs.Files.{Files}
 use Rattle.run_history.specs.declared.options.Options.{Options as RunOptions}
-use Rattle.run_history.specs.declared.options.Mode.TheVariants.{Never}
+use Rattle.run_history.specs.declared.options.Mode.{Mode as RunMode}
+use Rattle.run_history.specs.declared.options.Mode.TheVariants as run_modes
+use Rattle.command_words.specs.declared.options.Mode.{Mode}
+use Rattle.command_words.specs.declared.options.Mode.TheVariants.{Never, RefCount, OnDemand}
 use Rattle.command_words.specs.declared.options.Options.{Options}
 use Rattle.command_words.specs.declared.options.Language.{Language}
 use Rattle.command_words.specs.declared.options.Language.TheVariants as language
@@ -52,17 +54,23 @@ read_rules name (Err fault) = Err (FlowRefused name (Graph fault))
 abbrev pub flow_plan : Language → List (List ℕ × List ℕ) → List ℕ → List ℕ → Result Plan Cause
 flow_plan language env name text = and_then (read_flow language env name text) (λ flow. read_rules name (plan_of flow))
 
--- the plan, where the log can have its name and no rule needs more than these amounts
-abbrev pub checked : List ℕ → List ℕ → Amounts → Plan → Result Plan Cause
-checked log name total P = and_then (with_log_name log name P) (with_needs total)
+-- the plan, where the log can have its name and no rule needs more than there is by these options
+abbrev pub checked : List ℕ → List ℕ → RunOptions → Plan → Result Plan Cause
+checked log name O P = and_then (with_log_name log name P) (with_needs O)
 
 -- the plan of the flow file of this name, where its log and its needs let it be run
-abbrev pub file_plan : Language → List (List ℕ × List ℕ) → Files → List ℕ → List ℕ → Amounts → Result Plan Cause
-file_plan language env files name log total = and_then (and_then (flow_text files name) (flow_plan language env name)) (checked log name total)
+abbrev pub file_plan : Language → List (List ℕ × List ℕ) → Files → List ℕ → List ℕ → RunOptions → Result Plan Cause
+file_plan language env files name log O = and_then (and_then (flow_text files name) (flow_plan language env name)) (checked log name O)
 
--- what a run goes by: no file is collected, the storage has no limit, and every rule runs here
+-- when a run collects files, by the words
+abbrev pub run_mode : Mode → RunMode
+run_mode Never = run_modes.Never
+run_mode RefCount = run_modes.RefCount
+run_mode OnDemand = run_modes.OnDemand
+
+-- what a run goes by: every rule runs here
 abbrev pub run_options : Options → RunOptions
-run_options options = record { mode = Never; limit = None; retries = options.limits.retries; wq = false; local = options.local }
+run_options options = record { mode = run_mode options.mode; limit = options.limits.storage; retries = options.limits.retries; wq = false; local = options.local }
 
 -- what is asked for of this plan
 abbrev pub ask_of : Options → Plan → Ask
@@ -75,7 +83,7 @@ ask_by options (Err cause) = Err cause
 
 -- what these options ask for
 abbrev pub asked_by : List (List ℕ × List ℕ) → Files → Options → Result Ask Cause
-asked_by env files options = ask_by options (file_plan (flow_language options.flow) env files (flow_name options.flow) options.log options.local)
+asked_by env files options = ask_by options (file_plan (flow_language options.flow) env files (flow_name options.flow) options.log (run_options options))
 
 -- what words, environment and files ask for
 abbrev pub asked : List (List ℕ) → List (List ℕ × List ℕ) → Files → Result Ask Cause

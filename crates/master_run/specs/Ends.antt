@@ -21,7 +21,6 @@ use Rattle.local_run.specs.Ends.{IsDamaged, IsRunEnd, run_fault}
 use Rattle.cleaning.specs.Cleanings.{SpellsSome, clean_fault, made_count}
 use Rattle.report.specs.declared.cause.Cause.{Cause}
 use Rattle.report.specs.declared.cause.Cause.TheVariants as causes
-use Rattle.report.specs.declared.cause.Kind.{Kind}
 use Rattle.report.specs.declared.cause.Kind.TheVariants.{SinkBroke}
 use Rattle.report.specs.Causes.{is_end, kind_of, may_replace}
 use Rattle.master_run.specs.declared.ask.Ask.{Ask}
@@ -73,11 +72,16 @@ end_cause rules (check.Complete collected) = causes.Complete rules collected
 end_cause rules (check.CommandFailed rule why) = causes.CommandFailed rule why
 end_cause rules (check.InputsTooLarge rule total) = causes.InputsTooLarge rule total
 end_cause rules (check.LogFull records) = causes.LogFull records
+end_cause rules (check.NoRoom rule need stored limit) = causes.NoRoom rule need stored limit
 end_cause rules _ = causes.Memory
 
--- The cause is that of this end of a run.
-abbrev pub EndsBy : Plan → Check → Cause → Type 0
-EndsBy P ended cause = IsRunEnd ended × IsCause (end_cause (length P.rules) ended) cause
+-- some run ends so
+abbrev pub IsSomeRunEnd : Check → Type 0
+IsSomeRunEnd ended = (limit : Option ℕ) × IsRunEnd limit ended
+
+-- The cause is that of this end of a run, which is one that a run with these options may have.
+abbrev pub EndsBy : Ask → Check → Cause → Type 0
+EndsBy ask ended cause = IsRunEnd ask.options.limit ended × IsCause (end_cause (length ask.plan.rules) ended) cause
 
 -- A run was stopped before its end: a file that it took in isn't what was logged, or there was a fault, or want of memory.
 abbrev pub IsStop : Plan → List Record → Files → Cause → Type 0
@@ -90,7 +94,7 @@ IsStop P records after _ = ⊥
 
 -- A run came to its end, by what the definition of an end answers over its records, or was stopped before.
 abbrev pub RunEnds : Ask → List Record → Files → Cause → Type 0
-RunEnds ask records after cause = EndsBy ask.plan (end_over ask.plan ask.options (before_end records) None) cause ⊎ IsStop ask.plan records after cause
+RunEnds ask records after cause = EndsBy ask (end_over ask.plan ask.options (before_end records) None) cause ⊎ IsStop ask.plan records after cause
 
 -- how the call goes on over these records of the log
 abbrev pub GoesOn : Work → Ask → List Record → Files → Files → List Record → Cause → Type 0

@@ -1,21 +1,28 @@
 -- The parts of the top call's promise.
-use Rattle.std.specs.Prelude.{◌≡◌, ◌≢◌, ◌≤◌, ◌<◌, ◌+◌, ◌⊎◌, ℕ, Bool, true, false, List, [], ◌++◌, Option, Result, Ok, IsTrue, IsFalse}
-use Rattle.std.specs.List.{list_any}
+use Rattle.std.specs.Prelude.{◌≡◌, ◌≤◌, ◌<◌, ◌+◌, ◌⊎◌, ℕ, Bool, true, false, List, [], ◌∷◌, ◌++◌, Result, Ok, IsTrue, IsFalse}
+use Rattle.std.specs.List.{list_all, list_any}
 use Rattle.flow_types.specs.declared.plan.Plan.{Plan}
-use Rattle.flow_types.specs.declared.numbers.Content.{Content}
+use Rattle.flow_types.specs.declared.numbers.FileNo.{FileNo}
 use Rattle.flow_types.specs.declared.records.Record.{Record}
 use Rattle.flow_types.specs.declared.records.Record.TheVariants as records
+use Rattle.flow_types.specs.Plans.{is_kept, takers_of}
+use Rattle.run_history.specs.declared.options.Mode.{Mode}
 use Rattle.run_history.specs.History.{since_opening}
 use Rattle.run_history.specs.Spent.{SpentOnce}
+use Rattle.run_history.specs.States.{limit_of}
+use Rattle.run_history.specs.Storage.{is_complete, is_within, reserved, stored}
 use Rattle.outside.specs.Files.{Files}
 use Rattle.txn_log.specs.Spells.{Spells}
 use Rattle.desk.specs.Kept.{IsLegal}
+use Rattle.cleaning.specs.Cleanings.{AreGone, present_made}
+use Rattle.local_run.specs.Collecting.{RunCollects}
 use Rattle.local_run.specs.Ends.{failed_count}
-use Rattle.local_run.specs.Runs.{BeginsWith, LosesNone}
+use Rattle.local_run.specs.Runs.{BeginsWith}
 use Rattle.report.specs.declared.cause.Cause.{Cause}
+use Rattle.report.specs.declared.cause.Cause.TheVariants as causes
 use Rattle.report.specs.declared.cause.Kind.{Kind}
 use Rattle.report.specs.declared.cause.Kind.TheVariants.{Completed, RuleFailed, WrongWords, WrongFlow, PastLimit, RunnerBroke}
-use Rattle.report.specs.Causes.{is_cut, kind_of, may_lose, may_replace, was_read}
+use Rattle.report.specs.Causes.{may_replace, was_read}
 use Rattle.master_run.specs.declared.ask.Ask.{Ask}
 
 -- It holds of what was asked and of the records that the log spelled at the entry.
@@ -75,3 +82,31 @@ pub record FailureEnd (before after : ℕ) (kind : Kind) : Type 0 where
 -- Of the commands that failed in this call each is logged by one record.
 abbrev pub LogsFailed : List Record → List Record → ℕ → ℕ → Type 0
 LogsFailed H all before after = failed_count all + before ≡ failed_count H + after
+
+-- What is stored and reserved by the records is within the limit of their last opening.
+abbrev pub IsWithinLimit : Plan → List Record → Type 0
+IsWithinLimit P H = IsTrue (is_within (stored P H + reserved P H) (limit_of H))
+
+-- Where the log was read and nothing was wrong with it, its storage is within the limit, by the plan that was read.
+pub record KeepsLimit (is_read : Plan → Type 0) (kind : Kind) (all : List Record) : Type 0 where
+  pub plan : Plan
+  pub read : IsTrue (was_read kind) → is_read plan
+  pub within : IsTrue (was_read kind) → IsWithinLimit plan all
+
+-- Where a run that was started ended, its records behind the opening collect as this mode says, by the plan that was read.
+pub record CollectsSince (is_read : Plan → Type 0) (mode : Mode) (kind : Kind) (all : List Record) : Type 0 where
+  pub plan : Plan
+  pub read : IsTrue (is_run_end kind) → is_read plan
+  pub collects : IsTrue (is_run_end kind) → RunCollects plan mode all
+
+-- The records are these and more. A file that a drop among those names is no kept one, and each rule that takes it in is complete by the records before the drop.
+pub record DropsUnneeded (P : Plan) (H all : List Record) : Type 0 where
+  pub more : List Record
+  pub are : all ≡ H ++ more
+  pub each : (before after : List Record) (moment : ℕ) (f : FileNo) → more ≡ before ++ (records.Dropped moment f ∷ after)
+      → IsFalse (is_kept P f.0) × IsTrue (list_all (is_complete (H ++ before)) (takers_of P f.0))
+
+-- Behind a cleaning none of the made files is there that were present by the records.
+abbrev pub IsCleanedBy : Plan → List Record → Files → Cause → Type 0
+IsCleanedBy P H files (causes.Cleaned removed) = AreGone P (present_made P H) files
+IsCleanedBy P H files _ = Unit {0}

@@ -1,4 +1,4 @@
--- What rules need, against what there is on this machine.
+-- What rules need, against what there is on this machine and in its storage.
 use Rattle.std.specs.Prelude.{◌≡◌, ◌<◌, true, length, ℕ, List, nat_lt, Option, Some, None, Result, Ok, Err, if◌then◌else◌}
 use Rattle.std.specs.List.{enumerate_from}
 use Rattle.flow_types.specs.declared.numbers.Amounts.{Amounts}
@@ -6,7 +6,8 @@ use Rattle.flow_types.specs.declared.numbers.Needs.{Needs}
 use Rattle.flow_types.specs.declared.numbers.Needs.TheVariants.{Whole, Stated}
 use Rattle.flow_types.specs.declared.plan.Plan.{Plan}
 use Rattle.flow_types.specs.declared.plan.Rule.{Rule}
-use Rattle.rule_graph.specs.Faults.{first_said}
+use Rattle.rule_graph.specs.Faults.{first_said, or_else}
+use Rattle.run_history.specs.declared.options.Options.{Options}
 use Rattle.run_history.specs.Links.{amounts_on, is_at_most, needs_of}
 use Rattle.report.specs.declared.cause.Cause.{Cause}
 use Rattle.report.specs.declared.cause.Cause.TheVariants.{NeedsTooMuch}
@@ -29,22 +30,27 @@ rule_excess r need total =
     else if nat_lt total.disk need.disk then exceeds r need.disk total.disk
     else None
 
--- the same of a rule of the plan
-abbrev pub excess_of : Amounts → ℕ → Rule → Option Excess
-excess_of total r rule = rule_excess r (taken_here rule.needs) total
+-- the rule may make so many bytes, which is more than the storage may hold
+abbrev pub bound_excess : ℕ → ℕ → Option ℕ → Option Excess
+bound_excess r bound None = None
+bound_excess r bound (Some limit) = if nat_lt limit bound then exceeds r bound limit else None
+
+-- the first of what a rule of the plan needs too much: cores, memory, disk, then storage
+abbrev pub excess_of : Options → ℕ → Rule → Option Excess
+excess_of O r rule = or_else (rule_excess r (taken_here rule.needs) O.local) (bound_excess r rule.bound O.limit)
 
 -- the first of these rules, numbered from here, that needs more than there is
-abbrev pub excess_among : Amounts → ℕ → List Rule → Option Excess
-excess_among total first rules = first_said (λ numbered. excess_of total numbered.0 numbered.1) (enumerate_from first rules)
+abbrev pub excess_among : Options → ℕ → List Rule → Option Excess
+excess_among O first rules = first_said (λ numbered. excess_of O numbered.0 numbered.1) (enumerate_from first rules)
 
 -- the plan, or its rule that needs too much
 abbrev pub needs_checked : Plan → Option Excess → Result Plan Cause
 needs_checked P None = Ok P
 needs_checked P (Some over) = Err (NeedsTooMuch over.rule over.need over.total)
 
--- the plan, where no rule needs more than these amounts
-abbrev pub with_needs : Amounts → Plan → Result Plan Cause
-with_needs total P = needs_checked P (excess_among total 0 P.rules)
+-- the plan, where no rule needs more than there is by these options
+abbrev pub with_needs : Options → Plan → Result Plan Cause
+with_needs O P = needs_checked P (excess_among O 0 P.rules)
 
 -- No rule needs more of this machine than there is.
 abbrev pub NeedsFit : Amounts → Plan → Type 0

@@ -1,5 +1,5 @@
 -- What a call does of which a plan and some work were asked.
-use Rattle.std.specs.Prelude.{◌≡◌, ◌⊎◌, ℕ, List, None, Option, IsTrue, IsFalse}
+use Rattle.std.specs.Prelude.{◌≡◌, ◌⊎◌, ℕ, List, Option, Some, None, IsTrue, IsFalse}
 use Rattle.flow_types.specs.declared.plan.Plan.{Plan}
 use Rattle.flow_types.specs.declared.numbers.Content.{Content}
 use Rattle.flow_types.specs.declared.job.Job.{Job}
@@ -12,17 +12,19 @@ use Rattle.outside.specs.Disk.{IsImage, Outcomes}
 use Rattle.outside.specs.Files.{Files}
 use Rattle.txn_log.specs.Spells.{Spells}
 use Rattle.desk.specs.Kept.{IsLegal, Keeps, StaysBeside}
+use Rattle.local_run.specs.Collecting.{AreGone, CollectsBy}
 use Rattle.local_run.specs.Completing.{HasRecordRoom, HasSources, SerialInputsFit}
 use Rattle.local_run.specs.Course.{IsUnmade, TellsJobs}
 use Rattle.local_run.specs.Moments.{IsMoment, IsResumable, KeepsSome}
 use Rattle.local_run.specs.Runs.{Adds, BeginsWith, Held, LosesNone, SerialFits, read_sources}
 use Rattle.command_words.specs.declared.options.Work.TheVariants.{Run}
 use Rattle.report.specs.declared.cause.Cause.{Cause}
+use Rattle.report.specs.declared.cause.Cause.TheVariants as causes
 use Rattle.report.specs.Causes.{is_completion, is_cut, is_failing, is_refusal, kind_of, may_lose, was_read}
 use Rattle.master_run.specs.declared.ask.Ask.{Ask}
 use Rattle.master_run.specs.declared.counts.Counts.{Counts}
 use Rattle.master_run.specs.Ends.{FaultEnd, LogEnds, NoneRose, run_refusal}
-use Rattle.master_run.specs.Headline.{HasLog, IsLegalOr, IsSpentBy, is_early, is_run_end}
+use Rattle.master_run.specs.Headline.{HasLog, IsCleanedBy, IsLegalOr, IsSpentBy, is_early, is_run_end}
 
 -- The call may have ended in the midst of an append.
 abbrev pub IsCut : Cause → Type 0
@@ -52,7 +54,12 @@ StaysResumable may_leave images_since born ask old new =
     → (image : Files) → images_since new born image
     → images_since old born image ⊎ KeepsSome Held ask.plan ask.log image
 
--- What can come to its end does, where nothing fails: every rule is complete, or memory was wanting.
+-- Every rule is complete, or memory was wanting, or there is a limit of the storage and no room.
+abbrev pub Completes : Option ℕ → Cause → Type 0
+Completes limit (causes.NoRoom rule need stored most) = limit ≡ Some most
+Completes limit cause = IsTrue (is_completion (kind_of cause))
+
+-- What can come to its end does, where nothing fails: every rule is complete, or memory was wanting, or there is a limit and no room.
 abbrev pub CanComplete : Function → (Job → Type 0) → Type 0 → Ask → Files → Outcomes → List Record → Counts → Counts → Cause → Type 0
 CanComplete gives told sure ask files outcomes H before after cause =
     ask.work ≡ Run
@@ -60,7 +67,7 @@ CanComplete gives told sure ask files outcomes H before after cause =
     → run_refusal ask.plan ask.options H files ≡ None
     → HasSources ask.plan files → SerialInputsFit ask.plan gives (read_sources ask.plan files) → HasRecordRoom ask.plan H
     → sure → TellsJobs ask.plan told (serial ask.plan gives (read_sources ask.plan files)) → NoneRose before after
-    → IsTrue (is_completion (kind_of cause))
+    → Completes ask.options.limit cause
 
 -- What a call does of which this is asked, from the site that it finds to the one that it leaves.
 pub record Serves {S : Type 0} (tells : Type 0) (files : S → Files) (may_leave : S → Outcomes) (moment : S → ℕ) (images_since : S → ℕ → Files → Type 0) (born : ℕ)
@@ -86,5 +93,8 @@ pub record Serves {S : Type 0} (tells : Type 0) (files : S → Files) (may_leave
       → IsResumable (SerialFits gives (read_sources ask.plan (files old))) ask.plan ask.log H (may_leave old)
       → TellsJobs ask.plan told (serial ask.plan gives (read_sources ask.plan (files old)))
       → BeginsWith H records → Adds (Unit {0}) gives may_fail (read_sources ask.plan (files old)) ask.plan H records
+  pub modes : tells → (H : List Record) → Spells H (files old ask.log) → BeginsWith H records → CollectsBy ask.plan ask.options.mode H records
+  pub gone : tells → (H : List Record) → Spells H (files old ask.log) → (IsCut cause → ⊥) → AreGone ask.plan (files new) H records
+  pub cleaned : tells → (H : List Record) → Spells H (files old ask.log) → IsCleanedBy ask.plan H (files new) cause
   pub sure_end : sure → IsFalse (is_failing (kind_of cause))
   pub completes : tells → (H : List Record) → Spells H (files old ask.log) → CanComplete gives told sure ask (files old) (may_leave old) H before after cause

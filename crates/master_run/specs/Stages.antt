@@ -1,5 +1,5 @@
 -- What the stages before the run answer.
-use Rattle.std.specs.Prelude.{◌≡◌, ℕ, ◌≤◌, ◌<◌, List, Option, Some, None, Result, Ok, Err, IsErrOf, Bool, true, false, IsTrue, IsOk}
+use Rattle.std.specs.Prelude.{◌≡◌, ℕ, ◌≤◌, ◌<◌, List, Result, Ok, Err, IsErrOf, Bool, true, false, IsTrue, IsOk}
 use Rattle.report.specs.declared.cause.Cause.{Cause}
 use Rattle.report.specs.declared.cause.Cause.TheVariants.{FlowRefused}
 use Rattle.report.specs.declared.cause.FlowFault.TheVariants.{Make, Jx, Graph}

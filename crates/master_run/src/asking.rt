@@ -1,14 +1,13 @@
 //! From the words and the flow file to what is asked for.
-ghost use Rattle.std.specs.Prelude.{◌≡◌, ◌≢◌, ◌≤◌, ◌<◌, ℕ, List, IfOk, IsErrOf, Err};
+ghost use Rattle.std.specs.Prelude.{◌≡◌, ◌≢◌, ◌≤◌, ◌<◌, ℕ, List, IfOk, IsErrOf, Ok, Err};
+ghost use Rattle.command_words.specs.declared.options.Options.{Options as OptionsValue};
 ghost use Rattle.flow_types.specs.Plans.{IsValid};
 ghost use Rattle.mf_rules.specs.Flow.{given_pairs};
 ghost use Rattle.outside.specs.Disk.{IsImage, LeavesOnly, Within};
 ghost use Rattle.file_store.specs.Outputs.{file_name};
-ghost use Rattle.run_history.specs.declared.options.Mode.TheVariants.{Never};
 ghost use Rattle.local_run.specs.Ends.{FitsHere};
-ghost use Rattle.std.specs.Prelude.{None};
 ghost use Rattle.master_run.specs.declared.asking.Refusal.{Refusal as RefusalValue};
-ghost use Rattle.master_run.specs.Asked.{checked, file_plan, choice, request, run_options};
+ghost use Rattle.master_run.specs.Asked.{checked, choice, file_plan, request, run_mode, run_options};
 ghost use Rattle.master_run.specs.Needs.{NeedsFit, with_needs};
 ghost use Rattle.master_run.specs.Stages.{Stage, WordsStage, OfFlow, SaysRefusal, SiteTrace};
 ghost use Rattle.master_run.specs.Words.{flow_language, flow_name};
@@ -19,10 +18,10 @@ use crate::flow_plan::flow_plan;
 use crate::log_name::with_log_name;
 use crate::needs::{Excess, least_excess};
 use command_words::{Flow, Language, Options, WordsFault, read_words};
-use flow_types::{Amounts, Memory, Name, Plan};
+use flow_types::{Memory, Name, Plan};
 use outside::{Fault, Site};
 use report::Cause;
-use run_history::Mode;
+use run_history::{Mode, Options as RunOptions};
 use std::alloc::Global;
 
 /// Why there is no plan.
@@ -78,17 +77,17 @@ fn name_of_flow(alloc: Global, flow: Flow) -> Result<Name, Refusal>
     }
 }
 
-// The plan, if its rules need no more than these amounts.
-fn with_needs(plan: Plan, total: Amounts) -> Result<Plan, Refusal>
+// The plan, if its rules need no more than there is.
+fn with_needs(plan: Plan, options: &RunOptions) -> Result<Plan, Refusal>
     requires { IsValid plan }
-    ensures stage { Stage (with_needs total plan) result }
+    ensures stage { Stage (with_needs options.now plan) result }
     ensures flow { (name : List ℕ) → OfFlow name result }
     ensures kind { SaysRefusal result }
     ensures same { IfOk result (λ p. p ≡ plan) }
-    ensures fits { IfOk result (NeedsFit total) }
+    ensures fits { IfOk result (NeedsFit options.now.local) }
     ensures no_site { IsErrOf result Refusal.Site → ⊥ }
 {
-    match least_excess(total, plan.rules.as_slice()) {
+    match least_excess(options, plan.rules.as_slice()) {
         Some(Excess { rule, need, total }) => {
             Err(Refusal::Said(Cause::NeedsTooMuch { rule, need, total }))
         }
@@ -96,25 +95,25 @@ fn with_needs(plan: Plan, total: Amounts) -> Result<Plan, Refusal>
     }
 }
 
-// The plan, where the log can have its name and no rule needs more than these amounts.
+// The plan, where the log can have its name and no rule needs more than there is.
 fn checked(
     alloc: Global,
     log: &Name,
     flow: Name,
-    total: Amounts,
+    options: &RunOptions,
     plan: Plan,
 ) -> Result<Plan, Refusal>
     requires { IsValid plan }
-    ensures stage { Stage (checked log.now flow total plan) result }
+    ensures stage { Stage (checked log.now flow options.now plan) result }
     ensures flow { (name : List ℕ) → OfFlow name result }
     ensures kind { SaysRefusal result }
     ensures valid { IfOk result IsValid }
     ensures apart { IfOk result (λ plan. (f : ℕ) → file_name plan f ≢ log.now) }
-    ensures fits { IfOk result (NeedsFit total) }
+    ensures fits { IfOk result (NeedsFit options.now.local) }
     ensures no_site { IsErrOf result Refusal.Site → ⊥ }
 {
     match with_log_name(alloc, log, flow, plan) {
-        Ok(plan) => with_needs(plan, total),
+        Ok(plan) => with_needs(plan, options),
         Err(refusal) => Err(refusal),
     }
 }
@@ -125,17 +124,18 @@ fn file_plan<S: Site>(
     language: Language,
     name: Name,
     log: &Name,
-    total: Amounts,
+    options: &RunOptions,
     env: &[(String, String)],
     site: &mut S,
 ) -> Result<Plan, Refusal>
     ensures stage { S.tells → Stage
-        (file_plan language (given_pairs env.now) (S.files site.old) name log.now total) result }
+        (file_plan language (given_pairs env.now) (S.files site.old) name log.now options.now)
+        result }
     ensures flow { OfFlow name result }
     ensures kind { SaysRefusal result }
     ensures valid { IfOk result IsValid }
     ensures apart { IfOk result (λ plan. (f : ℕ) → file_name plan f ≢ log.now) }
-    ensures fits { IfOk result (NeedsFit total) }
+    ensures fits { IfOk result (NeedsFit options.now.local) }
     ensures files { S.tells → S.files site.new ≡ S.files site.old }
     ensures crash { S.tells → Within (S.may_leave site.old) (S.may_leave site.new) }
     ensures any_moment { S.tells → LeavesOnly S.moment S.images_since site.old site.new
@@ -152,18 +152,28 @@ fn file_plan<S: Site>(
         Err(Fault::Memory) => return Err(Refusal::Memory),
     };
     match flow_plan(alloc, language, name, text, env) {
-        Ok(plan) => checked(alloc, log, flow, total, plan),
+        Ok(plan) => checked(alloc, log, flow, options, plan),
         Err(refusal) => Err(refusal),
     }
 }
 
+fn run_mode(mode: command_words::Mode) -> Mode
+    ensures { result ≡ run_mode mode }
+{
+    match mode {
+        command_words::Mode::Never => Mode::Never,
+        command_words::Mode::RefCount => Mode::RefCount,
+        command_words::Mode::OnDemand => Mode::OnDemand,
+    }
+}
+
 // What a run goes by.
-fn run_options(options: &Options) -> run_history::Options
+fn run_options(options: &Options) -> RunOptions
     ensures { result ≡ run_options options.now }
 {
-    run_history::Options {
-        mode: Mode::Never,
-        limit: None,
+    RunOptions {
+        mode: run_mode(options.mode),
+        limit: options.limits.storage,
         retries: options.limits.retries,
         wq: false,
         local: options.local,
@@ -182,9 +192,9 @@ pub fn read_ask<S: Site>(
     ensures kind { SaysRefusal result }
     ensures valid { IfOk result (λ ask. IsValid ask.plan) }
     ensures apart { IfOk result (λ ask. (f : ℕ) → file_name ask.plan f ≢ ask.log) }
-    ensures mode { IfOk result (λ ask. ask.options.mode ≡ Never) }
-    ensures limit { IfOk result (λ ask. ask.options.limit ≡ None) }
     ensures fits { IfOk result (λ ask. FitsHere ask.plan ask.options) }
+    ensures goes_by { IfOk result (λ ask. (options : OptionsValue)
+        → choice words.now ≡ Ok options → ask.options ≡ run_options options) }
     ensures files { S.tells → S.files site.new ≡ S.files site.old }
     ensures crash { S.tells → Within (S.may_leave site.old) (S.may_leave site.new) }
     ensures any_moment { S.tells → LeavesOnly S.moment S.images_since site.old site.new
@@ -197,7 +207,6 @@ pub fn read_ask<S: Site>(
     };
     let goes_by = run_options(&options);
     let Options {
-        local,
         work,
         flow,
         log,
@@ -208,7 +217,7 @@ pub fn read_ask<S: Site>(
         Ok(name) => name,
         Err(refusal) => return Err(refusal),
     };
-    match file_plan(alloc, language, name, &log, local, env, site) {
+    match file_plan(alloc, language, name, &log, &goes_by, env, site) {
         Ok(plan) => Ok(Ask {
             plan,
             work,

@@ -1,5 +1,5 @@
 //! What is done with a log beside a run: its part is cleaned, or it is printed.
-ghost use Rattle.std.specs.Prelude.{◌≡◌, ◌≢◌, ◌≤◌, ◌<◌, ◌^◌, ℕ, List, length};
+ghost use Rattle.std.specs.Prelude.{◌≡◌, ◌≢◌, ◌≤◌, ◌<◌, ◌^◌, ℕ, List, length, IsFalse};
 ghost use Rattle.flow_types.specs.declared.records.Record.{Record as RecordValue};
 ghost use Rattle.flow_types.specs.Plans.{IsValid};
 ghost use Rattle.run_history.specs.History.{part};
@@ -8,8 +8,10 @@ ghost use Rattle.file_store.specs.Outputs.{file_name};
 ghost use Rattle.command_words.specs.declared.options.Work.TheVariants.{Clean, PrintLog};
 ghost use Rattle.report.specs.declared.cause.Kind.TheVariants.{RuleFailed};
 ghost use Rattle.report.specs.Causes.{kind_of};
+ghost use Rattle.local_run.specs.Ends.{failed_count};
 ghost use Rattle.master_run.specs.Ends.{counts};
-ghost use Rattle.master_run.specs.Serves.{Serves};
+ghost use Rattle.master_run.specs.Headline.{is_run_end};
+ghost use Rattle.master_run.specs.Serves.{IsCut, Serves};
 
 use crate::ask::Ask;
 use crate::causes::{clean_cause, look_cause};
@@ -41,6 +43,9 @@ pub fn clean_flow<F: Commands, S: Site, R: Runner<F>, B: Born>(
         F.gives F.may_fail (R.tells runner.now) (R.sure runner.now)
         before (counts (S.count result.site) (R.count runner.now) 0)
         ask site result.site result.records result.cause }
+    ensures fails_none { S.tells → (H : List RecordValue) → Spells H (S.files site ask.log)
+        → (IsCut result.cause → ⊥) → failed_count result.records ≡ failed_count H }
+    ensures runs_not { IsFalse (is_run_end (kind_of result.cause)) }
     ensures fails_not { kind_of result.cause ≡ RuleFailed → ⊥ }
     ensures plan { result.plan ≡ ask.plan }
 {
@@ -83,6 +88,9 @@ pub fn read_log<F: Commands, S: Site, R: Runner<F>, B: Born>(
         F.gives F.may_fail (R.tells runner.now) (R.sure runner.now)
         before (counts (S.count result.site) (R.count runner.now) 0)
         ask site result.site result.records result.cause }
+    ensures fails_none { S.tells → (H : List RecordValue) → Spells H (S.files site ask.log)
+        → (IsCut result.cause → ⊥) → failed_count result.records ≡ failed_count H }
+    ensures runs_not { IsFalse (is_run_end (kind_of result.cause)) }
     ensures fails_not { kind_of result.cause ≡ RuleFailed → ⊥ }
     ensures plan { result.plan ≡ ask.plan }
 {

@@ -2,8 +2,7 @@
 ghost use Rattle.std.specs.Prelude.{◌≡◌, length};
 ghost use Rattle.std.specs.Prelude.{◌<◌, ◌^◌, IfOk};
 ghost use Rattle.flow_types.specs.Plans.{is_source};
-ghost use Rattle.local_run.specs.Ends.{IsRunEnd};
-ghost use Rattle.master_run.specs.Ends.{end_cause, start_cause};
+ghost use Rattle.master_run.specs.Ends.{IsSomeRunEnd, end_cause, start_cause};
 ghost use Rattle.master_run.specs.Runs.{clean_cause, damage_cause, halt_cause, look_cause};
 ghost use Rattle.master_run.specs.Runs.{refusal_cause, refused_cause, run_cause, site_cause};
 ghost use Rattle.master_run.specs.Runs.{unread_cause};
@@ -115,7 +114,7 @@ fn halt_cause(before: Counts, after: Counts, plan: &Plan, halt: Halt) -> Cause
 }
 
 fn end_cause(rules: u32, check: Check) -> Cause
-    requires { IsRunEnd check }
+    requires { IsSomeRunEnd check }
     ensures { result ≡ end_cause rules check }
 {
     match check {
@@ -123,13 +122,24 @@ fn end_cause(rules: u32, check: Check) -> Cause
         Check::CommandFailed { rule, why } => Cause::CommandFailed { rule, why },
         Check::InputsTooLarge { rule, total } => Cause::InputsTooLarge { rule, total },
         Check::LogFull { records } => Cause::LogFull { records },
-        Check::Going | Check::Halted | Check::NoRoom { .. } | Check::Waited(_) => unreachable!(),
+        Check::NoRoom {
+            rule,
+            need,
+            stored,
+            limit,
+        } => Cause::NoRoom {
+            rule,
+            need,
+            stored,
+            limit,
+        },
+        Check::Going | Check::Halted | Check::Waited(_) => unreachable!(),
     }
 }
 
 /// The cause of how a run of this plan ended.
 pub fn run_cause(before: Counts, after: Counts, plan: &Plan, how: Result<Check, Stopped>) -> Cause
-    requires ends { IfOk how IsRunEnd }
+    requires ends { IfOk how IsSomeRunEnd }
     requires few { length plan.now.rules < 2 ^ 32 }
     ensures { result ≡ run_cause before after plan.now how }
 {

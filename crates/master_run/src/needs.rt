@@ -1,8 +1,10 @@
-//! What rules need, against what there is on this machine.
+//! What rules need, against what there is on this machine and in its storage.
 ghost use Rattle.std.specs.Prelude.{◌≡◌, ◌<◌, ◌^◌, length};
-ghost use Rattle.master_run.specs.Needs.{taken_here, rule_excess, excess_of, excess_among};
+ghost use Rattle.master_run.specs.Needs.{bound_excess, excess_among, excess_of, rule_excess};
+ghost use Rattle.master_run.specs.Needs.{taken_here};
 
 use flow_types::{Amounts, Needs, Rule, RuleNo};
+use run_history::Options;
 
 /// A rule that needs more of a resource than there is.
 #[derive(Clone, Copy, Debug, PartialEq, Eq)]
@@ -44,19 +46,37 @@ fn rule_excess(rule: RuleNo, need: Amounts, total: Amounts) -> Option<Excess>
     })
 }
 
-fn excess_of(total: Amounts, rule: RuleNo, row: &Rule) -> Option<Excess>
-    ensures { result ≡ excess_of total rule.0 row.now }
+fn bound_excess(rule: RuleNo, bound: u64, limit: Option<u64>) -> Option<Excess>
+    ensures { result ≡ bound_excess rule.0 bound limit }
 {
-    rule_excess(rule, taken_here(row.needs), total)
+    let total = limit?;
+    if bound > total {
+        Some(Excess {
+            rule,
+            need: bound,
+            total,
+        })
+    } else {
+        None
+    }
+}
+
+fn excess_of(options: &Options, rule: RuleNo, row: &Rule) -> Option<Excess>
+    ensures { result ≡ excess_of options.now rule.0 row.now }
+{
+    match rule_excess(rule, taken_here(row.needs), options.local) {
+        Some(over) => Some(over),
+        None => bound_excess(rule, row.bound, options.limit),
+    }
 }
 
 /// The least rule that needs more than there is.
-pub fn least_excess(total: Amounts, rules: &[Rule]) -> Option<Excess>
+pub fn least_excess(options: &Options, rules: &[Rule]) -> Option<Excess>
     requires { length rules.now < 2 ^ 32 }
-    ensures { result ≡ excess_among total 0 rules.now }
+    ensures { result ≡ excess_among options.now 0 rules.now }
 {
     for (i, rule) in rules.iter().enumerate() {
-        if let Some(over) = excess_of(total, RuleNo(i as u32), rule) {
+        if let Some(over) = excess_of(options, RuleNo(i as u32), rule) {
             return Some(over);
         }
     }

@@ -1,14 +1,16 @@
 //! The run of a plan over its log.
-ghost use Rattle.std.specs.Prelude.{◌≡◌, ◌≢◌, ◌≤◌, ℕ, None};
+ghost use Rattle.std.specs.Prelude.{◌≡◌, ◌≢◌, ◌≤◌, ℕ, List, IsTrue};
+ghost use Rattle.flow_types.specs.declared.records.Record.{Record as RecordValue};
 ghost use Rattle.flow_types.specs.Plans.{IsValid};
-ghost use Rattle.run_history.specs.declared.options.Mode.TheVariants.{Never};
+ghost use Rattle.txn_log.specs.Spells.{Spells};
 ghost use Rattle.file_store.specs.Outputs.{file_name};
-ghost use Rattle.local_run.specs.Ends.{FitsHere};
+ghost use Rattle.local_run.specs.Collecting.{RunCollects};
+ghost use Rattle.local_run.specs.Ends.{FitsHere, OpensBy};
 ghost use Rattle.command_words.specs.declared.options.Work.TheVariants.{Run};
 ghost use Rattle.report.specs.Causes.{kind_of};
 ghost use Rattle.master_run.specs.Ends.{counts};
-ghost use Rattle.master_run.specs.Headline.{FailureEnd};
-ghost use Rattle.master_run.specs.Serves.{Serves};
+ghost use Rattle.master_run.specs.Headline.{FailureEnd, LogsFailed, is_run_end};
+ghost use Rattle.master_run.specs.Serves.{IsCut, Serves};
 
 use crate::ask::Ask;
 use crate::causes::{run_cause, unread_cause};
@@ -32,8 +34,6 @@ pub fn run_flow<F: Commands, S: Site, R: Runner<F>, C: Clock, B: Born>(
 ) -> Course<S>
     requires valid { IsValid ask.plan }
     requires apart { (f : ℕ) → file_name ask.plan f ≢ ask.log }
-    requires mode { ask.options.mode ≡ Never }
-    requires limit { ask.options.limit ≡ None }
     requires fits { FitsHere ask.plan ask.options }
     requires later { S.tells → B.born ≤ S.moment site }
     requires work { ask.work ≡ Run }
@@ -45,6 +45,13 @@ pub fn run_flow<F: Commands, S: Site, R: Runner<F>, C: Clock, B: Born>(
         ask site result.site result.records result.cause }
     ensures failures { FailureEnd (R.failures runner.old) (R.failures runner.new)
         (kind_of result.cause) }
+    ensures failed { S.tells → (H : List RecordValue) → Spells H (S.files site ask.log)
+        → (IsCut result.cause → ⊥)
+        → LogsFailed H result.records (R.failures runner.old) (R.failures runner.new) }
+    ensures opened { IsTrue (is_run_end (kind_of result.cause))
+        → OpensBy ask.options result.records }
+    ensures collects { IsTrue (is_run_end (kind_of result.cause))
+        → RunCollects ask.plan ask.options.mode result.records }
     ensures plan { result.plan ≡ ask.plan }
 {
     files_spell_one_list();

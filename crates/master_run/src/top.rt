@@ -1,26 +1,30 @@
 //! The top call.
-ghost use Rattle.std.specs.Prelude.{◌≡◌, ◌≢◌, ◌≤◌, ℕ, [], None, Ok, IsTrue, IsFalse};
+ghost use Rattle.std.specs.Prelude.{◌≡◌, ◌≢◌, ◌≤◌, ℕ, List, [], Ok, IsTrue, IsFalse};
+ghost use Rattle.flow_types.specs.declared.records.Record.{Record as RecordValue};
 ghost use Rattle.flow_types.specs.Plans.{IsValid};
 ghost use Rattle.flow_types.specs.Serial.{serial};
 ghost use Rattle.run_history.specs.History.{since_opening};
 ghost use Rattle.run_history.specs.Spent.{SpentOnce};
 ghost use Rattle.outside.specs.Disk.{IsImage};
 ghost use Rattle.outside.specs.Files.{Files};
+ghost use Rattle.txn_log.specs.Spells.{Spells};
 ghost use Rattle.desk.specs.Kept.{IsLegal, Keeps, StaysBeside};
 ghost use Rattle.file_store.specs.Outputs.{file_name};
-ghost use Rattle.run_history.specs.declared.options.Mode.TheVariants.{Never};
-ghost use Rattle.local_run.specs.Ends.{FitsHere};
+ghost use Rattle.local_run.specs.Collecting.{AreGone, CollectsBy, RunCollects};
+ghost use Rattle.local_run.specs.Ends.{FitsHere, OpensBy};
 ghost use Rattle.local_run.specs.Course.{IsUnmade, TellsJobs};
 ghost use Rattle.local_run.specs.Moments.{IsMoment, IsResumable, KeepsSome};
 ghost use Rattle.local_run.specs.Runs.{Adds, BeginsWith, Held, LosesNone, SerialFits};
 ghost use Rattle.local_run.specs.Runs.{read_sources};
+ghost use Rattle.command_words.specs.declared.options.Options.{Options as OptionsValue};
 ghost use Rattle.report.specs.Causes.{is_failing, is_refusal, kind_of, may_lose, status_of};
 ghost use Rattle.report.specs.Causes.{was_read};
 ghost use Rattle.master_run.specs.declared.ask.Ask.{Ask as AskValue};
-ghost use Rattle.master_run.specs.Asked.{choice, request};
+ghost use Rattle.master_run.specs.Asked.{choice, request, run_mode, run_options};
 ghost use Rattle.master_run.specs.Ends.{CallEnds, FaultEnd, WordsEnd, counts};
-ghost use Rattle.master_run.specs.Headline.{FailureEnd, HasLog, IsLegalEnd, IsLegalOr};
-ghost use Rattle.master_run.specs.Headline.{IsPlanOf, IsSpentBy, OfLog, is_run_end};
+ghost use Rattle.master_run.specs.Headline.{CollectsSince, DropsUnneeded, FailureEnd, HasLog};
+ghost use Rattle.master_run.specs.Headline.{IsCleanedBy, IsLegalEnd, IsLegalOr, IsPlanOf};
+ghost use Rattle.master_run.specs.Headline.{IsSpentBy, KeepsLimit, LogsFailed, OfLog, is_run_end};
 ghost use Rattle.master_run.specs.Prints.{Prints};
 ghost use Rattle.master_run.specs.Serves.{CanComplete, IsCut, Serves};
 
@@ -74,8 +78,6 @@ fn serve<F: Commands, S: Site, R: Runner<F>, C: Clock, B: Born>(
 ) -> Course<S>
     requires valid { IsValid ask.plan }
     requires apart { (f : ℕ) → file_name ask.plan f ≢ ask.log }
-    requires mode { ask.options.mode ≡ Never }
-    requires limit { ask.options.limit ≡ None }
     requires fits { FitsHere ask.plan ask.options }
     requires later { S.tells → B.born ≤ S.moment site }
     requires counted { before.site ≤ S.count site }
@@ -86,6 +88,13 @@ fn serve<F: Commands, S: Site, R: Runner<F>, C: Clock, B: Born>(
         ask site result.site result.records result.cause }
     ensures failures { FailureEnd (R.failures runner.old) (R.failures runner.new)
         (kind_of result.cause) }
+    ensures failed { S.tells → (H : List RecordValue) → Spells H (S.files site ask.log)
+        → (IsCut result.cause → ⊥)
+        → LogsFailed H result.records (R.failures runner.old) (R.failures runner.new) }
+    ensures opened { IsTrue (is_run_end (kind_of result.cause))
+        → OpensBy ask.options result.records }
+    ensures collects { IsTrue (is_run_end (kind_of result.cause))
+        → RunCollects ask.plan ask.options.mode result.records }
     ensures plan { result.plan ≡ ask.plan }
 {
     match ask.work {
@@ -128,6 +137,16 @@ fn follow<F: Commands, S: Site, R: Runner<F>, C: Clock, B: Born>(
     ensures sure { R.sure runner.old → IsFalse (is_failing (kind_of result.cause)) }
     ensures failures { FailureEnd (R.failures runner.old) (R.failures runner.new)
         (kind_of result.cause) }
+    ensures failed { S.tells → (ask : AskValue)
+        → request words.now env.now (S.files site) ≡ Ok ask
+        → (H : List RecordValue) → Spells H (S.files site ask.log) → (IsCut result.cause → ⊥)
+        → LogsFailed H result.records (R.failures runner.old) (R.failures runner.new) }
+    ensures opened { (options : OptionsValue) → choice words.now ≡ Ok options
+        → IsTrue (is_run_end (kind_of result.cause))
+        → OpensBy (run_options options) result.records }
+    ensures collects { (options : OptionsValue) → choice words.now ≡ Ok options
+        → IsTrue (is_run_end (kind_of result.cause))
+        → RunCollects result.plan (run_mode options.mode) result.records }
 {
     let mut site = site;
     let before = counts_of::<F, _, _>(&site, runner);
@@ -182,6 +201,33 @@ pub fn makeflow_top<F: Commands, S: Site, R: Runner<F>, C: Clock, O: Sink>(
     ensures legal { IsLegalEnd
         (λ plan. S.tells → IsPlanOf (request words.now env.now (S.files site)) plan)
         (kind_of result.cause) result.records }
+
+    // The opening of a run has the limit and the retries of the words, and by the records what is
+    // stored and reserved is within the limit of the last one.
+    ensures opened { (options : OptionsValue) → choice words.now ≡ Ok options
+        → IsTrue (is_run_end (kind_of result.cause))
+        → OpensBy (run_options options) result.records }
+    ensures storage { KeepsLimit
+        (λ plan. S.tells → IsPlanOf (request words.now env.now (S.files site)) plan)
+        (kind_of result.cause) result.records }
+
+    // Files are collected as the words say: a drop names the file that is wanted where it stands,
+    // and no rule is started and no run complete where one is wanted. What is dropped is needed by
+    // nobody and is gone, as are the made files behind a cleaning.
+    ensures collects { (options : OptionsValue) → choice words.now ≡ Ok options
+        → CollectsSince
+        (λ plan. S.tells → IsPlanOf (request words.now env.now (S.files site)) plan)
+        (run_mode options.mode) (kind_of result.cause) result.records }
+    ensures modes { S.tells → OfLog (request words.now env.now (S.files site)) (S.files site)
+        (λ ask H. BeginsWith H result.records
+        → CollectsBy ask.plan ask.options.mode H result.records) }
+    ensures needed { S.tells → OfLog (request words.now env.now (S.files site)) (S.files site)
+        (λ ask H. BeginsWith H result.records → DropsUnneeded ask.plan H result.records) }
+    ensures gone { S.tells → OfLog (request words.now env.now (S.files site)) (S.files site)
+        (λ ask H. (IsCut result.cause → ⊥)
+        → AreGone ask.plan (S.files result.site) H result.records) }
+    ensures cleaned { S.tells → OfLog (request words.now env.now (S.files site)) (S.files site)
+        (λ ask H. IsCleanedBy ask.plan H (S.files result.site) result.cause) }
 
     // Each attempt of this call is closed once, and given up only where a fault ended the call.
     ensures closed { IsTrue (is_run_end (kind_of result.cause))
@@ -242,14 +288,19 @@ pub fn makeflow_top<F: Commands, S: Site, R: Runner<F>, C: Clock, O: Sink>(
         result.records (O.count out.old) (O.count out.new) (O.bytes out.old) (O.bytes out.new)
         result.cause }
 
-    // CommandFailed only where the runner answered that a command failed; over a sure runner
-    // neither that nor its fault.
+    // CommandFailed only where the runner answered that a command failed, and each command that did
+    // is logged once; over a sure runner neither that nor its fault.
     ensures failures { FailureEnd (R.failures runner.old) (R.failures runner.new)
         (kind_of result.cause) }
+    ensures logged_failures { S.tells
+        → OfLog (request words.now env.now (S.files site)) (S.files site)
+        (λ ask H. (IsCut result.cause → ⊥)
+        → LogsFailed H result.records (R.failures runner.old) (R.failures runner.new)) }
     ensures sure { R.sure runner.old → IsFalse (is_failing (kind_of result.cause)) }
 
     // What can come to its end does: over a sure runner that tells, with nothing in its way, room
-    // in the log and no count rising, every rule is complete, or memory was wanting.
+    // in the log and no count rising, every rule is complete, or memory was wanting, or with a limit
+    // of the storage there was no room.
     ensures completes { S.tells → OfLog (request words.now env.now (S.files site)) (S.files site)
         (λ ask H. CanComplete F.gives (R.tells runner.old) (R.sure runner.old) ask (S.files site)
         (S.may_leave site) H

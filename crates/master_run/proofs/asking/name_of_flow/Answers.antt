@@ -1,4 +1,4 @@
-use Rattle.std.proofs.Common.{◌≡◌, ◌∙◌, ℕ, List, Some, Option, refl, sym, codes}
+use Rattle.std.proofs.Common.{◌≡◌, ◌∙◌, Some, refl, sym, codes}
 use Rattle.std.specs.Str.{is_utf8, chars}
 use lib.Utf8.{encode}
 use Rattle.flow_types.specs.Names.{name_of}

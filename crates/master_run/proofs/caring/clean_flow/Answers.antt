@@ -1,32 +1,21 @@
-use Rattle.std.proofs.Common.{◌≡◌, ◌≢◌, ◌≤◌, ◌<◌, ◌⊎◌, ◌∙◌, inl, inr, ℕ, List, [], ◌++◌, ◌∷◌, Option, Some, None, Result, Ok, Err, ap, sym, subst, refl, arith, length, true, false, true≢false}
-use Rattle.flow_types.specs.declared.plan.Plan.{Plan}
-use Rattle.flow_types.specs.declared.records.Record.{Record}
+use Rattle.std.proofs.Common.{◌≡◌, ◌∙◌, inl, ap, sym, subst, refl, true, false, true≢false}
 use Rattle.flow_types.specs.Plans.{is_empty}
 use Rattle.run_history.specs.History.{part}
-use Rattle.outside.specs.Disk.{IsImage, LeavesOnly}
-use Rattle.outside.specs.Files.{Files}
-use Rattle.outside.proofs.Moments.{weakened}
-use Rattle.txn_log.specs.Spells.{Spells}
-use Rattle.desk.specs.Histories.{history_fault}
-use Rattle.desk.specs.Kept.{IsLegal, Keeps}
-use Rattle.local_run.specs.Moments.{IsBefore, IsMoment}
-use Rattle.local_run.specs.Runs.{Held, SerialFits, read_sources}
-use Rattle.cleaning.specs.Cleanings.{AreEither, clean_fault, ended_records, made_count}
+use Rattle.local_run.specs.Runs.{read_sources}
+use Rattle.cleaning.specs.Cleanings.{AreEither, clean_fault, made_count}
 use Rattle.command_words.specs.declared.options.Work.{Work}
 use Rattle.command_words.specs.declared.options.Work.TheVariants as works
 use Rattle.report.specs.declared.cause.Cause.{Cause}
 use Rattle.report.specs.declared.cause.Cause.TheVariants as causes
-use Rattle.report.specs.Causes.{is_cut, is_refusal, kind_of, was_read}
+use Rattle.report.specs.Causes.{is_cut, kind_of}
 use Rattle.master_run.specs.declared.counts.Counts.{Counts}
-use Rattle.master_run.specs.Ends.{Answers, GoesOn, Yields, counts}
-use Rattle.master_run.specs.Runs.{clean_cause, look_cause}
+use Rattle.master_run.specs.Ends.{GoesOn, counts}
+use Rattle.master_run.specs.Headline.{is_run_end}
+use Rattle.master_run.specs.Runs.{clean_cause}
 use Rattle.master_run.specs.Serves.{Serves}
-use Rattle.local_run.specs.Course.{IsUnmade}
-use Rattle.local_run.proofs.Alone.{beside_less}
-use Rattle.master_run.proofs.Moved.{append_nothing}
 use Rattle.master_run.proofs.Works.{cared_serves}
 use Rattle.cleaning.specs.Cleanings.{IsCutFor}
-use Rattle.master_run.proofs.Cared.{begins_so, clean_begins, clean_begun, clean_cut, clean_damaged, clean_either, clean_faults, clean_goes, clean_late, clean_legal, clean_log, clean_of, clean_read, clean_still, clean_uncut, cut_clean, done_goes, ended_either}
+use Rattle.master_run.proofs.Cared.{begins_so, clean_begins, clean_begun, clean_cleans, clean_cut, clean_damaged, clean_either, clean_faults, clean_goes, clean_late, clean_legal, clean_log, clean_of, clean_read, clean_still, clean_uncut, cut_clean, done_goes, ended_either, fails_nothing}
 use Rattle.master_run.proofs.caring.clean_flow.Goals as goal
 
 pub returns-in-Ok-clause-serves : goal.returns-in-Ok-clause-serves
@@ -52,6 +41,7 @@ returns-in-Ok-clause-serves g c =
       contents = λ t H spelled resumable. c.in-Ok.ensures.contents t H spelled g.F.Commands.gives (read_sources c.args.ask.plan (g.S.Site.files c.args.site)) resumable;
       resumable = c.in-Ok.ensures.resumable;
       at_end = λ t H spelled resumable whole image left. c.in-Ok.ensures.now t H spelled resumable (λ cut. cut) image left;
+      cleaned = λ t H spelled. c.in-Ok.ensures.gone t H spelled;
       untouched = λ t wrong. absurd (true≢false (sym wrong));
       others = λ t. (c.in-Ok.ensures.others t).crash;
     })
@@ -83,7 +73,22 @@ returns-in-Err-clause-serves g c =
       contents = λ t H spelled resumable. c.in-Err.ensures.contents t H spelled g.F.Commands.gives (read_sources c.args.ask.plan (g.S.Site.files c.args.site)) resumable;
       resumable = c.in-Err.ensures.resumable;
       at_end = λ t H spelled resumable whole image left. c.in-Err.ensures.now t H spelled resumable (clean_uncut c.args.before (counts (g.S.Site.count c.clean.new.site) (g.R.Runner.count c.args.runner.now) 0) why whole) image left;
+      cleaned = λ t H spelled. clean_cleans c.args.before (counts (g.S.Site.count c.clean.new.site) (g.R.Runner.count c.args.runner.now) 0) c.args.ask.plan H (g.S.Site.files c.clean.new.site) why;
       untouched = λ t refused m. c.in-Err.ensures.reads t (cut_clean c.args.before (counts (g.S.Site.count c.clean.new.site) (g.R.Runner.count c.args.runner.now) 0) why refused)
           (clean_begun c.files_spell_one_list.ensures.one c.files_spell_one_list.ensures.header c.files_spell_one_list.ensures.whole c.args.ask.plan (g.S.Site.files c.args.site c.args.ask.log) given why c.args.before (counts (g.S.Site.count c.clean.new.site) (g.R.Runner.count c.args.runner.now) 0) refused (c.in-Err.ensures.log t) (λ H spelled. c.in-Err.ensures.ends t H spelled)) m;
       others = λ t. (c.in-Err.ensures.others t).crash;
     }))
+
+pub returns-in-Ok-clause-fails_none : goal.returns-in-Ok-clause-fails_none
+returns-in-Ok-clause-fails_none g c t H spelled whole =
+    fails_nothing H c.in-Ok.field-0.records c.args.moment (subst (AreEither H c.args.moment) (sym (c.in-Ok.ensures.records t H spelled)) (ended_either H c.args.moment (is_empty (part H))))
+
+pub returns-in-Err-clause-fails_none : goal.returns-in-Err-clause-fails_none
+returns-in-Err-clause-fails_none g c t H spelled whole =
+    fails_nothing H c.in-Err.field-0.records c.args.moment
+    (clean_either H c.in-Err.field-0.records c.args.moment c.args.before c.counts_of-after.result c.args.ask.plan c.in-Err.field-0.why (c.in-Err.ensures.ends t H spelled) (c.in-Err.ensures.records t H spelled)
+    (λ cut. whole (subst (λ (cause : Cause). is_cut (kind_of cause) ≡ true) (sym c.clean_cause.ensures) cut)))
+
+pub returns-in-Err-clause-runs_not : goal.returns-in-Err-clause-runs_not
+returns-in-Err-clause-runs_not g c =
+    subst (λ (cause : Cause). is_run_end (kind_of cause) ≡ false) (sym c.clean_cause.ensures) (clean_still c.args.before c.counts_of-after.result c.in-Err.field-0.why).0

@@ -1,32 +1,28 @@
-use Rattle.std.proofs.Common.{◌≡◌, ◌≢◌, ◌≤◌, ◌<◌, ◌⊎◌, ◌∙◌, inl, inr, ℕ, List, [], ◌++◌, ◌∷◌, Option, Some, None, Result, Ok, Err, ap, sym, subst, refl, arith, length, true, false, true≢false}
-use Rattle.flow_types.specs.declared.plan.Plan.{Plan}
+use Rattle.std.proofs.Common.{◌≡◌, ◌≢◌, ◌≤◌, ◌∙◌, inl, List, [], ap, sym, subst, refl, arith, length, true, false, true≢false}
 use Rattle.flow_types.specs.declared.records.Record.{Record}
-use Rattle.flow_types.specs.Plans.{is_empty}
 use Rattle.run_history.specs.History.{part}
-use Rattle.outside.specs.Disk.{IsImage, LeavesOnly}
-use Rattle.outside.specs.Files.{Files}
 use Rattle.outside.proofs.Moments.{weakened}
-use Rattle.txn_log.specs.Spells.{Spells}
 use Rattle.desk.specs.Histories.{history_fault}
-use Rattle.desk.specs.Kept.{IsLegal, Keeps}
+use Rattle.desk.specs.Kept.{Keeps}
 use Rattle.local_run.specs.Moments.{IsBefore, IsMoment}
 use Rattle.local_run.specs.Runs.{Held, SerialFits, read_sources}
-use Rattle.cleaning.specs.Cleanings.{AreEither, clean_fault, ended_records, made_count}
 use Rattle.command_words.specs.declared.options.Work.{Work}
 use Rattle.command_words.specs.declared.options.Work.TheVariants as works
 use Rattle.report.specs.declared.cause.Cause.{Cause}
 use Rattle.report.specs.declared.cause.Cause.TheVariants as causes
-use Rattle.report.specs.Causes.{is_cut, is_refusal, kind_of, was_read}
+use Rattle.report.specs.Causes.{is_cut, kind_of}
 use Rattle.master_run.specs.declared.counts.Counts.{Counts}
-use Rattle.master_run.specs.Ends.{Answers, GoesOn, Yields, counts}
-use Rattle.master_run.specs.Runs.{clean_cause, look_cause}
+use Rattle.master_run.specs.Ends.{GoesOn, counts}
+use Rattle.local_run.specs.Ends.{failed_count}
+use Rattle.master_run.specs.Headline.{is_run_end}
+use Rattle.master_run.specs.Runs.{look_cause}
 use Rattle.master_run.specs.Serves.{Serves}
 use Rattle.local_run.specs.Course.{IsUnmade}
 use Rattle.local_run.proofs.Alone.{beside_less}
 use Rattle.master_run.proofs.Moved.{append_nothing}
 use Rattle.master_run.proofs.Works.{cared_serves}
 use Rattle.cleaning.specs.Looks.{IsCutFault}
-use Rattle.master_run.proofs.Cared.{cut_look, done_goes, look_begins, look_begun, look_cut, look_damaged, look_either, look_faults, look_goes, look_late, look_legal, look_log, look_read, look_seen, look_still, look_unread, part_within}
+use Rattle.master_run.proofs.Cared.{cut_look, done_goes, fails_nothing, look_begins, look_begun, look_cleans, look_cut, look_damaged, look_either, look_faults, look_goes, look_late, look_legal, look_log, look_read, look_seen, look_still, look_unread, part_within}
 use Rattle.master_run.proofs.caring.read_log.Goals as goal
 
 pub overflow_cast-result : goal.overflow_cast-result
@@ -61,6 +57,7 @@ returns-in-Ok-clause-serves g c =
           (IsMoment (SerialFits g.F.Commands.gives (read_sources c.args.ask.plan (g.S.Site.files c.args.site))) c.args.ask.plan c.args.ask.log (g.S.Site.files c.args.site) (g.S.Site.may_leave c.args.site) H c.in-Ok.records ⊥) (c.in-Ok.ensures.moments t) (λ image before. inl before);
       resumable = c.in-Ok.ensures.resumable;
       at_end = λ t H spelled resumable whole image left. subst (λ (xs : List Record). Keeps Held c.args.ask.plan c.args.ask.log xs image) (sym (c.in-Ok.ensures.ends t H spelled).0) (c.in-Ok.ensures.kept t H spelled resumable tt image left);
+      cleaned = λ t H spelled. tt;
       untouched = λ t wrong. absurd (true≢false (sym wrong));
       others = λ t. beside_less g.S.Site.files g.S.Site.may_leave g.S.Site.moment g.S.Site.images_since (λ m. m ≢ c.args.ask.log) (IsUnmade c.args.ask.plan c.args.ask.log) c.args.site c.look.new.site (λ m other. other.0) (c.in-Ok.ensures.others t).crash;
     })
@@ -94,7 +91,21 @@ returns-in-Err-clause-serves g c =
       at_end = λ t H spelled resumable whole image left.
           let seen = look_seen c.args.before (counts (g.S.Site.count c.look.new.site) (g.R.Runner.count c.args.runner.now) 0) c.args.ask.plan H given why (c.in-Err.ensures.ends t H spelled).0 (c.in-Err.ensures.ends t H spelled).1 whole in
           subst (λ (xs : List Record). Keeps Held c.args.ask.plan c.args.ask.log xs image) (sym seen.1) (c.in-Err.ensures.kept t H spelled resumable seen.0 image left);
+      cleaned = λ t H spelled. look_cleans c.args.before (counts (g.S.Site.count c.look.new.site) (g.R.Runner.count c.args.runner.now) 0) c.args.ask.plan H (g.S.Site.files c.look.new.site) why;
       untouched = λ t refused m. c.in-Err.ensures.reads t (cut_look c.args.before (counts (g.S.Site.count c.look.new.site) (g.R.Runner.count c.args.runner.now) 0) why refused)
           (look_begun c.files_spell_one_list.ensures.one c.files_spell_one_list.ensures.header c.files_spell_one_list.ensures.whole c.args.ask.plan (g.S.Site.files c.args.site c.args.ask.log) given why (cut_look c.args.before (counts (g.S.Site.count c.look.new.site) (g.R.Runner.count c.args.runner.now) 0) why refused) (c.in-Err.ensures.log t) (λ H spelled. (c.in-Err.ensures.ends t H spelled).0)) m;
       others = λ t. beside_less g.S.Site.files g.S.Site.may_leave g.S.Site.moment g.S.Site.images_since (λ m. m ≢ c.args.ask.log) (IsUnmade c.args.ask.plan c.args.ask.log) c.args.site c.look.new.site (λ m other. other.0) (c.in-Err.ensures.others t).crash;
     }))
+
+pub returns-in-Ok-clause-fails_none : goal.returns-in-Ok-clause-fails_none
+returns-in-Ok-clause-fails_none g c t H spelled whole = ap failed_count (c.in-Ok.ensures.ends t H spelled).0
+
+pub returns-in-Err-clause-fails_none : goal.returns-in-Err-clause-fails_none
+returns-in-Err-clause-fails_none g c t H spelled whole =
+    fails_nothing H c.in-Err.field-0.records 0
+    (look_either H c.in-Err.field-0.records 0 c.args.before c.counts_of-after.result c.args.ask.plan c.in-Err.field-0.why (c.in-Err.ensures.ends t H spelled).0 (c.in-Err.ensures.ends t H spelled).1
+    (λ cut. whole (subst (λ (cause : Cause). is_cut (kind_of cause) ≡ true) (sym c.look_cause.ensures) cut)))
+
+pub returns-in-Err-clause-runs_not : goal.returns-in-Err-clause-runs_not
+returns-in-Err-clause-runs_not g c =
+    subst (λ (cause : Cause). is_run_end (kind_of cause) ≡ false) (sym c.look_cause.ensures) (look_still c.args.before c.counts_of-after.result c.in-Err.field-0.why).0

@@ -1,4 +1,4 @@
-use Rattle.std.proofs.Common.{◌≡◌, ◌∙◌, sym}
+use Rattle.std.proofs.Common.{◌∙◌, sym}
 use Rattle.master_run.proofs.Folders.{else_below, then_below}
 use Rattle.master_run.proofs.log_name.is_folder_of.Goals as goal
 

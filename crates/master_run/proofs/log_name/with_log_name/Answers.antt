@@ -1,6 +1,5 @@
-use Rattle.std.proofs.Common.{◌≡◌, ◌∙◌, List, ℕ, true, map, find, None, ap, sym, subst}
+use Rattle.std.proofs.Common.{◌≡◌, ◌∙◌, List, ℕ, map, find, None, ap, sym, subst}
 use Rattle.std.specs.Option.{option_copied}
-use Rattle.flow_types.specs.Names.{is_name}
 use Rattle.flow_types.specs.declared.plan.FileRow.{FileRow}
 use Rattle.master_run.specs.LogNames.{clash}
 use Rattle.master_run.proofs.Folders.{none_named}

@@ -1,25 +1,20 @@
-use Rattle.std.proofs.Common.{◌≡◌, ◌≢◌, ◌≤◌, ◌<◌, ◌⊎◌, ◌∙◌, inl, inr, ℕ, List, [], Option, Some, None, Result, Ok, Err, ap, sym, subst, refl, arith, length, true, false, true≢false}
+use Rattle.std.proofs.Common.{◌≡◌, ◌∙◌, inl, List, ap, sym, subst, refl, arith, true, true≢false}
 use Rattle.flow_types.specs.declared.plan.Plan.{Plan}
 use Rattle.flow_types.specs.declared.records.Record.{Record}
-use Rattle.outside.specs.Disk.{IsImage}
-use Rattle.outside.specs.Files.{Files}
 use Rattle.outside.proofs.Moments.{weakened}
-use Rattle.txn_log.specs.Spells.{Spells}
 use Rattle.report.specs.declared.cause.Cause.{Cause}
 use Rattle.report.specs.declared.cause.Cause.TheVariants as causes
-use Rattle.report.specs.Causes.{kind_of}
+use Rattle.report.specs.Causes.{is_cut, kind_of}
 use Rattle.master_run.specs.declared.counts.Counts.{Counts}
 use Rattle.master_run.specs.Ends.{counts}
-use Rattle.master_run.specs.Headline.{FailureEnd}
+use Rattle.master_run.specs.Headline.{FailureEnd, is_run_end}
 use Rattle.master_run.specs.Serves.{Serves}
-use Rattle.log_recover.specs.declared.fault.RecoverFault.TheVariants as recovery
-use Rattle.outside.specs.Disk.{Within}
 use Rattle.local_run.specs.Moments.{IsBefore}
 use Rattle.log_recover.specs.Recovery.{IsRecovering}
 use Rattle.master_run.specs.Runs.{run_cause, unread_cause}
-use Rattle.master_run.proofs.Ran.{failed_run, ran_serves, run_faults}
+use Rattle.master_run.proofs.Ran.{closed_run, closed_starts, logged_run, ran_serves, run_faults, some_end}
 use Rattle.master_run.proofs.Refusals.{by_fault}
-use Rattle.master_run.proofs.Unread.{recovering_before, unread_failed, unread_serves}
+use Rattle.master_run.proofs.Unread.{recovering_before, unread_cuts, unread_ends, unread_failed, unread_serves}
 use Rattle.master_run.proofs.running.run_flow.Goals as goal
 
 pub returns-in_default-clause-serves : goal.returns-in_default-clause-serves
@@ -58,6 +53,8 @@ returns-in-Ok-resume-clause-serves g c =
       contents = c.in-Ok-resume.ensures.contents;
       honest = c.in-Ok-resume.ensures.honest;
       at_end = c.in-Ok-resume.ensures.now;
+      modes = c.in-Ok-resume.ensures.modes;
+      gone = c.in-Ok-resume.ensures.gone;
       completes = λ t H spelled resumable jobs fit room none is le. c.in-Ok-resume.ensures.completes t H spelled resumable jobs c.requires.fits fit room none is le;
     }))
 
@@ -76,3 +73,49 @@ pub returns-in-Err-clause-failures : goal.returns-in-Err-clause-failures
 returns-in-Err-clause-failures g c =
     subst (λ (cause : Cause). FailureEnd (g.R.Runner.failures c.args.runner.now) (g.R.Runner.failures c.resume.new.runner) (kind_of cause)) (sym c.unread_cause.ensures)
     (unread_failed c.args.before c.counts_of-after-in-Err.result (g.R.Runner.failures c.args.runner.now) (g.R.Runner.failures c.resume.new.runner) c.in-Err.refused.why (let same : g.R.Runner.failures c.resume.new.runner ≡ g.R.Runner.failures c.args.runner.now = ap g.R.Runner.failures c.in-Err.ensures.unrun in omega (arith, same)))
+
+pub run_cause-requires-clause-ends : goal.run_cause-requires-clause-ends
+run_cause-requires-clause-ends g c =
+    some_end c.args.ask.options.limit c.in-Ok-resume.ended.how (c.in-Ok-resume.ensures.closed c.requires.fits)
+
+pub returns-in_default-clause-failed : goal.returns-in_default-clause-failed
+returns-in_default-clause-failed g c t H spelled whole = absurd (whole refl)
+
+pub returns-in_default-clause-opened : goal.returns-in_default-clause-opened
+returns-in_default-clause-opened g c wrong = absurd (true≢false (sym wrong))
+
+pub returns-in_default-clause-collects : goal.returns-in_default-clause-collects
+returns-in_default-clause-collects g c wrong = absurd (true≢false (sym wrong))
+
+pub returns-in-Ok-resume-clause-failed : goal.returns-in-Ok-resume-clause-failed
+returns-in-Ok-resume-clause-failed g c t H spelled whole =
+    let same : c.run_cause.result ≡ run_cause c.args.before (counts (g.S.Site.count c.in-Ok-resume.ended.site) (g.R.Runner.count c.resume.new.runner) 0) c.args.ask.plan c.in-Ok-resume.ended.how =
+    c.run_cause.ensures ∙ ap (λ (k : Counts). run_cause c.args.before k c.in-Ok.copied c.in-Ok-resume.ended.how) c.counts_of-after.ensures ∙ ap (λ (Q : Plan). run_cause c.args.before (counts (g.S.Site.count c.in-Ok-resume.ended.site) (g.R.Runner.count c.resume.new.runner) 0) Q c.in-Ok-resume.ended.how) c.in-Ok.ensures in
+    logged_run c.args.before (counts (g.S.Site.count c.in-Ok-resume.ended.site) (g.R.Runner.count c.resume.new.runner) 0) c.args.ask.plan H c.in-Ok-resume.ended.records (g.R.Runner.failures c.args.runner.now) (g.R.Runner.failures c.resume.new.runner) c.in-Ok-resume.ended.how
+    (λ closed. c.in-Ok-resume.ensures.failures closed t H spelled) (λ refused. c.in-Ok-resume.ensures.same t H spelled refused) (λ refused. ap g.R.Runner.failures (c.in-Ok-resume.ensures.unused refused))
+    (λ cut. whole (subst (λ (cause : Cause). is_cut (kind_of cause) ≡ true) (sym same) cut))
+
+pub returns-in-Ok-resume-clause-opened : goal.returns-in-Ok-resume-clause-opened
+returns-in-Ok-resume-clause-opened g c ends =
+    let same : c.run_cause.result ≡ run_cause c.args.before (counts (g.S.Site.count c.in-Ok-resume.ended.site) (g.R.Runner.count c.resume.new.runner) 0) c.args.ask.plan c.in-Ok-resume.ended.how =
+    c.run_cause.ensures ∙ ap (λ (k : Counts). run_cause c.args.before k c.in-Ok.copied c.in-Ok-resume.ended.how) c.counts_of-after.ensures ∙ ap (λ (Q : Plan). run_cause c.args.before (counts (g.S.Site.count c.in-Ok-resume.ended.site) (g.R.Runner.count c.resume.new.runner) 0) Q c.in-Ok-resume.ended.how) c.in-Ok.ensures in
+    c.in-Ok-resume.ensures.opened (closed_starts c.in-Ok-resume.ended.how (closed_run c.args.before (counts (g.S.Site.count c.in-Ok-resume.ended.site) (g.R.Runner.count c.resume.new.runner) 0) c.args.ask.plan c.in-Ok-resume.ended.how (subst (λ (cause : Cause). is_run_end (kind_of cause) ≡ true) same ends)))
+
+pub returns-in-Ok-resume-clause-collects : goal.returns-in-Ok-resume-clause-collects
+returns-in-Ok-resume-clause-collects g c ends =
+    let same : c.run_cause.result ≡ run_cause c.args.before (counts (g.S.Site.count c.in-Ok-resume.ended.site) (g.R.Runner.count c.resume.new.runner) 0) c.args.ask.plan c.in-Ok-resume.ended.how =
+    c.run_cause.ensures ∙ ap (λ (k : Counts). run_cause c.args.before k c.in-Ok.copied c.in-Ok-resume.ended.how) c.counts_of-after.ensures ∙ ap (λ (Q : Plan). run_cause c.args.before (counts (g.S.Site.count c.in-Ok-resume.ended.site) (g.R.Runner.count c.resume.new.runner) 0) Q c.in-Ok-resume.ended.how) c.in-Ok.ensures in
+    c.in-Ok-resume.ensures.collects (closed_starts c.in-Ok-resume.ended.how (closed_run c.args.before (counts (g.S.Site.count c.in-Ok-resume.ended.site) (g.R.Runner.count c.resume.new.runner) 0) c.args.ask.plan c.in-Ok-resume.ended.how (subst (λ (cause : Cause). is_run_end (kind_of cause) ≡ true) same ends)))
+
+pub returns-in-Err-clause-failed : goal.returns-in-Err-clause-failed
+returns-in-Err-clause-failed g c t H spelled whole =
+    unread_cuts c.files_spell_one_list.ensures.header c.files_spell_one_list.ensures.whole c.args.before c.counts_of-after-in-Err.result (g.S.Site.files c.args.site c.args.ask.log) H c.in-Err.refused.why spelled (c.in-Err.ensures.damaged t)
+    (λ cut. whole (subst (λ (cause : Cause). is_cut (kind_of cause) ≡ true) (sym c.unread_cause.ensures) cut))
+
+pub returns-in-Err-clause-opened : goal.returns-in-Err-clause-opened
+returns-in-Err-clause-opened g c ends =
+    absurd (true≢false (sym (subst (λ (cause : Cause). is_run_end (kind_of cause) ≡ true) c.unread_cause.ensures ends) ∙ unread_ends c.args.before c.counts_of-after-in-Err.result c.in-Err.refused.why))
+
+pub returns-in-Err-clause-collects : goal.returns-in-Err-clause-collects
+returns-in-Err-clause-collects g c ends =
+    absurd (true≢false (sym (subst (λ (cause : Cause). is_run_end (kind_of cause) ≡ true) c.unread_cause.ensures ends) ∙ unread_ends c.args.before c.counts_of-after-in-Err.result c.in-Err.refused.why))

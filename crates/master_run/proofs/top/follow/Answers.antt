@@ -1,20 +1,22 @@
-use Rattle.std.proofs.Common.{◌≡◌, ◌≤◌, ◌<◌, ◌∙◌, ℕ, List, [], Ok, Err, Result, ap, sym, subst, refl, arith, true, true≢false}
+use Rattle.std.proofs.Common.{◌≡◌, ◌∙◌, List, [], Err, Result, ap, sym, subst, arith, true, true≢false}
 use Rattle.outside.specs.Files.{Files}
 use Rattle.flow_types.specs.declared.plan.Plan.{Plan}
 use Rattle.flow_types.specs.declared.records.Record.{Record}
+use Rattle.run_history.specs.declared.options.Options.{Options as RunOptions}
+use Rattle.local_run.specs.Collecting.{RunCollects}
+use Rattle.local_run.specs.Ends.{OpensBy}
+use Rattle.txn_log.specs.Spells.{Spells}
 use Rattle.desk.specs.Kept.{IsLegal}
 use Rattle.report.specs.declared.cause.Cause.{Cause}
-use Rattle.report.specs.Causes.{kind_of, was_read}
+use Rattle.report.specs.Causes.{is_cut, kind_of}
 use Rattle.master_run.specs.declared.ask.Ask.{Ask}
 use Rattle.master_run.specs.declared.asking.Refusal.{Refusal}
 use Rattle.master_run.specs.declared.counts.Counts.{Counts}
-use Rattle.master_run.specs.Asked.{choice, request}
+use Rattle.master_run.specs.Asked.{choice, request, run_mode}
 use Rattle.master_run.specs.Ends.{CallEnds, FaultEnd, WordsEnd, counts}
-use Rattle.master_run.specs.Headline.{FailureEnd}
-use Rattle.master_run.specs.Runs.{refusal_cause}
 use Rattle.master_run.specs.Serves.{Serves}
 use Rattle.master_run.proofs.Reading.{serves_from}
-use Rattle.master_run.proofs.Refusals.{late_words, refused_ends, refused_fault, refused_kind, refused_serves, refused_words, same_ask}
+use Rattle.master_run.proofs.Refusals.{late_words, refused_cuts, refused_ends, refused_fault, refused_kind, refused_serves, refused_words, same_ask}
 use Rattle.master_run.proofs.top.follow.Goals as goal
 
 pub returns-in-Ok-clause-ends : goal.returns-in-Ok-clause-ends
@@ -107,3 +109,31 @@ returns-in-Err-clause-sure g c is =
 pub returns-in-Err-clause-failures : goal.returns-in-Err-clause-failures
 returns-in-Err-clause-failures g c =
     record { later = omega arith; rose = λ failed. absurd ((refused_kind c.counts_of-before.result c.counts_of-after.result c.in-Err.refusal c.in-Err.ensures.kind).failed (rw c.refusal_cause.ensures at failed)) }
+
+pub returns-in-Ok-clause-failed : goal.returns-in-Ok-clause-failed
+returns-in-Ok-clause-failed g c told ask asked H spelled whole =
+    let same : c.in-Ok.ask ≡ ask = same_ask c.in-Ok.ask ask (sym (c.in-Ok.ensures.stage told) ∙ asked) in
+    let at_ask : Spells H (g.S.Site.files c.args.site c.in-Ok.ask.log) = subst (λ (a : Ask). Spells H (g.S.Site.files c.args.site a.log)) (sym same) spelled in
+    c.serve.ensures.failed told H (subst (λ (fs : Files). Spells H (fs c.in-Ok.ask.log)) (sym (c.in-Ok.ensures.files told)) at_ask) whole
+
+pub returns-in-Ok-clause-opened : goal.returns-in-Ok-clause-opened
+returns-in-Ok-clause-opened g c options chosen ends =
+    subst (λ (O : RunOptions). OpensBy O c.serve.result.records) (c.in-Ok.ensures.goes_by options chosen) (c.serve.ensures.opened ends)
+
+pub returns-in-Ok-clause-collects : goal.returns-in-Ok-clause-collects
+returns-in-Ok-clause-collects g c options chosen ends =
+    subst (λ (P : Plan). RunCollects P (run_mode options.mode) c.serve.result.records) (sym c.serve.ensures.plan)
+    (subst (λ (O : RunOptions). RunCollects c.in-Ok.ask.plan O.mode c.serve.result.records) (c.in-Ok.ensures.goes_by options chosen) (c.serve.ensures.collects ends))
+
+pub returns-in-Err-clause-failed : goal.returns-in-Err-clause-failed
+returns-in-Err-clause-failed g c told ask asked H spelled whole =
+    refused_cuts (request c.args.words.now c.args.env.now (g.S.Site.files c.args.site)) ask c.counts_of-before.result c.counts_of-after.result c.in-Err.refusal (c.in-Err.ensures.stage told) asked
+    (λ cut. whole (subst (λ (cause : Cause). is_cut (kind_of cause) ≡ true) (sym c.refusal_cause.ensures) cut))
+
+pub returns-in-Err-clause-opened : goal.returns-in-Err-clause-opened
+returns-in-Err-clause-opened g c options chosen read =
+    absurd (true≢false (sym (rw c.refusal_cause.ensures at read) ∙ (refused_kind c.counts_of-before.result c.counts_of-after.result c.in-Err.refusal c.in-Err.ensures.kind).no_end))
+
+pub returns-in-Err-clause-collects : goal.returns-in-Err-clause-collects
+returns-in-Err-clause-collects g c options chosen read =
+    absurd (true≢false (sym (rw c.refusal_cause.ensures at read) ∙ (refused_kind c.counts_of-before.result c.counts_of-after.result c.in-Err.refusal c.in-Err.ensures.kind).no_end))

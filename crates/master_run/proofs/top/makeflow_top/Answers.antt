@@ -1,7 +1,4 @@
-use Rattle.std.proofs.Common.{◌≡◌, ◌∙◌, ◌⊎◌, ⊎_elim, inl, ℕ, List, Ok, Result, map, string_bytes, ap, sym, subst, refl, true, false, true≢false}
-use Rattle.outside.specs.Disk.{IsImage}
-use Rattle.outside.specs.Files.{Files}
-use Rattle.flow_types.specs.declared.plan.Plan.{Plan}
+use Rattle.std.proofs.Common.{◌≡◌, ⊎_elim, inl, List, map, string_bytes, sym, subst, refl, true, true≢false}
 use Rattle.flow_types.specs.declared.records.Record.{Record}
 use Rattle.local_run.specs.Moments.{IsMoment, KeepsSome}
 use Rattle.local_run.specs.Runs.{Held, SerialFits, read_sources}
@@ -10,12 +7,16 @@ use Rattle.report.specs.declared.cause.Kind.{Kind}
 use Rattle.report.specs.declared.cause.Kind.TheVariants as kinds
 use Rattle.report.specs.Causes.{kind_of, was_read}
 use Rattle.master_run.specs.Prints.{Told, is_of_plan}
-use Rattle.master_run.specs.declared.ask.Ask.{Ask}
-use Rattle.master_run.specs.Asked.{request}
-use Rattle.master_run.specs.Headline.{IsPlanOf}
+use Rattle.master_run.specs.Asked.{request, run_mode, run_options}
+use Rattle.master_run.specs.Headline.{IsPlanOf, IsWithinLimit, LogsFailed}
 use Rattle.master_run.specs.Serves.{IsCut}
 use Rattle.master_run.proofs.Reading.{entry_before}
-use Rattle.master_run.proofs.Reprinted.{Stands, after_closed, after_failed, after_legal, after_planned, after_sure, after_untouched, printed_ends, printed_fault, printed_serves, printed_words, stands}
+use Rattle.rule_graph.specs.Spelling.{plan_digest}
+use Rattle.local_run.specs.Collecting.{RunCollects}
+use Rattle.local_run.specs.Ends.{OpensBy}
+use Rattle.run_history.proofs.Limits.{limit-legal}
+use Rattle.master_run.proofs.Unneeded.{drops_unneeded}
+use Rattle.master_run.proofs.Reprinted.{after_closed, after_cut, after_failed, after_legal, after_planned, after_run, after_sure, after_untouched, printed_ends, printed_fault, printed_serves, printed_words, run_read, stands}
 use Rattle.master_run.proofs.top.makeflow_top.Goals as goal
 
 pub returns-clause-ends : goal.returns-clause-ends
@@ -134,3 +135,48 @@ returns-clause-text g c told =
       of_end = λ ends. t.of_end ends;
       part = t.part;
     }
+
+pub returns-clause-storage : goal.returns-clause-storage
+returns-clause-storage g c =
+    record {
+      plan = c.follow-course.result.plan;
+      read = after_planned (g.S.Site.tells → IsPlanOf (request c.args.words.now c.args.env.now (g.S.Site.files c.args.site)) c.follow-course.result.plan) (g.O.Sink.count c.args.out.now) (g.O.Sink.count c.tell-cause.new.out) c.follow-course.result.cause c.tell-cause.result (stands (g.O.Sink.count c.args.out.now) (g.O.Sink.count c.tell-cause.new.out) c.follow-course.result.cause c.tell-cause.result c.tell-cause.ensures.stands) (λ read told. c.follow-course.ensures.planned told read);
+      within = after_planned (IsWithinLimit c.follow-course.result.plan c.follow-course.result.records) (g.O.Sink.count c.args.out.now) (g.O.Sink.count c.tell-cause.new.out) c.follow-course.result.cause c.tell-cause.result (stands (g.O.Sink.count c.args.out.now) (g.O.Sink.count c.tell-cause.new.out) c.follow-course.result.cause c.tell-cause.result c.tell-cause.ensures.stands) (λ read. limit-legal c.follow-course.result.plan (plan_digest c.follow-course.result.plan) c.follow-course.result.records (c.follow-course.ensures.legal read));
+    }
+
+pub returns-clause-opened : goal.returns-clause-opened
+returns-clause-opened g c options chosen =
+    after_run (OpensBy (run_options options) c.follow-course.result.records) (g.O.Sink.count c.args.out.now) (g.O.Sink.count c.tell-cause.new.out) c.follow-course.result.cause c.tell-cause.result (stands (g.O.Sink.count c.args.out.now) (g.O.Sink.count c.tell-cause.new.out) c.follow-course.result.cause c.tell-cause.result c.tell-cause.ensures.stands) (c.follow-course.ensures.opened options chosen)
+
+pub returns-clause-collects : goal.returns-clause-collects
+returns-clause-collects g c options chosen =
+    record {
+      plan = c.follow-course.result.plan;
+      read = after_run (g.S.Site.tells → IsPlanOf (request c.args.words.now c.args.env.now (g.S.Site.files c.args.site)) c.follow-course.result.plan) (g.O.Sink.count c.args.out.now) (g.O.Sink.count c.tell-cause.new.out) c.follow-course.result.cause c.tell-cause.result (stands (g.O.Sink.count c.args.out.now) (g.O.Sink.count c.tell-cause.new.out) c.follow-course.result.cause c.tell-cause.result c.tell-cause.ensures.stands) (λ ends told. c.follow-course.ensures.planned told (run_read (kind_of c.follow-course.result.cause) ends));
+      collects = after_run (RunCollects c.follow-course.result.plan (run_mode options.mode) c.follow-course.result.records) (g.O.Sink.count c.args.out.now) (g.O.Sink.count c.tell-cause.new.out) c.follow-course.result.cause c.tell-cause.result (stands (g.O.Sink.count c.args.out.now) (g.O.Sink.count c.tell-cause.new.out) c.follow-course.result.cause c.tell-cause.result c.tell-cause.ensures.stands) (c.follow-course.ensures.collects options chosen);
+    }
+
+pub returns-clause-modes : goal.returns-clause-modes
+returns-clause-modes g c told ask asked H spelled begins =
+    (printed_serves g.S.Site.tells g.S.Site.files g.S.Site.may_leave g.S.Site.moment g.S.Site.images_since (g.S.Site.moment c.args.site) g.F.Commands.gives g.F.Commands.may_fail (g.R.Runner.tells c.args.runner.now) (g.R.Runner.sure c.args.runner.now)
+    (g.S.Site.count c.args.site) (g.R.Runner.count c.args.runner.now) (g.O.Sink.count c.args.out.now) (g.S.Site.count c.follow-course.result.site) (g.R.Runner.count c.follow-course.new.runner) (g.O.Sink.count c.tell-cause.new.out) ask c.args.site c.follow-course.result.site c.follow-course.result.records c.follow-course.result.cause c.tell-cause.result (stands (g.O.Sink.count c.args.out.now) (g.O.Sink.count c.tell-cause.new.out) c.follow-course.result.cause c.tell-cause.result c.tell-cause.ensures.stands) (c.follow-course.ensures.serves told ask asked)).modes told H spelled begins
+
+pub returns-clause-needed : goal.returns-clause-needed
+returns-clause-needed g c told ask asked H spelled begins =
+    drops_unneeded ask.plan ask.options.mode H c.follow-course.result.records
+    ((printed_serves g.S.Site.tells g.S.Site.files g.S.Site.may_leave g.S.Site.moment g.S.Site.images_since (g.S.Site.moment c.args.site) g.F.Commands.gives g.F.Commands.may_fail (g.R.Runner.tells c.args.runner.now) (g.R.Runner.sure c.args.runner.now)
+    (g.S.Site.count c.args.site) (g.R.Runner.count c.args.runner.now) (g.O.Sink.count c.args.out.now) (g.S.Site.count c.follow-course.result.site) (g.R.Runner.count c.follow-course.new.runner) (g.O.Sink.count c.tell-cause.new.out) ask c.args.site c.follow-course.result.site c.follow-course.result.records c.follow-course.result.cause c.tell-cause.result (stands (g.O.Sink.count c.args.out.now) (g.O.Sink.count c.tell-cause.new.out) c.follow-course.result.cause c.tell-cause.result c.tell-cause.ensures.stands) (c.follow-course.ensures.serves told ask asked)).modes told H spelled begins)
+
+pub returns-clause-gone : goal.returns-clause-gone
+returns-clause-gone g c told ask asked H spelled whole =
+    (printed_serves g.S.Site.tells g.S.Site.files g.S.Site.may_leave g.S.Site.moment g.S.Site.images_since (g.S.Site.moment c.args.site) g.F.Commands.gives g.F.Commands.may_fail (g.R.Runner.tells c.args.runner.now) (g.R.Runner.sure c.args.runner.now)
+    (g.S.Site.count c.args.site) (g.R.Runner.count c.args.runner.now) (g.O.Sink.count c.args.out.now) (g.S.Site.count c.follow-course.result.site) (g.R.Runner.count c.follow-course.new.runner) (g.O.Sink.count c.tell-cause.new.out) ask c.args.site c.follow-course.result.site c.follow-course.result.records c.follow-course.result.cause c.tell-cause.result (stands (g.O.Sink.count c.args.out.now) (g.O.Sink.count c.tell-cause.new.out) c.follow-course.result.cause c.tell-cause.result c.tell-cause.ensures.stands) (c.follow-course.ensures.serves told ask asked)).gone told H spelled whole
+
+pub returns-clause-cleaned : goal.returns-clause-cleaned
+returns-clause-cleaned g c told ask asked H spelled =
+    (printed_serves g.S.Site.tells g.S.Site.files g.S.Site.may_leave g.S.Site.moment g.S.Site.images_since (g.S.Site.moment c.args.site) g.F.Commands.gives g.F.Commands.may_fail (g.R.Runner.tells c.args.runner.now) (g.R.Runner.sure c.args.runner.now)
+    (g.S.Site.count c.args.site) (g.R.Runner.count c.args.runner.now) (g.O.Sink.count c.args.out.now) (g.S.Site.count c.follow-course.result.site) (g.R.Runner.count c.follow-course.new.runner) (g.O.Sink.count c.tell-cause.new.out) ask c.args.site c.follow-course.result.site c.follow-course.result.records c.follow-course.result.cause c.tell-cause.result (stands (g.O.Sink.count c.args.out.now) (g.O.Sink.count c.tell-cause.new.out) c.follow-course.result.cause c.tell-cause.result c.tell-cause.ensures.stands) (c.follow-course.ensures.serves told ask asked)).cleaned told H spelled
+
+pub returns-clause-logged_failures : goal.returns-clause-logged_failures
+returns-clause-logged_failures g c told ask asked H spelled =
+    after_cut (LogsFailed H c.follow-course.result.records (g.R.Runner.failures c.args.runner.now) (g.R.Runner.failures c.follow-course.new.runner)) (g.O.Sink.count c.args.out.now) (g.O.Sink.count c.tell-cause.new.out) c.follow-course.result.cause c.tell-cause.result (stands (g.O.Sink.count c.args.out.now) (g.O.Sink.count c.tell-cause.new.out) c.follow-course.result.cause c.tell-cause.result c.tell-cause.ensures.stands) (c.follow-course.ensures.failed told ask asked H spelled)
