@@ -11,6 +11,7 @@ pub struct Bell {
 }
 
 impl Bell {
+    /// A bell that told of nothing yet.
     pub fn new() -> Bell {
         Bell {
             moves: AtomicU64::new(0),

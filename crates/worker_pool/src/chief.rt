@@ -34,6 +34,7 @@ impl<B: Terms> Model for Chief<B> {
 }
 
 impl<B: Terms> Chief<B> {
+    /// Nothing was given yet.
     pub fn new(tickets: Tickets, pass: Ticket) -> Chief<B>
         requires { (pass.table_id ≡ B.tickets) × IsPassOf tickets pass × (view pass ≡ fresh) }
         ensures { result ≡ [] }

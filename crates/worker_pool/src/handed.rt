@@ -27,6 +27,7 @@ impl<B: Terms> Model for Handed<B> {
 }
 
 impl<B: Terms> Handed<B> {
+    /// The ticket was made for this start.
     pub fn new(start: Start, ticket: Ticket) -> Handed<B>
         requires { IsTicketOf B.tickets ticket start }
         ensures { result ≡ start }
