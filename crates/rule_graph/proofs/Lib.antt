@@ -1,4 +1,5 @@
 pub mod Ports
+pub mod Repeats
 pub mod RuleFaults
 pub mod Folders
 pub mod Unfaulted
@@ -27,3 +28,5 @@ pub mod Marks
 pub mod LeastInput
 pub mod WalkSteps
 pub mod PlanValid
+pub mod PlainRules
+pub mod OwnRemotes

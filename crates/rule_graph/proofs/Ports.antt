@@ -1,5 +1,5 @@
 -- The ports of a rule, each once, and the names of a flow.
-use Rattle.std.proofs.Common.{◌≡◌, ℕ, ◌+◌, ◌<◌, Bool, true, false, cond, not, ◌&&◌, ◌||◌, List, [], ◌∷◌, ◌++◌, length, take, get_or, refl, ap, sym, ◌∙◌, append_assoc, Vec, Global}
+use Rattle.std.proofs.Common.{◌≡◌, ℕ, ◌+◌, ◌<◌, Bool, true, false, cond, not, ◌&&◌, ◌||◌, List, [], ◌∷◌, ◌++◌, length, take, get_or, refl, ap, sym, ◌∙◌, Vec, Global}
 use Rattle.std.specs.Prelude.{map, filter, fold, flat_map}
 use Rattle.std.specs.List.{list_any, AllByRecursion}
 use Rattle.std.specs.Str.{bytes_eq}
@@ -13,10 +13,8 @@ use Rattle.std.proofs.lemmas.Bool.{not-true, not-false}
 use Rattle.std.proofs.lemmas.List.{map-append, take_more, append-nil}
 use Rattle.std.proofs.lemmas.List.Elements.{filter-append}
 use Rattle.std.proofs.lemmas.List.Folds.{list_any-append}
-use Rattle.std.proofs.lemmas.List.Sums.{fold-append}
 use Rattle.std.proofs.lemmas.Map.Text.{is_eq-slice_cmp}
 use Rattle.flow_types.specs.declared.flow.RawFlow.{RawFlow}
-use Rattle.flow_types.specs.declared.flow.RawRule.{RawRule}
 use Rattle.rule_graph.specs.declared.raw.RawPort.{RawPort}
 use Rattle.rule_graph.specs.Flows.{is_same_port, each_once, raw_ports, with_port, names_of}
 use Rattle.rule_graph.specs.Checked.{IsAscending}
@@ -113,22 +111,6 @@ at_place Greater x k xs more names is = ap (λ names. x.items ∷ names) is
 pub insert_bytes : (keys : List (Vec ℕ Global)) (k : Vec ℕ Global) → map bytes_of (insert_key vec_cmp keys k) ≡ insert_key (slice_cmp nat_cmp) (map bytes_of keys) k.items
 insert_bytes [] k = refl
 insert_bytes (x ∷ xs) k = at_place (vec_cmp k x) x k xs (insert_key vec_cmp xs k) (insert_key (slice_cmp nat_cmp) (map bytes_of xs) k.items) (insert_bytes xs k)
-
--- the names of one rule more
-pub names_more : (rules : List RawRule) (i : ℕ) (rule : RawRule) (outputs inputs : List RawPort) (start now then_ : List (List ℕ)) → i < length rules → rule ≡ get_or rules i rule
-    → raw_ports rule ≡ outputs ++ inputs
-    → start ≡ fold with_port [] (flat_map raw_ports (take i rules)) → now ≡ fold with_port start outputs → then_ ≡ fold with_port now inputs
-    → then_ ≡ fold with_port [] (flat_map raw_ports (take (i + 1) rules))
-names_more rules i rule outputs inputs start now then_ inside is ports before outs ins =
-    ins ∙ ap (λ names. fold with_port names inputs) (outs ∙ ap (λ names. fold with_port names outputs) before)
-    ∙ sym (fold-append with_port (fold with_port [] (flat_map raw_ports (take i rules))) outputs inputs)
-    ∙ ap (λ ports. fold with_port (fold with_port [] (flat_map raw_ports (take i rules))) ports) (sym ports)
-    ∙ sym (fold-append with_port [] (flat_map raw_ports (take i rules)) (raw_ports rule))
-    ∙ ap (fold with_port []) (sym (ports_more (take i rules)) ∙ ap (flat_map raw_ports) (sym (take_more rules i rule inside ∙ ap (λ y. take i rules ++ y ∷ []) (sym is))))
-  where
-    ports_more : (so_far : List RawRule) → flat_map raw_ports (so_far ++ rule ∷ []) ≡ flat_map raw_ports so_far ++ raw_ports rule
-    ports_more [] = append-nil (raw_ports rule)
-    ports_more (x ∷ xs) = ap (λ ports. raw_ports x ++ ports) (ports_more xs) ∙ sym (append_assoc (raw_ports x) (flat_map raw_ports xs) (raw_ports rule))
 
 below_both : (x k : List ℕ) (ks : List (List ℕ)) → slice_cmp nat_cmp k x ≡ Less → AllByRecursion (λ y. slice_cmp nat_cmp x y ≡ Less) ks
     → AllByRecursion (λ y. slice_cmp nat_cmp k y ≡ Less) ks

@@ -41,7 +41,7 @@ both_all P Q R tells [] ps qs = All-nil R
 both_all P Q R tells (x ∷ xs) ps qs =
     All-cons R x xs (tells x (All-head P x xs ps) (All-head Q x xs qs)) (both_all P Q R tells xs (All-tail P x xs ps) (All-tail Q x xs qs))
 
-as_all : {A : Type 0} (P R : A → Type 0) → ((x : A) → P x → R x) → (xs : List A) → All P xs → All R xs
+pub as_all : {A : Type 0} (P R : A → Type 0) → ((x : A) → P x → R x) → (xs : List A) → All P xs → All R xs
 as_all P R tells xs ps = both_all P P R (λ x p q. tells x p) xs ps ps
 
 -- each item with each that stands behind it
@@ -54,7 +54,7 @@ test_pairs R t tells [] all = refl
 test_pairs R t tells (x ∷ xs) all =
     ap (λ b. b && all_pairs t xs) (test_all (R x) (t x) (tells x) xs all.0) ∙ test_pairs R t tells xs all.1
 
-pairs_split : {A : Type 0} (R : A → A → Type 0) (xs ys : List A) → AllPairs R (xs ++ ys) → AllPairs R xs × AllPairs R ys × All (λ x. All (R x) ys) xs
+pub pairs_split : {A : Type 0} (R : A → A → Type 0) (xs ys : List A) → AllPairs R (xs ++ ys) → AllPairs R xs × AllPairs R ys × All (λ x. All (R x) ys) xs
 pairs_split R [] ys all = (tt, all, All-nil (λ x. All (R x) ys))
 pairs_split R (x ∷ xs) ys all =
     let rest = pairs_split R xs ys all.1 in
@@ -116,7 +116,7 @@ all_silent says (x ∷ xs) none =
     All-cons (λ x. says x ≡ None) x xs parts.0 (all_silent says xs parts.1)
 
 -- no name is a folder of one of the names
-none_nested : (names : List (List ℕ)) → nested_in names ≡ None → All (λ folder. All (λ name. is_folder_of folder name ≡ false) names) names
+pub none_nested : (names : List (List ℕ)) → nested_in names ≡ None → All (λ folder. All (λ name. is_folder_of folder name ≡ false) names) names
 none_nested names none =
     as_all (λ folder. nested_under names folder ≡ None) (λ folder. All (λ name. is_folder_of folder name ≡ false) names)
     (λ folder silent. not_found (is_folder_of folder) names (nothing_mapped (λ name. faults.NestedName folder name) (find (is_folder_of folder) names) silent)) names
@@ -134,7 +134,7 @@ new_names x seen ys all = (
     neither true b none = absurd (true≢false none)
     neither false b none = (refl, none)
 
-no_repeat : (seen names : List (List ℕ)) → first_repeat seen names ≡ None
+pub no_repeat : (seen names : List (List ℕ)) → first_repeat seen names ≡ None
     → All (λ name. list_any (bytes_eq name) seen ≡ false) names × AllPairs (λ a b. bytes_eq a b ≡ false) names
 no_repeat seen [] none = (All-nil (λ name. list_any (bytes_eq name) seen ≡ false), tt)
 no_repeat seen (x ∷ xs) none =

@@ -12,3 +12,4 @@ pub mod Loops
 pub mod Walking
 pub mod Laws
 pub mod Limits
+pub mod Stated

@@ -1,16 +1,19 @@
 //! The faults that a flow's rules show one by one.
 ghost use Rattle.std.specs.Prelude.{◌≡◌, ◌∷◌, [], ◌++◌, ◌<◌, ◌^◌, ℕ, Option, Some, None};
-ghost use Rattle.std.specs.Prelude.{if◌then◌else◌, ⊤, All, IfOk, OnOk, find, length};
+ghost use Rattle.std.specs.Prelude.{if◌then◌else◌, ⊤, All, IfOk, OnOk, find, is_none, length, map, nat_lt};
 ghost use Rattle.std.specs.Option.{option_copied};
 ghost use Rattle.flow_types.specs.declared.flow.RawRule.{RawRule as RawRuleValue};
 ghost use Rattle.rule_graph.specs.declared.faults.GraphFault.{GraphFault as GraphFaultValue};
+ghost use Rattle.flow_types.specs.Plans.{most_inputs};
+ghost use Rattle.flow_types.specs.Names.{form_of};
+ghost use Rattle.rule_graph.specs.Flows.{names_of, raw_inputs, remote_text};
 ghost use Rattle.rule_graph.specs.Faults.{remotes, over_rules, too_many_ports, too_many};
 ghost use Rattle.rule_graph.specs.Faults.{is_no_name, file_texts, texts_of, bad_name};
 ghost use Rattle.rule_graph.specs.Faults.{no_output, remote_names, first_repeat, same_name};
 ghost use Rattle.rule_graph.specs.Checked.{HasNames, IsName};
 
 use crate::faults::GraphFault;
-use crate::raw::{RawPort, names_of, raw_inputs, raw_outputs};
+use crate::raw::{RawPort, form, raw_inputs, raw_outputs, remote_text};
 use flow_types::{Bytes, Name, NameFault, RawFile, RawFlow, RawRule, Rows, RuleNo, Text};
 use std::alloc::{AllocError, Global};
 use std::collections::BTreeSet;
@@ -59,6 +62,18 @@ pub(crate) fn over_rules<C: RuleCheck>(
     Ok(None)
 }
 
+// Whether a rule has more inputs than it may have. Only of one that states more are they told
+// apart.
+fn has_many_inputs(alloc: Global, rule: &RawRule) -> Result<bool, AllocError>
+    ensures { IfOk result (λ many. many ≡ nat_lt most_inputs (length (raw_inputs rule.now))) }
+{
+    if rule.inputs.len() <= MOST_INPUTS as usize {
+        return Ok(false);
+    }
+    let inputs = raw_inputs(alloc, rule)?;
+    Ok(inputs.len() > MOST_INPUTS as usize)
+}
+
 // A rule with more inputs or outputs than it may have.
 pub(crate) struct TooManyPorts;
 
@@ -72,8 +87,7 @@ impl RuleCheck for TooManyPorts {
         _number: RuleNo,
         rule: &RawRule,
     ) -> Result<Option<GraphFault>, AllocError> {
-        let inputs = raw_inputs(alloc, rule)?;
-        if inputs.len() > MOST_INPUTS as usize {
+        if has_many_inputs(alloc, rule)? {
             return Ok(Some(GraphFault::TooMany(MOST_INPUTS)));
         }
         if rule.outputs.len() > MOST_OUTPUTS as usize {
@@ -83,13 +97,17 @@ impl RuleCheck for TooManyPorts {
     }
 }
 
-pub(crate) fn too_many(alloc: Global, flow: &RawFlow) -> Result<Option<GraphFault>, AllocError>
+pub(crate) fn too_many(
+    alloc: Global,
+    flow: &RawFlow,
+    names: &[Bytes],
+) -> Result<Option<GraphFault>, AllocError>
+    requires { names.now ≡ names_of flow.now }
     ensures { IfOk result (λ fault. fault ≡ too_many flow.now) }
 {
     if flow.rules.len() > MOST_RULES as usize {
         return Ok(Some(GraphFault::TooMany(MOST_RULES)));
     }
-    let names = names_of(alloc, flow)?;
     if names.len() > MOST_FILES as usize {
         return Ok(Some(GraphFault::TooMany(MOST_FILES)));
     }
@@ -232,6 +250,37 @@ fn repeated<'a>(alloc: Global, names: &'a [Bytes]) -> Result<Option<&'a Bytes>, 
     Ok(None)
 }
 
+// Puts the files' remote names behind the names, as often as they stand.
+fn add_stated(
+    alloc: Global,
+    names: &mut Vec<Bytes>,
+    files: &Rows<RawFile>,
+) -> Result<(), AllocError>
+    ensures { OnOk result (names.new.items
+        ≡ names.old.items ++ map (λ file. form_of (remote_text file)) files.now) }
+{
+    for file in files.as_slice() {
+        names.push(form(alloc, remote_text(file))?)?;
+    }
+    Ok(())
+}
+
+// Whether the files that a rule states have remote names of their own each, so that no two of its
+// inputs are one.
+fn has_own_remotes(alloc: Global, rule: &RawRule) -> Result<bool, AllocError>
+    ensures { IfOk result (λ own. own ≡ is_none (first_repeat []
+        (map (λ file. form_of (remote_text file)) rule.now.outputs
+        ++ map (λ file. form_of (remote_text file)) rule.now.inputs))) }
+{
+    let mut names = Vec::new(alloc);
+    add_stated(alloc, &mut names, &rule.outputs)?;
+    add_stated(alloc, &mut names, &rule.inputs)?;
+    match repeated(alloc, &names)? {
+        Some(_) => Ok(false),
+        None => Ok(true),
+    }
+}
+
 // A rule of which two ports have one remote name.
 pub(crate) struct SameNames;
 
@@ -245,6 +294,9 @@ impl RuleCheck for SameNames {
         number: RuleNo,
         rule: &RawRule,
     ) -> Result<Option<GraphFault>, AllocError> {
+        if has_own_remotes(alloc, rule)? {
+            return Ok(None);
+        }
         let names = remote_names(alloc, rule)?;
         match repeated(alloc, &names)? {
             Some(name) => Ok(Some(GraphFault::SameName(number, name_from(alloc, name)?))),

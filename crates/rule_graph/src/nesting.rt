@@ -1,17 +1,19 @@
 //! Names that are folders of other names.
 ghost use Rattle.std.specs.Prelude.{◌≡◌, ◌∷◌, [], ◌++◌, ◌<◌, ◌≤◌, ◌^◌, ℕ, false};
-ghost use Rattle.std.specs.Prelude.{true, All, IfOk, find, length, nat_eq};
-ghost use Rattle.std.specs.List.{list_any, starts_with};
+ghost use Rattle.std.specs.Prelude.{true, All, IfOk, find, is_none, length, nat_eq};
+ghost use Rattle.std.specs.List.{list_all, list_any, starts_with};
 ghost use Rattle.std.specs.Option.{option_copied};
 ghost use Rattle.flow_types.specs.Plans.{is_name_less};
+ghost use Rattle.rule_graph.specs.Flows.{names_of};
 ghost use Rattle.rule_graph.specs.Faults.{nested_under, nested_in, nested_name, remote_names};
 ghost use Rattle.rule_graph.specs.Checked.{HasNames, IsName, IsAscending};
 ghost use Rattle.rule_graph.specs.Checked.{HasAll, ascending, stands_before};
+ghost use Rattle.rule_graph.specs.Stated.{IsNestedByRemotes};
 
 use crate::checks::{RuleCheck, name_from, over_rules, remote_names};
 use crate::faults::GraphFault;
-use crate::raw::{listed, names_of};
-use flow_types::{Bytes, RawFlow, RawRule, RuleNo};
+use crate::raw::listed;
+use flow_types::{Bytes, RawFile, RawFlow, RawRule, Rows, RuleNo};
 use std::alloc::{AllocError, Global};
 use std::collections::BTreeSet;
 
@@ -133,19 +135,35 @@ fn ascending(alloc: Global, names: &[Bytes]) -> Result<Vec<Bytes>, AllocError>
     listed(alloc, sorted)
 }
 
-// A rule of which one remote name is a folder of another.
+// Whether no file has a remote text.
+fn has_no_remote(files: &Rows<RawFile>) -> bool
+    ensures { result ≡ list_all (λ file. is_none file.remote) files.now }
+{
+    for file in files.as_slice() {
+        if file.remote.is_some() {
+            return false;
+        }
+    }
+    true
+}
+
+// A rule of which one remote name is a folder of another. One without remote texts is known to be
+// none, since its names are those of files, of which none is nested.
 struct NestedRemotes;
 
 impl RuleCheck for NestedRemotes {
     ghost says = { λ r rule. nested_in (remote_names rule) };
 
-    ghost fits = { HasNames };
+    ghost fits = { IsNestedByRemotes };
 
     fn fault(
         alloc: Global,
         _number: RuleNo,
         rule: &RawRule,
     ) -> Result<Option<GraphFault>, AllocError> {
+        if has_no_remote(&rule.outputs) && has_no_remote(&rule.inputs) {
+            return Ok(None);
+        }
         let names = remote_names(alloc, rule)?;
         let sorted = ascending(alloc, &names)?;
         nested_in(alloc, &sorted, &names)
@@ -153,13 +171,17 @@ impl RuleCheck for NestedRemotes {
 }
 
 // Names of files before remote names.
-pub(crate) fn nested_name(alloc: Global, flow: &RawFlow) -> Result<Option<GraphFault>, AllocError>
+pub(crate) fn nested_name(
+    alloc: Global,
+    flow: &RawFlow,
+    names: &[Bytes],
+) -> Result<Option<GraphFault>, AllocError>
+    requires of_flow { names.now ≡ names_of flow.now }
     requires count { length flow.now.rules < 2 ^ 32 }
     requires names { All HasNames flow.now.rules }
     ensures { IfOk result (λ fault. fault ≡ nested_name flow.now) }
 {
-    let names = names_of(alloc, flow)?;
-    let fault = nested_in(alloc, &names, &names)?;
+    let fault = nested_in(alloc, names, names)?;
     if fault.is_some() {
         return Ok(fault);
     }

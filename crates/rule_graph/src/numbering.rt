@@ -2,16 +2,16 @@
 ghost use Rattle.std.specs.Prelude.{◌≡◌, ◌++◌, ◌≤◌, IfOk, OnOk, All, length, map, position};
 ghost use Rattle.std.specs.Str.{bytes_eq};
 ghost use Rattle.flow_types.specs.Plans.{most_rules};
-ghost use Rattle.rule_graph.specs.Flows.{has_local, is_text_of, is_taken, is_named_kept};
-ghost use Rattle.rule_graph.specs.Flows.{stated_bound};
+ghost use Rattle.rule_graph.specs.Flows.{is_text_of, is_taken, is_named_kept, stated_bound};
+ghost use Rattle.rule_graph.specs.Stated.{has_file};
 ghost use Rattle.rule_graph.specs.Faults.{or_else, makings, second_maker};
 ghost use Rattle.rule_graph.specs.Checked.{IsAscending, IsName};
 ghost use Rattle.rule_graph.specs.Numbering.{AreFirst, GoesBack, IsClash, IsMakingAmong};
 ghost use Rattle.rule_graph.specs.Numbering.{Marks, Sets, Tells, port_makings};
 
 use crate::faults::GraphFault;
-use crate::raw::{RawPort, raw_inputs, raw_outputs};
-use flow_types::{Bytes, Name, NameFault, RawFlow, RuleNo, Text};
+use crate::raw::{RawPort, raw_outputs};
+use flow_types::{Bytes, Name, NameFault, RawFile, RawFlow, Rows, RuleNo, Text, form_of};
 use std::alloc::{AllocError, Global};
 use std::cmp::Ordering;
 
@@ -81,14 +81,22 @@ pub(crate) fn look<T: Copy>(names: &[Bytes], table: &[T], name: &[u8]) -> Option
     }
 }
 
-// Marks the files of these ports.
-fn mark_ports(names: &[Bytes], table: &mut [bool], ports: &[RawPort])
+// Marks these files.
+fn mark_files(
+    alloc: Global,
+    names: &[Bytes],
+    table: &mut [bool],
+    files: &Rows<RawFile>,
+) -> Result<(), AllocError>
     requires { IsAscending names.now }
-    ensures { Marks names.now table.old table.new (λ n. has_local n ports.now) }
+    ensures { OnOk result (Marks names.now table.old table.new
+        (λ n. has_file n files.now)) }
 {
-    for port in ports {
-        put(names, table, port.local.as_slice(), true);
+    for file in files.as_slice() {
+        let name = form_of(alloc, file.local.as_str().as_bytes())?;
+        put(names, table, name.as_slice(), true);
     }
+    Ok(())
 }
 
 // Whether a rule takes each file in.
@@ -102,8 +110,7 @@ pub(crate) fn taken_of(
 {
     let mut table = same_of_all(alloc, names, false)?;
     for rule in flow.rules.as_slice() {
-        let inputs = raw_inputs(alloc, rule)?;
-        mark_ports(names, &mut table, &inputs);
+        mark_files(alloc, names, &mut table, &rule.inputs)?;
     }
     Ok(table)
 }

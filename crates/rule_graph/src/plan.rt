@@ -9,6 +9,7 @@ ghost use Rattle.rule_graph.specs.Loops.{IsNumbered};
 use crate::cycle::loop_of;
 use crate::early::early_fault;
 use crate::faults::GraphFault;
+use crate::raw::names_of;
 use crate::rows::numbered;
 use flow_types::{Plan, RawFlow, Rows};
 use std::alloc::{AllocError, Global};
@@ -32,11 +33,12 @@ pub fn plan_of(alloc: Global, flow: RawFlow) -> Result<Plan, GraphFault>
 pub(crate) fn planned(alloc: Global, flow: RawFlow) -> Result<Result<Plan, GraphFault>, AllocError>
     ensures { IfOk result (λ answer. answer ≡ plan_of flow) }
 {
-    match early_fault(alloc, &flow)? {
+    let names = names_of(alloc, &flow)?;
+    match early_fault(alloc, &flow, &names)? {
         None => {}
         Some(fault) => return Ok(Err(fault)),
     }
-    let plan = match numbered(alloc, flow)? {
+    let plan = match numbered(alloc, flow, names)? {
         Ok(plan) => plan,
         Err(fault) => return Ok(Err(fault)),
     };

@@ -26,7 +26,7 @@ pub(crate) fn remote_text(file: &RawFile) -> &[u8]
     }
 }
 
-fn form(alloc: Global, text: &[u8]) -> Result<Bytes, AllocError>
+pub(crate) fn form(alloc: Global, text: &[u8]) -> Result<Bytes, AllocError>
     ensures { IfOk result (λ form. form ≡ form_of text.now) }
 {
     let bytes = form_of(alloc, text)?;
@@ -89,8 +89,8 @@ pub(crate) fn names_of(alloc: Global, flow: &RawFlow) -> Result<Vec<Bytes>, Allo
 {
     let mut names = BTreeSet::new(alloc);
     for rule in flow.rules.as_slice() {
-        add_names(&mut names, raw_outputs(alloc, rule)?)?;
-        add_names(&mut names, raw_inputs(alloc, rule)?)?;
+        add_names(alloc, &mut names, &rule.outputs)?;
+        add_names(alloc, &mut names, &rule.inputs)?;
     }
     listed(alloc, names)
 }
@@ -106,12 +106,17 @@ pub(crate) fn listed(alloc: Global, names: BTreeSet<Vec<u8>>) -> Result<Vec<Byte
     Ok(texts)
 }
 
-fn add_names(names: &mut BTreeSet<Vec<u8>>, ports: Vec<RawPort>) -> Result<(), AllocError>
-    ensures { OnOk result (names_in names.new ≡ fold with_port (names_in names.old) ports.items) }
+// Puts the files' own names among the names.
+fn add_names(
+    alloc: Global,
+    names: &mut BTreeSet<Vec<u8>>,
+    files: &Rows<RawFile>,
+) -> Result<(), AllocError>
+    ensures { OnOk result (names_in names.new
+        ≡ fold with_port (names_in names.old) (map raw_port files.now)) }
 {
-    for port in ports {
-        let RawPort { local, remote: _ } = port;
-        names.insert(local.into_vec())?;
+    for file in files.as_slice() {
+        names.insert(form_of(alloc, file.local.as_str().as_bytes())?)?;
     }
     Ok(())
 }

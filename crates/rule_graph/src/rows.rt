@@ -15,7 +15,7 @@ use crate::numbering::{
     MOST_BYTES, Makers, bounds_of, kept_of, look, makers_of, makings_of, name_of, place_of,
     taken_of,
 };
-use crate::raw::{RawPort, names_of, raw_inputs, raw_outputs};
+use crate::raw::{RawPort, raw_inputs, raw_outputs};
 use flow_types::{Bytes, FileNo, FileRow, Plan, Port, RawFlow, RawRule, Rows, Rule, RuleNo};
 use std::alloc::{AllocError, Global};
 
@@ -158,7 +158,12 @@ fn rules_of(alloc: Global, tables: &Tables, raw: Rows<RawRule>) -> Result<Rows<R
 }
 
 // What the flow says of each file, where no file has two makers.
-fn tables_of(alloc: Global, flow: &RawFlow) -> Result<Result<Tables, GraphFault>, AllocError>
+fn tables_of(
+    alloc: Global,
+    flow: &RawFlow,
+    names: Vec<Bytes>,
+) -> Result<Result<Tables, GraphFault>, AllocError>
+    requires of_flow { names.items ≡ names_of flow.now }
     requires few { length flow.now.rules ≤ most_rules }
     requires names { All HasNames flow.now.rules }
     ensures fault { IfOk result
@@ -168,7 +173,6 @@ fn tables_of(alloc: Global, flow: &RawFlow) -> Result<Result<Tables, GraphFault>
     ensures level { IfOk result (λ made. IfOk made AreLevel) }
     ensures tables { IfOk result (λ made. IfOk made (AreOf flow.now)) }
 {
-    let names = names_of(alloc, flow)?;
     let makings = makings_of(alloc, flow)?;
     let makers = makers_of(alloc, &names, &makings)?;
     let Makers { fault, first } = makers;
@@ -188,14 +192,19 @@ fn tables_of(alloc: Global, flow: &RawFlow) -> Result<Result<Tables, GraphFault>
 }
 
 /// The plan of a flow whose ports have names, or the fault of two makers of one file.
-pub(crate) fn numbered(alloc: Global, flow: RawFlow) -> Result<Result<Plan, GraphFault>, AllocError>
+pub(crate) fn numbered(
+    alloc: Global,
+    flow: RawFlow,
+    names: Vec<Bytes>,
+) -> Result<Result<Plan, GraphFault>, AllocError>
+    requires of_flow { names.items ≡ names_of flow }
     requires few_rules { length flow.rules ≤ most_rules }
     requires few_files { length (names_of flow) ≤ most_files }
     requires names { All HasNames flow.rules }
     ensures plan { IfOk result (λ made. made ≡ numbered flow) }
     ensures numbered { IfOk result (λ made. IfOk made IsNumberedPlan) }
 {
-    let tables = match tables_of(alloc, &flow)? {
+    let tables = match tables_of(alloc, &flow, names)? {
         Ok(tables) => tables,
         Err(fault) => return Ok(Err(fault)),
     };

@@ -12,26 +12,26 @@ use Rattle.rule_graph.proofs.Tables.{map_same}
 use Rattle.rule_graph.proofs.rows.tables_of.Goals as goal
 
 pub makers_of-requires-clause-ascending : goal.makers_of-requires-clause-ascending
-makers_of-requires-clause-ascending c = subst IsAscending (sym (c.deref.ensures.value ∙ c.in_ok-names.ensures)) (names_ascending c.args.flow.now)
+makers_of-requires-clause-ascending c = subst IsAscending (sym (c.deref.ensures.value ∙ c.requires.of_flow)) (names_ascending c.args.flow.now)
 
 pub makers_of-requires-clause-among : goal.makers_of-requires-clause-among
 makers_of-requires-clause-among c =
-    subst (λ names. All (IsMakingAmong names) c.deref-2.result.now) (sym (c.deref.ensures.value ∙ c.in_ok-names.ensures))
+    subst (λ names. All (IsMakingAmong names) c.deref-2.result.now) (sym (c.deref.ensures.value ∙ c.requires.of_flow))
     (subst (λ all. All (IsMakingAmong (names_of c.args.flow.now)) all) (sym (c.deref-2.ensures.value ∙ c.in_ok-makings.ensures)) (makings_among c.args.flow.now c.requires.names))
 
 pub taken_of-requires : goal.taken_of-requires
-taken_of-requires c = subst IsAscending (sym (c.deref-3.ensures.value ∙ c.in_ok-names.ensures)) (names_ascending c.args.flow.now)
+taken_of-requires c = subst IsAscending (sym (c.deref-3.ensures.value ∙ c.requires.of_flow)) (names_ascending c.args.flow.now)
 
 pub kept_of-requires : goal.kept_of-requires
-kept_of-requires c = subst IsAscending (sym (c.deref-4.ensures.value ∙ c.in_ok-names.ensures)) (names_ascending c.args.flow.now)
+kept_of-requires c = subst IsAscending (sym (c.deref-4.ensures.value ∙ c.requires.of_flow)) (names_ascending c.args.flow.now)
 
 pub bounds_of-requires : goal.bounds_of-requires
-bounds_of-requires c = subst IsAscending (sym (c.deref-5.ensures.value ∙ c.in_ok-names.ensures)) (names_ascending c.args.flow.now)
+bounds_of-requires c = subst IsAscending (sym (c.deref-5.ensures.value ∙ c.requires.of_flow)) (names_ascending c.args.flow.now)
 
 pub returns-clause-level : goal.returns-clause-level
 returns-clause-level c =
-    let names : List (List ℕ) = c.in_ok-names.names.items in
-    let is : names ≡ names_of c.args.flow.now = c.in_ok-names.ensures in
+    let names : List (List ℕ) = c.args.names.items in
+    let is : names ≡ names_of c.args.flow.now = c.requires.of_flow in
     record {
       ascending = subst IsAscending (sym is) (names_ascending c.args.flow.now);
       names = subst (λ xs. All IsName xs) (sym is) (names_named c.args.flow.now c.requires.names);
@@ -43,7 +43,7 @@ returns-clause-level c =
 
 pub returns-clause-tables : goal.returns-clause-tables
 returns-clause-tables c =
-    let is : c.in_ok-names.names.items ≡ names_of c.args.flow.now = c.in_ok-names.ensures in
+    let is : c.args.names.items ≡ names_of c.args.flow.now = c.requires.of_flow in
     record {
       names = is;
       makers = c.in_ok-makers.ensures.first

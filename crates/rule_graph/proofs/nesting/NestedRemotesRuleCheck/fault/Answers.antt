@@ -17,4 +17,4 @@ nested_in-requires-clause-all c =
 
 pub nested_in-requires-clause-names : goal.nested_in-requires-clause-names
 nested_in-requires-clause-names c =
-    subst (All IsName) (sym (c.deref-3.ensures.value ∙ c.in_ok-names.ensures)) (remotes_named c.args.rule.now c.requires)
+    subst (All IsName) (sym (c.deref-3.ensures.value ∙ c.in_ok-names.ensures)) (remotes_named c.args.rule.now c.requires.named)
