@@ -1,7 +1,6 @@
 -- What putting a content does to the counts, and where the content is found.
-use Rattle.std.proofs.Common.{◌≡◌, ℕ, zero, suc, ◌+◌, ◌-◌, ◌≤◌, Bool, true, false, not, cond, eqb, List, [], ◌∷◌, ◌++◌, length, Option, Some, None, inl, inr, Result, Ok, Err, OnOk, OnErr, is_some, zero, suc, refl, sym, ap, ◌∙◌, arith}
-use Rattle.std.specs.Prelude.{slice_get, remove, position}
-use Rattle.std.specs.Option.{option_map_or}
+use Rattle.std.proofs.Common.{◌≡◌, ℕ, ◌+◌, ◌-◌, ◌≤◌, Bool, true, false, not, cond, eqb, List, [], ◌∷◌, ◌++◌, length, Option, Some, None, inl, inr, Result, Ok, Err, OnOk, OnErr, refl, sym, ap, ◌∙◌, arith}
+use Rattle.std.specs.Prelude.{slice_get, remove}
 use Rattle.std.specs.List.{IsDistinct}
 use Rattle.std.specs.Result.{is_err}
 use Rattle.std.specs.Map.{keys_of}
@@ -10,10 +9,11 @@ use Rattle.flow_types.specs.declared.messages.Key.{Key}
 use Rattle.worker_cache.specs.declared.held.Held.{Held}
 use Rattle.worker_cache.specs.declared.fault.PutRefused.TheVariants as refused
 use Rattle.worker_cache.specs.Answers.{Puts}
-use Rattle.worker_cache.specs.Caches.{Cached, Rows, same_key, place, newest, made_last, set_value_at, changed_at, row_at, bytes_in, is_pinned, pinned_in, kept_bytes, pinned_bytes, bytes_of, all_pinned, is_full, new_row, renewed, without, row_for, placed, make_room, put_in, content_of, content_in, is_linked, if_linked, held_in, held_of, held_bytes, has_pins}
-use Rattle.worker_cache.specs.Tables.{at_place}
+use Rattle.worker_cache.specs.Caches.{Cached, Rows, same_key, place, row_at, bytes_in, is_pinned, pinned_in, kept_bytes, pinned_bytes, bytes_of, all_pinned, is_full, new_row, renewed, without, row_for, placed, make_room, put_in, content_of, content_in, is_linked, if_linked, held_in, held_of, held_bytes, has_pins}
+use Rattle.worker_cache.specs.Tables.{leaving, without_all}
 use Rattle.worker_cache.proofs.Weights.{of_joined, of_removed}
-use Rattle.worker_cache.proofs.Counts.{pinned_le, room_by, last_stays}
+use Rattle.worker_cache.proofs.Counts.{pinned_le, room_by, room_fits, last_stays}
+use Rattle.worker_cache.proofs.Leaving.{leaving_others, distinct_others, are_gone}
 use Rattle.worker_cache.proofs.Places.{same_self, HasNone, StandsAt, stands, here, there, kept_own, kept_all, next}
 
 -- ---- the row that is put
@@ -25,6 +25,8 @@ pub record IsPut (key : Key) (content : List ℕ) (rows : Rows) : Type 0 where
   old : Option (Key × Held)
   parts : placed key content rows ≡ others ++ last ∷ []
   none : HasNone key others
+  apart : IsDistinct same_key (keys_of others)
+  leaves : (excess : ℕ) → leaving key excess rows ≡ leaving key excess others
   same : same_key key last.0 ≡ true
   is : last.1.content ≡ content
   linked : last.1.unlinked ≡ false
@@ -34,8 +36,8 @@ pub record IsPut (key : Key) (content : List ℕ) (rows : Rows) : Type 0 where
   pins : all_pinned others + cond (has_pins (held_in old)) (held_bytes (held_in old)) 0 ≡ all_pinned rows
   pinned : pinned_in last ≡ cond (has_pins (held_in old)) (length content) 0
 
-put_new : (key : Key) (content : List ℕ) (rows : Rows) → (let none : Option ℕ = None in place key rows ≡ none) → HasNone key rows → IsPut key content rows
-put_new key content rows e none =
+put_new : (key : Key) (content : List ℕ) (rows : Rows) → (let none : Option ℕ = None in place key rows ≡ none) → HasNone key rows → IsDistinct same_key (keys_of rows) → IsPut key content rows
+put_new key content rows e none d =
     let old : Option (Key × Held) = None in
     let was : row_at rows (place key rows) ≡ old = ap (row_at rows) e in
     record {
@@ -44,6 +46,8 @@ put_new key content rows e none =
       old = old;
       parts = ap (λ (at : Option ℕ). without at rows ++ row_for key content (row_at rows at) ∷ []) e;
       none = none;
+      apart = d;
+      leaves = λ excess. refl;
       same = same_self key;
       is = refl;
       linked = refl;
@@ -54,8 +58,8 @@ put_new key content rows e none =
       pinned = refl;
     }
 
-put_again : (key : Key) (content : List ℕ) (rows : Rows) (at : ℕ) (row : Key × Held) → StandsAt key rows at row → IsPut key content rows
-put_again key content rows at row h =
+put_again : (key : Key) (content : List ℕ) (rows : Rows) (at : ℕ) (row : Key × Held) → StandsAt key rows at row → IsDistinct same_key (keys_of rows) → IsPut key content rows
+put_again key content rows at row h d =
     let others = remove rows at in
     let old : Option (Key × Held) = Some row in
     let was : row_at rows (place key rows) ≡ old = ap (row_at rows) h.found ∙ h.got in
@@ -70,6 +74,8 @@ put_again key content rows at row h =
           ap (λ (f : Option ℕ). without f rows ++ row_for key content (row_at rows f) ∷ []) h.found
           ∙ ap (λ (r : Option (Key × Held)). others ++ row_for key content r ∷ []) h.got;
       none = h.others;
+      apart = distinct_others rows at d;
+      leaves = λ excess. sym (leaving_others key excess rows at row h.got h.same);
       same = h.same;
       is = refl;
       linked = refl;
@@ -83,8 +89,8 @@ put_again key content rows at row h =
 pub is_put : (key : Key) (content : List ℕ) (rows : Rows) → IsDistinct same_key (keys_of rows) → IsPut key content rows
 is_put key content rows d =
     elim (stands key rows d) [
-      | inl none ↦ put_new key content rows none.0 none.1
-      | inr some ↦ put_again key content rows some.0 some.1 some.2
+      | inl none ↦ put_new key content rows none.0 none.1 d
+      | inr some ↦ put_again key content rows some.0 some.1 some.2 d
     ]
 
 -- ---- the counts
@@ -102,6 +108,10 @@ pub new_pins : (key : Key) (content : List ℕ) (rows : Rows) → IsPut key cont
     → all_pinned (placed key content rows) ≡ pinned_bytes key rows + cond (has_pins (held_of key rows)) (length content) 0
 new_pins key content rows p =
     omega (arith, ap all_pinned p.parts, of_joined pinned_in p.others (p.last ∷ []), p.pinned, p.kept, ap (λ (r : Option (Key × Held)). cond (has_pins (held_in r)) (length content) 0) p.was)
+
+pub some_le : (is : Bool) (n some : ℕ) → some ≡ cond is n 0 → some ≤ n
+some_le true n some e = omega (arith, e)
+some_le false n some e = omega (arith, e)
 
 -- ---- where the content is found
 
@@ -137,18 +147,43 @@ found_last key rows last h e linked =
 enough : (pins bytes old more content cap : ℕ) → pins + content ≤ cap → pins ≤ bytes → more ≡ bytes + content → (more - cap) + pins ≤ bytes
 enough pins bytes old more content cap room le sum = omega (arith, room, le, sum)
 
-pub found_put : (cap : ℕ) (key : Key) (content : List ℕ) (rows : Rows) → IsPut key content rows → is_full key (length content) cap rows ≡ false
-    → content_of key (put_in cap key content rows) ≡ Some content
-found_put cap key content rows p full =
+-- The row that is put stays.
+put_stays : (cap : ℕ) (key : Key) (content : List ℕ) (rows : Rows) (p : IsPut key content rows) → is_full key (length content) cap rows ≡ false
+    → put_in cap key content rows ≡ make_room (bytes_of (placed key content rows) - cap) p.others ++ p.last ∷ []
+put_stays cap key content rows p full =
     let all = placed key content rows in
     let excess = bytes_of all - cap in
     let room = ltb-false cap (pinned_bytes key rows + length content) full in
     let sum : bytes_of all ≡ bytes_of p.others + length content =
     omega (arith, ap bytes_of p.parts, of_joined bytes_in p.others (p.last ∷ []), ap (λ (c : List ℕ). length c) p.is) in
     let few = enough (all_pinned p.others) (bytes_of p.others) 0 (bytes_of all) (length content) cap (omega (arith, room, p.kept)) (pinned_le p.others) sum in
-    let made : make_room excess all ≡ make_room excess p.others ++ p.last ∷ [] =
-    ap (make_room excess) p.parts ∙ last_stays excess p.others p.last few in
-    ap (content_of key) made ∙ found_last key (make_room excess p.others) p.last (room_none key excess p.others p.none) p.same p.linked ∙ ap (λ (c : List ℕ). Some c) p.is
+    ap (make_room excess) p.parts ∙ last_stays excess p.others p.last few
+
+-- What is left fits the limit.
+pub put_fits : (cap : ℕ) (key : Key) (content : List ℕ) (rows : Rows) → IsPut key content rows → is_full key (length content) cap rows ≡ false
+    → bytes_of (put_in cap key content rows) ≤ cap
+put_fits cap key content rows p full =
+    let all = placed key content rows in
+    let room = ltb-false cap (pinned_bytes key rows + length content) full in
+    let pins : all_pinned all ≤ cap = omega (arith, new_pins key content rows p, some_le (has_pins (held_of key rows)) (length content) (cond (has_pins (held_of key rows)) (length content) 0) refl, room) in
+    room_fits cap all pins
+
+pub found_put : (cap : ℕ) (key : Key) (content : List ℕ) (rows : Rows) → IsPut key content rows → is_full key (length content) cap rows ≡ false
+    → content_of key (put_in cap key content rows) ≡ Some content
+found_put cap key content rows p full =
+    let excess = bytes_of (placed key content rows) - cap in
+    ap (content_of key) (put_stays cap key content rows p full)
+    ∙ found_last key (make_room excess p.others) p.last (room_none key excess p.others p.none) p.same p.linked ∙ ap (λ (c : List ℕ). Some c) p.is
+
+-- The rows that leave are noted before the content is put.
+gone_put : (cap : ℕ) (key : Key) (content : List ℕ) (rows : Rows) → IsPut key content rows → is_full key (length content) cap rows ≡ false
+    → without_all (leaving key (bytes_of (placed key content rows) - cap) rows) (placed key content rows) ≡ put_in cap key content rows
+gone_put cap key content rows p full =
+    let excess = bytes_of (placed key content rows) - cap in
+    ap (λ (keys : List Key). without_all keys (placed key content rows)) (p.leaves excess)
+    ∙ ap (without_all (leaving key excess p.others)) p.parts
+    ∙ are_gone key excess p.last p.others p.none p.apart
+    ∙ sym (put_stays cap key content rows p full)
 
 -- ---- what `put` counts
 
@@ -175,10 +210,6 @@ pins_are key content rows made kept n some is p pins k len s e =
     s ∙ ap (λ (b : Bool). cond b n 0) pins ∙ ap (λ (m : ℕ). cond (has_pins (held_of key rows)) m 0) len in
     omega (arith, new_pins key content rows p, k, same, ap all_pinned e)
 
-pub some_le : (is : Bool) (n some : ℕ) → some ≡ cond is n 0 → some ≤ n
-some_le true n some e = omega (arith, e)
-some_le false n some e = omega (arith, e)
-
 -- ---- what `put` answers
 
 abbrev shown : ℕ → Rows → Cached
@@ -196,10 +227,14 @@ pub puts_done : (key : Key) (content : List ℕ) (cap : ℕ) (rows made : Rows) 
     → Puts (is_full key (length content) cap rows) key content (shown cap rows) (Ok tt) (shown cap made)
 puts_done key content cap rows made full e = rw full (ap (shown cap) e)
 
-pub made_is : (cap total : ℕ) (key : Key) (content : List ℕ) (rows placed_rows made : Rows) → placed_rows ≡ placed key content rows → total ≡ bytes_of placed_rows
-    → made ≡ make_room (total - cap) placed_rows → made ≡ put_in cap key content rows
-made_is cap total key content rows placed_rows made p t e =
-    e ∙ ap (λ (n : ℕ). make_room (n - cap) placed_rows) t ∙ ap (λ (r : Rows). make_room (bytes_of r - cap) r) p
+pub made_is : (cap total over : ℕ) (key : Key) (content : List ℕ) (rows made : Rows) (keys : List Key) → IsPut key content rows
+    → is_full key (length content) cap rows ≡ false → made ≡ placed key content rows → total ≡ bytes_of made → over ≡ total - cap
+    → keys ≡ leaving key over rows → without_all keys made ≡ put_in cap key content rows
+made_is cap total over key content rows made keys p full is sum e noted =
+    let less : over ≡ bytes_of (placed key content rows) - cap = e ∙ ap (λ (n : ℕ). n - cap) (sum ∙ ap bytes_of is) in
+    ap (λ (ks : List Key). without_all ks made) (noted ∙ ap (λ (n : ℕ). leaving key n rows) less)
+    ∙ ap (without_all (leaving key (bytes_of (placed key content rows) - cap) rows)) is
+    ∙ gone_put cap key content rows p full
 
 pub of_err : {T E : Type 0} (r : Result T E) (A : Type 0) → is_err r ≡ true → OnErr r A → A
 of_err (Ok x) A e h = absurd cc

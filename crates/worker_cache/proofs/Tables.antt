@@ -1,5 +1,5 @@
 -- A table's words by key, as places in its rows.
-use Rattle.std.proofs.Common.{◌≡◌, ℕ, ◌+◌, ◌-◌, ◌<◌, ◌≤◌, Bool, true, false, cond, ltb, [], ◌∷◌, ◌++◌, length, take, Option, Some, None, refl, sym, ap, ◌∙◌, arith}
+use Rattle.std.proofs.Common.{◌≡◌, ℕ, ◌+◌, ◌-◌, ◌<◌, ◌≤◌, Bool, true, false, cond, [], ◌∷◌, ◌++◌, length, take, Option, Some, None, refl, sym, ap, ◌∙◌, arith}
 use Rattle.std.specs.Prelude.{slice_get}
 use Rattle.std.specs.Option.{option_map_or}
 use Rattle.std.specs.List.{IsDistinct}
@@ -10,7 +10,7 @@ use Rattle.std.proofs.lemmas.List.{take_all}
 use Rattle.flow_types.specs.declared.messages.Key.{Key}
 use Rattle.worker_cache.specs.declared.held.Held.{Held}
 use Rattle.worker_cache.specs.Caches.{Rows, same_key, place, row_at, held_in, without, made_last, newest, set_value_at, changed_at, with_pin, most_pins}
-use Rattle.worker_cache.specs.Tables.{at_place, first_loose, rows_in, most_rows}
+use Rattle.worker_cache.specs.Tables.{at_place, rows_in, most_rows}
 use Rattle.worker_cache.proofs.Places.{here, there, next, same_self}
 
 -- ---- the row of a key
@@ -49,7 +49,7 @@ held_is key (row ∷ rows) = held_by key row rows (same_key key row.0) refl (hel
 
 -- ---- a row that leaves, or is made the newest
 
-without_next : (row : Key × Held) (rows : Rows) (o : Option ℕ) → without (next o) (row ∷ rows) ≡ row ∷ without o rows
+pub without_next : (row : Key × Held) (rows : Rows) (o : Option ℕ) → without (next o) (row ∷ rows) ≡ row ∷ without o rows
 without_next row rows None = refl
 without_next row rows (Some at) = refl
 
@@ -161,12 +161,6 @@ added_is list after made key held none cap few put last =
     ∙ ap (λ (es : Rows). lru_cache (demoted (same_key key) es) list.cap) first
     ∙ ap (λ (es : Rows). lru_cache es list.cap) (first_demoted key held rows)
     ∙ ap (λ (n : ℕ). lru_cache (rows ++ (key, held) ∷ []) n) cap
-
-pub loose_here : (row : Key × Held) (rows : Rows) → row.1.pins ≡ 0 → first_loose (row ∷ rows) ≡ Some row
-loose_here row rows e = ap (λ (n : ℕ). cond (ltb 0 n) (first_loose rows) (Some row)) e
-
-pub pinned_here : (row : Key × Held) (rows : Rows) → 0 < row.1.pins → first_loose (row ∷ rows) ≡ first_loose rows
-pinned_here row rows h = ap (λ (b : Bool). cond b (first_loose rows) (Some row)) (lt-ltb 0 row.1.pins h)
 
 -- ---- a table's list
 

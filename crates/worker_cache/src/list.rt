@@ -1,12 +1,13 @@
 //! Rows of a list in which the oldest stands in front.
-ghost use Rattle.std.specs.Prelude.{◌≡◌, [], ◌∷◌, ◌++◌, None, OnOk, OnErr, option_copied, option_map};
+ghost use Rattle.std.specs.Prelude.{◌≡◌, [], ◌∷◌, ◌++◌, ◌<◌, None, IfOk, OnOk, OnErr, option_copied};
 ghost use Rattle.lru.specs.LruCache.{lru_cache};
-ghost use Rattle.worker_cache.specs.Caches.{held_of, place, without, newest, changed_at, with_pin, less_pin, with_mark, renewed};
-ghost use Rattle.worker_cache.specs.Tables.{at_place, first_loose, key_and_bytes, most_rows};
+ghost use Rattle.worker_cache.specs.Caches.{Rows, held_of, place, without, newest, changed_at, with_pin, less_pin, with_mark, renewed};
+ghost use Rattle.worker_cache.specs.Tables.{at_place, stays, leaving, most_rows};
 
 use crate::held::Held;
 use flow_types::{Bytes, Key, Memory};
 use lru::LruCache;
+use std::alloc::Global;
 
 /// What a key's row holds.
 pub(crate) fn held(list: &LruCache<Key, Held>, key: Key) -> Option<&Held>
@@ -95,14 +96,52 @@ pub(crate) fn renew(list: &mut LruCache<Key, Held>, key: Key, content: Bytes)
     }
 }
 
-/// The oldest row that isn't pinned, by its key and its bytes.
-pub(crate) fn oldest_loose(list: &LruCache<Key, Held>) -> Option<(Key, u64)>
-    ensures { result ≡ option_map key_and_bytes (first_loose list.now.entries) }
+// Whether a row stays for a content: it is the key's own, or pinned.
+fn stays(key: Key, other: Key, held: &Held) -> bool
+    ensures { result ≡ stays key (other, held.now) }
 {
-    for (key, held) in list.iter() {
-        if held.pins == 0 {
-            return Some((*key, held.content.as_slice().len() as u64));
-        }
+    key == other || held.pins > 0
+}
+
+// Notes a row's key where it leaves, and answers how many bytes are still to leave.
+fn note(
+    keys: &mut Vec<Key>,
+    key: Key,
+    other: Key,
+    held: &Held,
+    excess: u128,
+) -> Result<u128, Memory>
+    requires { 0 < excess }
+    ensures { IfOk result (λ left. (rows : Rows)
+        → keys.new.items ++ leaving key left rows
+        ≡ keys.old.items ++ leaving key excess ((other, held.now) ∷ rows)) }
+{
+    if stays(key, other, held) {
+        return Ok(excess);
     }
-    None
+    if keys.push(other).is_err() {
+        return Err(Memory);
+    }
+    Ok(excess.saturating_sub(held.content.as_slice().len() as u128))
+}
+
+/// The keys of the oldest rows that leave for a content under a key, as few as hold so many bytes
+/// together. It goes over the rows once, and ends at the last that leaves.
+pub(crate) fn leaving(
+    alloc: Global,
+    list: &LruCache<Key, Held>,
+    key: Key,
+    excess: u128,
+) -> Result<Vec<Key>, Memory>
+    ensures { IfOk result (λ keys. keys.items ≡ leaving key excess list.now.entries) }
+{
+    let mut keys = Vec::new(alloc);
+    let mut left = excess;
+    for (other, held) in list.iter() {
+        if left == 0 {
+            return Ok(keys);
+        }
+        left = note(&mut keys, key, *other, held, left)?;
+    }
+    Ok(keys)
 }

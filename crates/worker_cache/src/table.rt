@@ -1,10 +1,10 @@
 //! Rows by key, oldest first.
-ghost use Rattle.std.specs.Prelude.{◌≡◌, [], ◌∷◌, ◌++◌, None, IfOk, OnOk, OnErr, option_copied, option_map};
+ghost use Rattle.std.specs.Prelude.{◌≡◌, [], ◌∷◌, ◌++◌, None, IfOk, OnOk, OnErr, option_copied};
 ghost use Rattle.std.specs.List.{IsDistinct};
 ghost use Rattle.std.specs.Map.{keys_of};
 ghost use Rattle.lru.specs.LruCache.{lru_cache};
 ghost use Rattle.worker_cache.specs.Caches.{same_key, held_of, place, without, newest, changed_at, with_pin, less_pin, with_mark, renewed, all_pinned};
-ghost use Rattle.worker_cache.specs.Tables.{at_place, first_loose, key_and_bytes, most_rows};
+ghost use Rattle.worker_cache.specs.Tables.{at_place, leaving, most_rows};
 
 use crate::held::Held;
 use crate::list;
@@ -13,9 +13,9 @@ use lru::LruCache;
 use std::alloc::Global;
 use std::marker::Model;
 
-/// Rows by key, oldest first. The cost of each call but one doesn't grow with their number; finding
-/// the oldest that isn't pinned goes over the pinned ones that are older. Nothing is held before
-/// the first row comes.
+/// Rows by key, oldest first. The cost of each call but one doesn't grow with their number;
+/// `leaving` goes once over the rows up to the last that leaves. Nothing is held before the first
+/// row comes.
 #[derive(Drop)]
 pub struct Table {
     alloc: Global,
@@ -138,14 +138,15 @@ impl Table {
         list::renew(list, key, content);
     }
 
-    /// The oldest row that isn't pinned, by its key and its bytes.
-    pub(crate) fn oldest_loose(&self) -> Option<(Key, u64)>
-        ensures { result ≡ option_map key_and_bytes (first_loose self.now) }
+    /// The keys of the oldest rows that leave for a content under a key, as few as hold so many
+    /// bytes together.
+    pub(crate) fn leaving(&self, key: Key, excess: u128) -> Result<Vec<Key>, Memory>
+        ensures { IfOk result (λ keys. keys.items ≡ leaving key excess self.now) }
     {
         let Some(list) = &self.list else {
-            return None;
+            return Ok(Vec::new(self.alloc));
         };
-        list::oldest_loose(list)
+        list::leaving(self.alloc, list, key, excess)
     }
 
     /// How many rows there are, each under a key of its own.
