@@ -1,5 +1,5 @@
 -- Each move of a token keeps the balance of what was put and taken.
-use Rattle.std.proofs.Common.{◌≡◌, ◌≢◌, ◌⊎◌, inl, inr, ⊎_elim, ℕ, zero, suc, ◌+◌, ◌-◌, ◌/◌, ◌^◌, ◌<◌, ◌≤◌, List, [], ◌∷◌, ◌++◌, set, sym, refl, ap, ◌∙◌, subst, arith}
+use Rattle.std.proofs.Common.{◌≡◌, ◌≢◌, ◌⊎◌, inl, inr, ⊎_elim, ℕ, zero, suc, ◌+◌, ◌-◌, ◌/◌, ◌^◌, ◌<◌, ◌≤◌, List, [], ◌∷◌, ◌++◌, length, set, sym, refl, ap, ◌∙◌, subst, arith}
 use mathlib.Core.Option.{some, some-injective, some-ne-none}
 use lib.ListN.{get_elem?}
 use Rattle.crossbeam_queue.specs.Fifo.{Pushes, Pops, Forks, Merges, Learns}
@@ -101,6 +101,13 @@ module _ {A : Type 0} (weight : A → Tally) (f : Tally → ℕ) (adds : (a b : 
       let q = alone (λ u. f u.taken) views port v at all (λ j u e gone. ap f (idle j u e gone).1 ∙ nil) in
       omega (arith, p, q, even)
 
+  even_empty : (views : List Hand) (port : ℕ) (v : Hand) → get_elem? views port ≡ some v → weigh (λ u. u.parts) views ≡ v.parts → IdleIsEmpty views
+      → IsEven f weight [] views → f v.taken ≡ f v.put
+  even_empty views port v at all idle even =
+      let p = alone (λ u. f u.put) views port v at all (λ j u e gone. ap f (idle j u e gone).0 ∙ nil) in
+      let q = alone (λ u. f u.taken) views port v at all (λ j u e gone. ap f (idle j u e gone).1 ∙ nil) in
+      omega (arith, p, q, even)
+
 module _ {A : Type 0} (weight : A → Tally) (fact : A → Type 0) where
   abbrev unruns : Tally → ℕ
   unruns t = t.unrun
@@ -166,6 +173,16 @@ module _ {A : Type 0} (weight : A → Tally) (fact : A → Type 0) where
     even_alone weight unruns (λ a c. refl) refl views port v items at (b.0 ∙ sym whole) b.3 b.1,
     even_alone weight fails (λ a c. refl) refl views port v items at (b.0 ∙ sym whole) b.3 b.2,
   )
+
+  pub settles : (port : ℕ) (v : Hand) → v.parts ≡ 2 ^ 65 → Learns (Balanced weight fact) port v (λ items. length items ≡ 0 → v.taken ≡ v.put)
+  settles port v whole [] views b at long =
+      let p = even_empty weight unruns (λ a c. refl) refl views port v at (b.0 ∙ sym whole) b.3 b.1 in
+      let q = even_empty weight fails (λ a c. refl) refl views port v at (b.0 ∙ sym whole) b.3 b.2 in
+      λ i. record { unrun = p i; failed = q i }
+  settles port v whole (x ∷ items) views b at long = absurd (omega arith)
+
+  pub takes_last : (port : ℕ) (v : Hand) → 0 < v.parts → Pops (Balanced weight fact) port v (λ x w. fact x)
+  takes_last port v part x items views b at = let t = takes port v part x items views b at in (t.0, t.1, t.2.1)
 
   pub starts_balanced : Balanced weight fact [] (hand (2 ^ 65) none none ∷ [])
   starts_balanced = (

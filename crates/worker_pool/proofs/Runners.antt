@@ -23,11 +23,11 @@ module _ {R : Type 0} (tells : R → Job → Type 0) (sure : R → Type 0) where
   answered gives may_fail old new s job outcome a = (a.0, (λ t. a.1 (s.0 job t)), (λ u. a.2 (s.1 u)))
 
 -- a job that ended counts as a failed command exactly where it is one
-pub counts_failure : (outcome : Outcome) (before now : ℕ) → CountsFailure before now (Ok outcome) → (tally_of outcome).failed + before ≤ now
+pub counts_failure : (outcome : Outcome) (before now : ℕ) → CountsFailure before now (Ok outcome) → (tally_of outcome).failed + before ≡ now
 counts_failure (Success contents) before now counts = let same = counts.stood refl in omega (arith, same)
 counts_failure (Failed why) before now counts = let more = counts.rose refl in omega (arith, more)
 counts_failure NotRun before now counts = let same = counts.stood refl in omega (arith, same)
 
 -- a call that gave no outcome leaves that count
-pub stands : (fault : Fault) (before now : ℕ) → CountsFailure before now (Err fault) → before ≤ now
+pub stands : (fault : Fault) (before now : ℕ) → CountsFailure before now (Err fault) → before ≡ now
 stands fault before now counts = let same = counts.stood refl in omega (arith, same)

@@ -1,7 +1,9 @@
 pub mod Backs
 pub mod Courses
+pub mod Crews
 pub mod Hands
 pub mod Lists
+pub mod Pools
 pub mod Steers
 pub mod Tallies
 pub mod Tickets

@@ -1,5 +1,5 @@
 -- How many jobs weren't run, and how many failed.
-use Rattle.std.specs.Prelude.{◌≤◌, ◌+◌, ℕ}
+use Rattle.std.specs.Prelude.{◌≡◌, ◌≤◌, ◌+◌, ℕ}
 use Rattle.flow_types.specs.declared.job.Outcome.{Outcome}
 use Rattle.flow_types.specs.declared.job.Outcome.TheVariants.{Success, Failed, NotRun}
 use Rattle.worker_pool.specs.declared.hand.Tally.{Tally}
@@ -31,7 +31,12 @@ abbrev pub AreCounted : Tally → ℕ → ℕ → ℕ → ℕ → Type 0
 AreCounted jobs faults faults_now failures failures_now =
     (jobs.unrun + faults ≤ faults_now) × (jobs.failed + failures ≤ failures_now)
 
+-- At most as many jobs weren't run as the first count rose, and exactly as many failed as the second rose.
+abbrev pub AllFailuresCount : Tally → ℕ → ℕ → ℕ → ℕ → Type 0
+AllFailuresCount jobs faults faults_now failures failures_now =
+    (jobs.unrun + faults ≤ faults_now) × (jobs.failed + failures ≡ failures_now)
+
 -- The same of the jobs by which a tally grew.
 abbrev pub GrowsWith : Tally → Tally → ℕ → ℕ → ℕ → ℕ → Type 0
 GrowsWith before after faults faults_now failures failures_now =
-    (after.unrun + faults ≤ before.unrun + faults_now) × (after.failed + failures ≤ before.failed + failures_now)
+    (after.unrun + faults ≤ before.unrun + faults_now) × (after.failed + failures ≡ before.failed + failures_now)

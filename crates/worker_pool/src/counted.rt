@@ -48,6 +48,23 @@ impl<B: Terms> Outcome<Ran, Hand> for Takes<B> {
         × IsBack B.tickets B.fits r };
 }
 
+/// A report is taken that fits its start. Where there is none, as much was taken as was put.
+pub struct TakesLast<B> {
+    of: PhantomData<B>,
+}
+
+impl<B: Terms> Outcome<Ran, Hand> for TakesLast<B> {
+    ghost use Rattle.worker_pool.specs.Backs.{IsBack};
+
+    ghost then = { λ v r w. IsBack B.tickets B.fits r };
+}
+
+impl<B: Terms> Lesson<Ran, Hand> for TakesLast<B> {
+    ghost use Rattle.std.specs.Prelude.{◌≡◌, length};
+
+    ghost fact = { λ v items. length items ≡ 0 → v.taken ≡ v.put };
+}
+
 /// A token gives half of its parts away, and takes all of another's.
 pub struct Halves;
 

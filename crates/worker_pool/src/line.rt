@@ -6,7 +6,7 @@ ghost use Rattle.worker_pool.specs.Hands.{hand};
 ghost use Rattle.worker_pool.specs.Tallies.{none, plus, tally_of, IsWithin};
 
 use crate::bell::Bell;
-use crate::counted::{Counted, Halves, Puts, Takes, Whole};
+use crate::counted::{Counted, Halves, Puts, Takes, TakesLast, Whole};
 use crate::hand::Hand;
 use crate::handed::Handed;
 use crate::ran::Ran;
@@ -25,13 +25,13 @@ pub type Token = Pass<Ran, Hand>;
 /// What the threads of a pool share.
 #[derive(Drop)]
 pub struct Line<B: Terms> {
-    pub alloc: Global,
-    pub starts: ArrayQueue<Handed<B>>,
+    pub(crate) alloc: Global,
+    pub(crate) starts: ArrayQueue<Handed<B>>,
     /// Rings at each start that is sent.
-    pub given: Bell,
-    pub reports: Reports<B>,
+    pub(crate) given: Bell,
+    pub(crate) reports: Reports<B>,
     /// Rings at each report that is put.
-    pub ended: Bell,
+    pub(crate) ended: Bell,
 }
 
 impl<B: Terms> Line<B> {
@@ -115,6 +115,16 @@ impl<B: Terms> Line<B> {
         ensures fact { IsWithin (view token.old).taken (view token.old).put }
     {
         self.reports.learn_as::<Whole>(token);
+    }
+
+    /// A report that is left, with all parts in one hand. Where none is, what was put was taken.
+    pub fn last<W: Wait>(&self, rt: &W, token: &mut Token) -> Option<Ran>
+        requires { IsPassOf self.now.reports token.old × ((view token.old).parts ≡ 2 ^ 65) }
+        ensures same { IsSamePass token.old token.new }
+        ensures some { IfSome result (IsBack B.tickets B.fits) }
+        ensures none { result ≡ None → (view token.old).taken ≡ (view token.old).put }
+    {
+        self.reports.pop_as::<TakesLast<B>, W>(rt, token)
     }
 
     /// Ends all waits.

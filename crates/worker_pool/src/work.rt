@@ -4,7 +4,7 @@ ghost use Rattle.crossbeam_queue.specs.Passes.{view, IsPassOf, IsSamePass};
 ghost use Rattle.flow_types.specs.declared.job.Job.{Job};
 ghost use Rattle.flow_types.specs.declared.job.Outcome.{Outcome};
 ghost use Rattle.worker_pool.specs.Courses.{Answers, StaysTrue};
-ghost use Rattle.worker_pool.specs.Tallies.{none, tally_of, AreCounted, GrowsWith};
+ghost use Rattle.worker_pool.specs.Tallies.{none, tally_of, AllFailuresCount, GrowsWith};
 
 use crate::gate::Gate;
 use crate::handed::Handed;
@@ -26,10 +26,10 @@ pub fn outcome_of<F: Commands, R: Runner<F>, G: Gate>(
 ) -> Result<Outcome, Memory>
     ensures answers { IfOk result (λ outcome.
         Answers F.gives F.may_fail R.tells R.sure runner.old job.now outcome) }
-    ensures counted { IfOk result (λ outcome. AreCounted (tally_of outcome)
+    ensures counted { IfOk result (λ outcome. AllFailuresCount (tally_of outcome)
         (R.count runner.old) (R.count runner.new)
         (R.failures runner.old) (R.failures runner.new)) }
-    ensures no_less { IfErr result (λ memory. AreCounted none
+    ensures no_less { IfErr result (λ memory. AllFailuresCount none
         (R.count runner.old) (R.count runner.new)
         (R.failures runner.old) (R.failures runner.new)) }
     ensures stays { StaysTrue R.tells R.sure runner.old runner.new }
