@@ -3,7 +3,7 @@ use crate::files::{is_absent, make_folders_of};
 use crate::folder_site::path_of;
 use crate::leftovers::maker_of_folder;
 use crate::owner::{Owner, is_dead, user_of};
-use crate::programs::program;
+use crate::programs::{program, run_program};
 use flow_types::{Given, Job, Name};
 use std::alloc::Global;
 use std::fs::{DirBuilder, DirEntry, OpenFile, Permissions};
@@ -11,6 +11,7 @@ use std::io::{ErrorKind, Write};
 use std::os::unix::fs::{DirBuilderExt, MetadataExt, PermissionsExt};
 use std::process::Processes;
 use std::rt::{Env, Files};
+use std::sync::Wait;
 use std::{env, fs, io};
 
 const OWNER_ALONE: u32 = 0o700;
@@ -48,7 +49,7 @@ pub fn new_folder<R: Files + AllocGlobal + Env>(rt: &R, owner: &Owner) -> io::Re
 
 /// Removes the folders that programs of this host and user left under the temporary folder when
 /// they were killed. It does what it can.
-pub fn clear_folders<R: Files + AllocGlobal + Env + Processes>(rt: &R, owner: &Owner) {
+pub fn clear_folders<R: Files + AllocGlobal + Env + Processes + Wait>(rt: &R, owner: &Owner) {
     let Some(user) = user_of(rt) else {
         return;
     };
@@ -65,7 +66,7 @@ pub fn clear_folders<R: Files + AllocGlobal + Env + Processes>(rt: &R, owner: &O
     }
 }
 
-fn clear_folder<R: Files + AllocGlobal + Processes>(
+fn clear_folder<R: Files + AllocGlobal + Processes + Wait>(
     rt: &R,
     owner: &Owner,
     user: u32,
@@ -76,7 +77,7 @@ fn clear_folder<R: Files + AllocGlobal + Processes>(
     };
     let data = entry.metadata()?;
     if data.is_dir() && data.uid() == user && is_dead(rt, process)? {
-        remove_folder(rt, entry.path().as_str())?;
+        remove_folder(rt, owner, entry.path().as_str())?;
     }
     Ok(())
 }
@@ -89,9 +90,15 @@ pub fn place_of(alloc: Global, folder: &str, remote: &Name) -> io::Result<String
 }
 
 /// Puts the inputs there, and makes the folders that the outputs need.
-pub fn fill_folder<R: Files>(rt: &R, alloc: Global, folder: &str, job: &Job) -> io::Result<()> {
+pub fn fill_folder<R: Files + Wait>(
+    rt: &R,
+    alloc: Global,
+    owner: &Owner,
+    folder: &str,
+    job: &Job,
+) -> io::Result<()> {
     for given in job.inputs.as_slice() {
-        put_input(rt, alloc, folder, given)?;
+        put_input(rt, alloc, owner, folder, given)?;
     }
     for want in job.outputs.as_slice() {
         room_for(rt, alloc, folder, &want.remote)?;
@@ -109,20 +116,31 @@ fn room_for<R: Files>(rt: &R, alloc: Global, folder: &str, remote: &Name) -> io:
 }
 
 // Each input may be run, since commands say `./program`.
-fn put_input<R: Files>(rt: &R, alloc: Global, folder: &str, given: &Given) -> io::Result<()> {
+fn put_input<R: Files + Wait>(
+    rt: &R,
+    alloc: Global,
+    owner: &Owner,
+    folder: &str,
+    given: &Given,
+) -> io::Result<()> {
     let path = room_for(rt, alloc, folder, &given.remote)?;
+    let _turn = owner.writes(rt);
     let mut file = fs::create(rt, path.as_str())?;
     file.write_all(given.content.as_slice())?;
     file.set_permissions(Permissions::from_mode(RUNNABLE))
 }
 
 /// Removes the folder with all that the command left there.
-pub fn remove_folder<R: Files + AllocGlobal + Processes>(rt: &R, folder: &str) -> io::Result<()> {
+pub fn remove_folder<R: Files + AllocGlobal + Processes + Wait>(
+    rt: &R,
+    owner: &Owner,
+    folder: &str,
+) -> io::Result<()> {
     if remove_all(rt, folder).is_ok() {
         return Ok(());
     }
     // A folder that the command closed to its owner can't be emptied.
-    open_to_owner(rt, folder)?;
+    open_to_owner(rt, owner, folder)?;
     remove_all(rt, folder)
 }
 
@@ -133,8 +151,12 @@ fn remove_all<R: Files + AllocGlobal>(rt: &R, folder: &str) -> io::Result<()> {
     }
 }
 
-fn open_to_owner<R: AllocGlobal + Processes>(rt: &R, folder: &str) -> io::Result<()> {
-    let mut chmod = program(rt.alloc(), "chmod", &["-R", "u+rwx", folder])?;
-    chmod.status(rt)?;
+fn open_to_owner<R: AllocGlobal + Processes + Wait>(
+    rt: &R,
+    owner: &Owner,
+    folder: &str,
+) -> io::Result<()> {
+    let chmod = program(rt.alloc(), "chmod", &["-R", "u+rwx", folder])?;
+    run_program(rt, owner, chmod)?;
     Ok(())
 }

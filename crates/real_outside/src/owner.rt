@@ -3,6 +3,7 @@
 use std::alloc::AllocError;
 use std::os::unix::fs::MetadataExt;
 use std::rt::Files;
+use std::sync::{RwLock, RwLockReadGuard, RwLockWriteGuard, Wait};
 use std::{fs, io};
 
 const HOST_NAME: &str = "/proc/sys/kernel/hostname";
@@ -11,10 +12,15 @@ const HOST_NAME: &str = "/proc/sys/kernel/hostname";
 const MOST_HOST: usize = 64;
 
 /// This program among those that share a folder: the name of its host, and its number there.
+///
+/// Its threads take turns by it. A program that is started while a file is open for writing holds
+/// that file open until it runs itself, and a file that is open for writing can't be run. So a
+/// program is started while no thread writes a file that may be run.
 #[derive(Drop)]
 pub struct Owner {
     host: String,
     process: u32,
+    turns: RwLock<()>,
 }
 
 impl Owner {
@@ -22,7 +28,11 @@ impl Owner {
     /// name of letters, digits, `-`, `_` and `.`.
     pub fn of<R: Files + AllocGlobal>(rt: &R, process: u32) -> Result<Self, AllocError> {
         let host = host_of(rt)?;
-        Ok(Owner { host, process })
+        Ok(Owner {
+            host,
+            process,
+            turns: RwLock::new(()),
+        })
     }
 
     /// The name of the host.
@@ -33,6 +43,17 @@ impl Owner {
     /// The number of this program.
     pub fn process(&self) -> u32 {
         self.process
+    }
+
+    /// Waits until no thread starts a program. None does until what is answered is let go.
+    pub fn writes<R: Wait>(&self, rt: &R) -> RwLockReadGuard<'_, ()> {
+        self.turns.read(rt)
+    }
+
+    /// Waits until no thread writes a file that may be run, nor starts a program. None does until
+    /// what is answered is let go.
+    pub fn starts<R: Wait>(&self, rt: &R) -> RwLockWriteGuard<'_, ()> {
+        self.turns.write(rt)
     }
 }
 

@@ -1,6 +1,9 @@
 //! Starts programs of this machine.
+use crate::owner::Owner;
 use std::alloc::{AllocError, Global};
-use std::process::{Command, Stdio};
+use std::io;
+use std::process::{Child, Command, ExitStatus, Processes, Stdio};
+use std::sync::Wait;
 
 const PATH: &str = "/usr/local/bin:/usr/bin:/bin";
 
@@ -17,4 +20,23 @@ pub fn program(alloc: Global, name: &str, words: &[&str]) -> Result<Command, All
     program.stdout(Stdio::null());
     program.stderr(Stdio::null());
     Ok(program)
+}
+
+/// Starts the program while no thread writes a file that may be run, and waits for its end.
+pub fn run_program<R: Processes + Wait>(
+    rt: &R,
+    owner: &Owner,
+    program: Command,
+) -> io::Result<ExitStatus> {
+    start(rt, owner, program)?.wait()
+}
+
+fn start<R: Processes + Wait>(
+    rt: &R,
+    owner: &Owner,
+    program: Command,
+) -> io::Result<Child<R::Started>> {
+    let _turn = owner.starts(rt);
+    let mut program = program;
+    program.spawn(rt)
 }

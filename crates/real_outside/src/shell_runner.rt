@@ -7,7 +7,7 @@ use crate::files::folder_of;
 use crate::job_folder::{clear_folders, fill_folder, new_folder, remove_folder};
 use crate::outputs::take_outputs;
 use crate::owner::Owner;
-use crate::programs::program;
+use crate::programs::{program, run_program};
 use crate::script::{is_long, needs_script, read_script, write_script};
 use flow_types::{Failure, Job, Outcome};
 use outside::{Commands, Fault, Runner};
@@ -16,11 +16,13 @@ use std::io;
 use std::os::unix::process::ExitStatusExt;
 use std::process::{ExitStatus, Processes};
 use std::rt::{Env, Files};
+use std::sync::Wait;
 
 // What a shell adds to the number of a signal that ended a command.
 const SIGNALLED: i32 = 128;
 
-/// Runs each job by `sh -c` in a folder of its own under the temporary folder. The folder goes when
+/// Runs each job by `sh -c` in a folder of its own under the temporary folder, which no other runner
+/// takes. The folder goes when
 /// the job ends, whatever happened; one that can't be removed is a fault. Before the first job the
 /// folders go that dead programs of this host and user left.
 #[derive(Drop)]
@@ -54,9 +56,10 @@ fn status_of(status: ExitStatus) -> i32 {
 }
 
 // The status of a shell that is told this, in the folder and with the job's variables.
-fn run_told<R: Processes>(
+fn run_told<R: Processes + Wait>(
     rt: &R,
     alloc: Global,
+    owner: &Owner,
     folder: &str,
     job: &Job,
     told: &str,
@@ -68,14 +71,15 @@ fn run_told<R: Processes>(
         }
     }
     shell.current_dir(folder)?;
-    let status = shell.status(rt)?;
+    let status = run_program(rt, owner, shell)?;
     Ok(status_of(status))
 }
 
 // The status of a shell that reads the command from a file in a folder beside the job's.
-fn run_read<R: Files + Processes>(
+fn run_read<R: Files + Processes + Wait>(
     rt: &R,
     alloc: Global,
+    owner: &Owner,
     beside: &str,
     folder: &str,
     job: &Job,
@@ -83,26 +87,26 @@ fn run_read<R: Files + Processes>(
     write_script(rt, alloc, beside, job)?;
     let (_, name) = folder_of(beside);
     let told = read_script(alloc, name)?;
-    run_told(rt, alloc, folder, job, told.as_str())
+    run_told(rt, alloc, owner, folder, job, told.as_str())
 }
 
 // The command's status.
-fn run_shell<R: Files + Env + Processes + AllocGlobal>(
+fn run_shell<R: Files + Env + Processes + AllocGlobal + Wait>(
     rt: &R,
     owner: &Owner,
     folder: &str,
     job: &Job,
 ) -> io::Result<i32> {
     if !needs_script(job) {
-        return run_told(rt, rt.alloc(), folder, job, job.command.as_str());
+        return run_told(rt, rt.alloc(), owner, folder, job, job.command.as_str());
     }
     let beside = new_folder(rt, owner)?;
-    let status = run_read(rt, rt.alloc(), beside.as_str(), folder, job);
-    remove_folder(rt, beside.as_str())?;
+    let status = run_read(rt, rt.alloc(), owner, beside.as_str(), folder, job);
+    remove_folder(rt, owner, beside.as_str())?;
     status
 }
 
-fn run_in<R: Files + Env + Processes + AllocGlobal>(
+fn run_in<R: Files + Env + Processes + AllocGlobal + Wait>(
     rt: &R,
     alloc: Global,
     owner: &Owner,
@@ -111,7 +115,7 @@ fn run_in<R: Files + Env + Processes + AllocGlobal>(
 ) -> io::Result<Outcome>
     ensures { IfOk result (IsShaped job.now) }
 {
-    fill_folder(rt, alloc, folder, job)?;
+    fill_folder(rt, alloc, owner, folder, job)?;
     let status = run_shell(rt, owner, folder, job)?;
     if status != 0 {
         return Ok(Outcome::Failed(Failure::Status(status)));
@@ -119,7 +123,7 @@ fn run_in<R: Files + Env + Processes + AllocGlobal>(
     take_outputs(rt, alloc, folder, job)
 }
 
-fn run_job<R: Files + Env + Processes + AllocGlobal>(
+fn run_job<R: Files + Env + Processes + AllocGlobal + Wait>(
     rt: &R,
     alloc: Global,
     owner: &Owner,
@@ -129,11 +133,11 @@ fn run_job<R: Files + Env + Processes + AllocGlobal>(
 {
     let folder = new_folder(rt, owner)?;
     let outcome = run_in(rt, alloc, owner, folder.as_str(), job);
-    remove_folder(rt, folder.as_str())?;
+    remove_folder(rt, owner, folder.as_str())?;
     outcome
 }
 
-impl<'a, F: Commands, R: Files + Env + Processes + AllocGlobal + Sync> Runner<F>
+impl<'a, F: Commands, R: Files + Env + Processes + AllocGlobal + Wait + Sync> Runner<F>
     for ShellRunner<'a, R> {
     ghost tells = { λ s job. ⊥ };
 
