@@ -59,7 +59,7 @@ no_outs (Some outs) running failed is = absurd (true≢false (sym is))
 no_outs None running failed is = refl
 
 -- the rule that was started runs with its attempt
-runs_started : (H : List Record) (moment : ℕ) (r : RuleNo) (attempt : AttemptNo) (link : LinkNo) → is_waiting H r.0 ≡ true
+pub runs_started : (H : List Record) (moment : ℕ) (r : RuleNo) (attempt : AttemptNo) (link : LinkNo) → is_waiting H r.0 ≡ true
     → runs_with (H ++ (records.Started moment r attempt link ∷ [])) r.0 attempt.0 link.0 ≡ true
 runs_started H moment r attempt link waits =
     let x : Record = records.Started moment r attempt link in

@@ -22,3 +22,14 @@ pub mod Done
 pub mod Fitting
 pub mod Joining
 pub mod Openings
+pub mod RunsBegun
+pub mod StandsBegun
+pub mod ClaimsBegun
+pub mod DropsBegun
+pub mod GivenBegun
+pub mod SettlesBegun
+pub mod RunsClosed
+pub mod UnderClosed
+pub mod PlacesClosed
+pub mod HeldClosed
+pub mod RunsServed

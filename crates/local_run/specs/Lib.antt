@@ -1,9 +1,11 @@
 pub mod Jobs
 pub mod Collecting
 pub mod Course
+pub mod Underway
 pub mod Runs
 pub mod Ends
 pub mod Moments
 pub mod Losses
 pub mod Completing
 pub mod Laws
+pub mod Calls

@@ -1,44 +1,50 @@
 //! The ends of an attempt.
-ghost use Rattle.std.specs.Prelude.{◌≡◌, ◌≢◌, ◌≤◌, ◌<◌, ◌++◌, ◌∷◌, [], ℕ, Some, length, map};
-ghost use Rattle.std.specs.Prelude.{slice_get, true, IfOk};
+ghost use Rattle.std.specs.Prelude.{◌≡◌, ◌<◌, ◌++◌, ◌∷◌, [], List, None, Option, Some};
+ghost use Rattle.std.specs.Prelude.{length, slice_get, true};
+ghost use Rattle.flow_types.specs.declared.job.Outcome.TheVariants as outcomes;
+ghost use Rattle.flow_types.specs.declared.job.Start.{Start as StartValue};
 ghost use Rattle.flow_types.specs.declared.plan.Rule.{Rule};
-ghost use Rattle.flow_types.specs.declared.records.Record.TheVariants as entries;
 ghost use Rattle.flow_types.specs.Plans.{IsValid, makes};
 ghost use Rattle.flow_types.specs.Serial.{job_of, serial};
 ghost use Rattle.run_history.specs.Legal.{is_failure_at};
 ghost use Rattle.run_history.specs.Links.{records_of};
-ghost use Rattle.run_history.specs.Storage.{running_rules};
-ghost use Rattle.desk.specs.Kept.{ReadsStay, logged};
-ghost use Rattle.desk.specs.State.{AreOutputs, IsDue, IsFine, runs_with};
-ghost use Rattle.local_run.specs.Course.{Closed, FailsBy, GivesUp, GoesOn, IsGivenUp};
+ghost use Rattle.worker_pool.specs.declared.hand.Tally.{Tally};
+ghost use Rattle.worker_pool.specs.Tallies.{plus, tally_of};
+ghost use Rattle.desk.specs.declared.attempt.Attempt.{Attempt as AttemptValue};
+ghost use Rattle.desk.specs.State.{AreOutputs, DeskState, IsDue, IsFine};
+ghost use Rattle.local_run.specs.declared.halt.Halt.{Halt as HaltValue};
+ghost use Rattle.local_run.specs.Course.{GivesUp};
+ghost use Rattle.local_run.specs.Underway.{IsSurePool, MayStop, RunsAt, Underway, halt_after};
 
 use crate::Halt;
 use desk::{Attempt, CloseRefused, Desk, Terms};
 use flow_types::{Bytes, Failure, Rows};
 use outside::{Clock, Commands, Site};
 use run_history::Stop;
+use worker_pool::Terms as PoolTerms;
 
 /// Stops the run and gives the attempt up, for this cause. Where the site fails or memory is
 /// wanting in it, that is the cause.
-pub(crate) fn give_up<F: Commands, S: Site, T: Terms, C: Clock>(
+pub(crate) fn give_up<B: PoolTerms, F: Commands, S: Site, T: Terms, C: Clock>(
     desk: &mut Desk<F, S, T>,
     attempt: Attempt,
     clock: &C,
     why: Halt,
 ) -> Halt
-    requires rule { attempt.rule.0 < length desk.old.plan.rules }
-    requires runs { runs_with (records_of desk.old.moves) attempt.rule.0 attempt.number.0
-        attempt.link.0 ≡ true }
-    requires alone { length (running_rules desk.old.plan (records_of desk.old.moves)) ≤ 1 }
-    ensures goes { GoesOn T.trust F.gives F.may_fail T.sources S.tells S.files S.may_leave
-        S.moment S.images_since desk.old desk.new }
-    ensures idle { IsFine desk.new.trouble
-        → length (running_rules desk.new.plan (records_of desk.new.moves)) ≤ 0 }
+    requires valid { IsValid desk.old.plan }
+    requires runs { RunsAt desk.old.plan (IsFine desk.old.trouble) (records_of desk.old.moves)
+        attempt }
+    ensures underway { (first : DeskState S) (held : List AttemptValue)
+        (waiting : List StartValue) (heard : Tally) (halt : Option HaltValue)
+        → Underway T.trust F.gives F.may_fail T.sources S.tells T.kept (IsSurePool B.fits)
+        S.files S.may_leave S.moment S.images_since first
+        desk.old held waiting (Some attempt) heard halt
+        → (IsFine desk.old.trouble → MayStop S.tells T.kept (IsSurePool B.fits) S.files
+        desk.old heard why)
+        → Underway T.trust F.gives F.may_fail T.sources S.tells T.kept (IsSurePool B.fits)
+        S.files S.may_leave S.moment S.images_since first
+        desk.new held waiting None heard (Some result) }
     ensures halt { GivesUp why desk.old.trouble desk.new.trouble result }
-    ensures logs { IsFine desk.new.trouble → IsGivenUp (records_of desk.old.moves) attempt.rule
-        attempt.number (records_of desk.new.moves) }
-    ensures reads { S.tells → ReadsStay S.files (λ m. m ≢ desk.old.log) desk.old.site
-        desk.new.site }
 {
     let _stops = desk.stop(Stop::Halt);
     match desk.lose(attempt, clock.now()) {
@@ -50,29 +56,27 @@ pub(crate) fn give_up<F: Commands, S: Site, T: Terms, C: Clock>(
 }
 
 /// Finishes the attempt with what its job gave.
-pub(crate) fn finish<F: Commands, S: Site, T: Terms>(
+pub(crate) fn finish<B: PoolTerms, F: Commands, S: Site, T: Terms>(
     desk: &mut Desk<F, S, T>,
     attempt: Attempt,
     outs: &Rows<Bytes>,
     moment: u64,
 ) -> Result<(), Halt>
     requires valid { IsValid desk.old.plan }
-    requires rule { attempt.rule.0 < length desk.old.plan.rules }
-    requires runs { runs_with (records_of desk.old.moves) attempt.rule.0 attempt.number.0
-        attempt.link.0 ≡ true }
-    requires alone { length (running_rules desk.old.plan (records_of desk.old.moves)) ≤ 1 }
+    requires runs { RunsAt desk.old.plan (IsFine desk.old.trouble) (records_of desk.old.moves)
+        attempt }
     requires outputs { AreOutputs desk.old.plan attempt.rule.0 outs.now }
     requires honest { T.trust
         → IsDue desk.old.plan F.gives T.sources attempt.rule.0 outs.now }
-    ensures goes { GoesOn T.trust F.gives F.may_fail T.sources S.tells S.files S.may_leave
-        S.moment S.images_since desk.old desk.new }
-    ensures idle { IsFine desk.new.trouble
-        → length (running_rules desk.new.plan (records_of desk.new.moves)) ≤ 0 }
-    ensures closed { Closed desk.old desk.new result }
-    ensures halts { FailsBy desk.new.trouble result }
-    ensures logs { IsFine desk.new.trouble
-        → records_of desk.new.moves ≡ records_of desk.old.moves
-        ++ entries.Done moment attempt.rule attempt.number (map logged outs.now) ∷ [] }
+    ensures underway { (first : DeskState S) (held : List AttemptValue)
+        (waiting : List StartValue) (heard : Tally) (halt : Option HaltValue)
+        → Underway T.trust F.gives F.may_fail T.sources S.tells T.kept (IsSurePool B.fits)
+        S.files S.may_leave S.moment S.images_since first
+        desk.old held waiting (Some attempt) heard halt
+        → Underway T.trust F.gives F.may_fail T.sources S.tells T.kept (IsSurePool B.fits)
+        S.files S.may_leave S.moment S.images_since first
+        desk.new held waiting None heard
+        (halt_after result halt) }
 {
     match desk.finish(attempt, outs, moment) {
         Ok(()) => Ok(()),
@@ -83,29 +87,29 @@ pub(crate) fn finish<F: Commands, S: Site, T: Terms>(
 }
 
 /// Closes the attempt, whose command failed.
-pub(crate) fn fail<F: Commands, S: Site, T: Terms>(
+pub(crate) fn fail<B: PoolTerms, F: Commands, S: Site, T: Terms>(
     desk: &mut Desk<F, S, T>,
     attempt: Attempt,
     why: Failure,
     moment: u64,
 ) -> Result<(), Halt>
-    requires rule { attempt.rule.0 < length desk.old.plan.rules }
-    requires runs { runs_with (records_of desk.old.moves) attempt.rule.0 attempt.number.0
-        attempt.link.0 ≡ true }
-    requires alone { length (running_rules desk.old.plan (records_of desk.old.moves)) ≤ 1 }
+    requires valid { IsValid desk.old.plan }
+    requires runs { RunsAt desk.old.plan (IsFine desk.old.trouble) (records_of desk.old.moves)
+        attempt }
     requires index { is_failure_at why (length (makes desk.old.plan attempt.rule.0)) ≡ true }
     requires honest { T.trust
         → (row : Rule) → slice_get desk.old.plan.rules attempt.rule.0 ≡ Some row
         → F.may_fail (job_of desk.old.plan row (serial desk.old.plan F.gives T.sources)) why }
-    ensures goes { GoesOn T.trust F.gives F.may_fail T.sources S.tells S.files S.may_leave
-        S.moment S.images_since desk.old desk.new }
-    ensures idle { IsFine desk.new.trouble
-        → length (running_rules desk.new.plan (records_of desk.new.moves)) ≤ 0 }
-    ensures closed { Closed desk.old desk.new result }
-    ensures halts { FailsBy desk.new.trouble result }
-    ensures logs { IsFine desk.new.trouble
-        → records_of desk.new.moves ≡ records_of desk.old.moves
-        ++ entries.Failed moment attempt.rule attempt.number why ∷ [] }
+    ensures underway { (first : DeskState S) (held : List AttemptValue)
+        (waiting : List StartValue) (heard : Tally) (halt : Option HaltValue)
+        → (IsSurePool B.fits → ⊥)
+        → Underway T.trust F.gives F.may_fail T.sources S.tells T.kept (IsSurePool B.fits)
+        S.files S.may_leave S.moment S.images_since first
+        desk.old held waiting (Some attempt) heard halt
+        → Underway T.trust F.gives F.may_fail T.sources S.tells T.kept (IsSurePool B.fits)
+        S.files S.may_leave S.moment S.images_since first
+        desk.new held waiting None
+        (plus heard (tally_of (outcomes.Failed why))) (halt_after result halt) }
 {
     match desk.fail(attempt, why, moment) {
         Ok(_) => Ok(()),

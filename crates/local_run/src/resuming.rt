@@ -1,6 +1,6 @@
 //! A run that goes on where the log ends.
 ghost use Rattle.std.specs.Prelude.{◌≡◌, ◌≢◌, ◌≤◌, ◌⊎◌, ℕ, List, IfErr, IfOk, OnOk};
-ghost use Rattle.std.specs.Prelude.{◌<◌, None, Option};
+ghost use Rattle.std.specs.Prelude.{◌<◌, None, Option, length, sum_by};
 ghost use Rattle.flow_types.specs.declared.records.Record.{Record as RecordValue};
 ghost use Rattle.flow_types.specs.Plans.{IsValid};
 ghost use Rattle.flow_types.specs.Serial.{serial};
@@ -11,6 +11,7 @@ ghost use Rattle.outside.specs.Disk.{IsImage, LeavesOnly};
 ghost use Rattle.outside.specs.Files.{Files};
 ghost use Rattle.txn_log.specs.Spells.{Spells};
 ghost use Rattle.file_store.specs.Outputs.{file_name};
+ghost use Rattle.worker_pool.specs.Crews.{AllSure, AllTell};
 ghost use Rattle.desk.specs.Kept.{IsLegal, Keeps, ReadsStay, StaysBeside};
 ghost use Rattle.log_recover.specs.declared.fault.RecoverFault.TheVariants as faults;
 ghost use Rattle.log_recover.specs.Recovery.{IsRecovering};
@@ -20,7 +21,8 @@ ghost use Rattle.local_run.specs.Course.{IsUnmade, TellsJobs};
 ghost use Rattle.local_run.specs.Ends.{FitsHere, HasFailed, IsDone, IsRunEnd, IsSureEnd};
 ghost use Rattle.local_run.specs.Ends.{OpensBy};
 ghost use Rattle.local_run.specs.Ends.{IsWholeRun, LogsFailures, RunDamage, StartEnds, run_fault};
-ghost use Rattle.local_run.specs.Moments.{IsMoment, IsResumable, IsDamageFault, IsUnread, KeepsSome};
+ghost use Rattle.local_run.specs.Moments.{IsDamageFault, IsMoment, IsResumable, IsUnread};
+ghost use Rattle.local_run.specs.Moments.{KeepsSome};
 ghost use Rattle.local_run.specs.Runs.{Adds, IsEarlyRun, IsRefusedRun};
 ghost use Rattle.local_run.specs.Runs.{BeginsWith, HasCauses, Held, IsAdmitted, IsClosedRun};
 ghost use Rattle.local_run.specs.Runs.{IsCutRun, IsSparedName, LosesNone, SerialFits};
@@ -34,20 +36,34 @@ use log_recover::{files_spell_one_list, recover};
 use outside::{Clock, Commands, Runner, Site};
 use run_history::Options;
 use std::alloc::Global;
+use std::sync::Wait;
+use std::thread::Threads;
+use worker_pool::Gate;
 
 /// Reads the log under this name, and runs the plan over it.
 ///
 /// From the entry on a crash leaves what it might have left before the log was read, or the records
 /// that stood then and some that the run added, with their files.
-pub fn resume<F: Commands, S: Site, R: Runner<F>, C: Clock, B: Born>(
+pub fn resume<
+    W: Threads + Wait + Sync,
+    G: Gate,
+    F: Commands,
+    S: Site,
+    R: Runner<F>,
+    C: Clock,
+    B: Born,
+>(
+    rt: &W,
     alloc: Global,
     plan: Plan,
     site: S,
     name: Name,
     options: Options,
-    runner: &mut R,
+    runners: &mut [R],
+    gate: &G,
     clock: &C,
 ) -> Result<RunEnded<S>, ResumeRefused<S>>
+    requires some { 0 < length runners.old }
     requires valid { IsValid plan }
     requires apart { (f : ℕ) → file_name plan f ≢ «name» }
     requires later { S.tells → B.born ≤ S.moment site }
@@ -57,7 +73,7 @@ pub fn resume<F: Commands, S: Site, R: Runner<F>, C: Clock, B: Born>(
         → S.count site < S.count refused.site) }
     ensures unchanged { IfErr result (λ refused. S.tells → IsDamageFault refused.why
         → (m : List ℕ) → S.files refused.site m ≡ S.files site m) }
-    ensures unrun { IfErr result (λ refused. runner.new ≡ runner.old) }
+    ensures unrun { IfErr result (λ refused. runners.new ≡ runners.old) }
     ensures crash { IfErr result (λ refused. S.tells → (m : List ℕ) (file : Option (List ℕ))
         → m ≢ «name» → S.may_leave refused.site m file → S.may_leave site m file) }
     ensures unread { IfErr result (λ refused. S.tells
@@ -73,10 +89,10 @@ pub fn resume<F: Commands, S: Site, R: Runner<F>, C: Clock, B: Born>(
         → Spells H (S.files site «name»)
         → let sources = read_sources plan (S.files site) in
         IsResumable (SerialFits F.gives sources) plan «name» H (S.may_leave site)
-        → TellsJobs plan (R.tells runner.old) (serial plan F.gives sources)
+        → TellsJobs plan (AllTell R.tells runners.old) (serial plan F.gives sources)
         → Adds (Unit {0}) F.gives F.may_fail sources plan H ended.records) }
     ensures causes { IfOk result (λ ended. HasCauses (S.count site) (S.count ended.site)
-        (R.count runner.old) (R.count runner.new) ended.how) }
+        (sum_by R.count runners.old) (sum_by R.count runners.new) ended.how) }
     ensures grows { IfOk result (λ ended. S.tells → (H : List RecordValue)
         → Spells H (S.files site «name») → BeginsWith H ended.records) }
     ensures legal { IfOk result (λ ended. IsAdmitted ended.how → IsLegal plan ended.records) }
@@ -107,7 +123,7 @@ pub fn resume<F: Commands, S: Site, R: Runner<F>, C: Clock, B: Born>(
         → Spells H (S.files site «name»)
         → let sources = read_sources plan (S.files site) in
         IsResumable (SerialFits F.gives sources) plan «name» H (S.may_leave site)
-        → TellsJobs plan (R.tells runner.old) (serial plan F.gives sources)
+        → TellsJobs plan (AllTell R.tells runners.old) (serial plan F.gives sources)
         → (image : Files) → S.images_since ended.site B.born image
         → S.images_since site B.born image
         ⊎ IsMoment (SerialFits F.gives sources) plan «name» (S.files site)
@@ -128,7 +144,7 @@ pub fn resume<F: Commands, S: Site, R: Runner<F>, C: Clock, B: Born>(
     ensures gone { IfOk result (λ ended. S.tells → (IsCutRun ended.how → ⊥)
         → (H : List RecordValue) → Spells H (S.files site «name»)
         → AreGone plan (S.files ended.site) H ended.records) }
-    ensures unused { IfOk result (λ ended. IsRefusedRun ended.how → runner.new ≡ runner.old) }
+    ensures unused { IfOk result (λ ended. IsRefusedRun ended.how → runners.new ≡ runners.old) }
     ensures opened { IfOk result (λ ended. (IsRefusedRun ended.how → ⊥)
         → OpensBy options ended.records) }
     ensures closed { IfOk result (λ ended. FitsHere plan options
@@ -138,27 +154,28 @@ pub fn resume<F: Commands, S: Site, R: Runner<F>, C: Clock, B: Born>(
     ensures whole { IfOk result (λ ended. S.tells → (H : List RecordValue)
         → Spells H (S.files site «name»)
         → IsResumable Held plan «name» H (S.may_leave site) → IsWholeRun ended.how) }
-    ensures sure { IfOk result (λ ended. R.sure runner.old → IsSureEnd ended.how) }
+    ensures sure { IfOk result (λ ended. AllSure R.sure runners.old → IsSureEnd ended.how) }
     ensures failed { IfOk result (λ ended.
-        HasFailed (R.failures runner.old) (R.failures runner.new) ended.how) }
+        HasFailed (sum_by R.failures runners.old) (sum_by R.failures runners.new) ended.how) }
     ensures failures { IfOk result (λ ended. IsClosedRun ended.how → S.tells
         → (H : List RecordValue) → Spells H (S.files site «name»)
-        → LogsFailures H ended.records (R.failures runner.old) (R.failures runner.new)) }
+        → LogsFailures H ended.records (sum_by R.failures runners.old)
+        (sum_by R.failures runners.new)) }
     ensures completes { IfOk result (λ ended. S.tells → (H : List RecordValue)
         → Spells H (S.files site «name»)
         → let sources = read_sources plan (S.files site) in
         IsResumable (SerialFits F.gives sources) plan «name» H (S.may_leave site)
-        → TellsJobs plan (R.tells runner.old) (serial plan F.gives sources)
+        → TellsJobs plan (AllTell R.tells runners.old) (serial plan F.gives sources)
         → FitsHere plan options → SerialInputsFit plan F.gives sources
         → HasRecordRoom plan H → run_fault plan options H (S.files site) ≡ None
-        → R.sure runner.old → S.count ended.site ≤ S.count site
+        → AllSure R.sure runners.old → S.count ended.site ≤ S.count site
         → IsDone options.limit ended.how) }
 {
     files_spell_one_list();
     let mut site = site;
     match recover(alloc, &mut site, name) {
-        Ok((log, history)) => Ok(run::<F, S, R, C, B>(
-            alloc, plan, site, log, history, options, runner, clock,
+        Ok((log, history)) => Ok(run::<W, G, F, S, R, C, B>(
+            rt, alloc, plan, site, log, history, options, runners, gate, clock,
         )),
         Err(why) => Err(ResumeRefused { why, site }),
     }

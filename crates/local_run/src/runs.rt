@@ -1,6 +1,6 @@
 //! A run over a log, from its start to its end.
 ghost use Rattle.std.specs.Prelude.{◌≡◌, ◌≢◌, ◌≤◌, ◌+◌, ◌⊎◌, ℕ, List, length, IfOk, OnOk, None};
-ghost use Rattle.std.specs.Prelude.{true};
+ghost use Rattle.std.specs.Prelude.{◌<◌, sum_by, true};
 ghost use Rattle.flow_types.specs.declared.records.Record.{Record as RecordValue};
 ghost use Rattle.flow_types.specs.Plans.{IsValid, is_empty, is_source};
 ghost use Rattle.flow_types.specs.Serial.{serial};
@@ -15,6 +15,7 @@ ghost use Rattle.outside.specs.Disk.{IsImage};
 ghost use Rattle.outside.specs.Files.{Files};
 ghost use Rattle.txn_log.specs.Logs.{IsAt};
 ghost use Rattle.file_store.specs.Outputs.{file_name};
+ghost use Rattle.worker_pool.specs.Crews.{AllSure, AllTell};
 ghost use Rattle.desk.specs.Kept.{Fits, IsLegal, Keeps, ReadsStay, StaysBeside, WasKept};
 ghost use Rattle.desk.specs.State.{IsFine, Takes};
 ghost use Rattle.local_run.specs.Collecting.{AreGone, CollectsBy, RunCollects};
@@ -38,7 +39,10 @@ use outside::{Clock, Commands, Runner, Site};
 use run_history::{Check, Options};
 use std::alloc::Global;
 use std::marker::Brand;
+use std::sync::Wait;
+use std::thread::Threads;
 use txn_log::Log;
+use worker_pool::Gate;
 
 fn ended_by(done: Result<Check, Halt>) -> Result<Check, Stopped>
     ensures { result ≡ ended_by done }
@@ -50,24 +54,28 @@ fn ended_by(done: Result<Check, Halt>) -> Result<Check, Stopped>
 }
 
 /// The run of a desk that was just started.
-fn run_desk<F: Commands, S: Site, R: Runner<F>, C: Clock, T: Terms>(
-    alloc: Global,
-    desk: Desk<F, S, T>,
-    runner: &mut R,
-    clock: &C,
-) -> RunEnded<S>
+fn run_desk<
+    W: Threads + Wait + Sync,
+    G: Gate,
+    F: Commands,
+    S: Site,
+    R: Runner<F>,
+    C: Clock,
+    T: Terms,
+>(rt: &W, alloc: Global, desk: Desk<F, S, T>, runners: &mut [R], gate: &G, clock: &C) -> RunEnded<S>
+    requires some { 0 < length runners.old }
     requires valid { IsValid desk.plan }
     requires fine { IsFine desk.trouble }
     requires unset { desk.stop ≡ None }
     requires fresh { IsFresh desk.options.limit (records_of desk.moves) }
     requires idle { length (running_rules desk.plan (records_of desk.moves)) ≤ 0 }
     requires base { T.trust → S.tells × T.kept
-        × TellsJobs desk.plan (R.tells runner.old) (serial desk.plan F.gives T.sources) }
+        × TellsJobs desk.plan (AllTell R.tells runners.old) (serial desk.plan F.gives T.sources) }
     ensures more { Adds T.trust F.gives F.may_fail T.sources desk.plan (records_of desk.moves)
         result.records }
     ensures legal { IsLegal desk.plan result.records }
-    ensures causes { HasCauses desk.faults (S.count result.site) (R.count runner.old)
-        (R.count runner.new) result.how }
+    ensures causes { HasCauses desk.faults (S.count result.site) (sum_by R.count runners.old)
+        (sum_by R.count runners.new) result.how }
     ensures idle { (IsCutRun result.how → ⊥)
         → length (running_rules desk.plan result.records) ≤ 0 }
     ensures lost { OnOk result.how (LosesNone (records_of desk.moves) result.records) }
@@ -97,33 +105,45 @@ fn run_desk<F: Commands, S: Site, R: Runner<F>, C: Clock, T: Terms>(
     ensures damage { S.tells → IsApart desk.plan desk.log
         → RunDamage desk.plan result.records (S.files result.site) result.how }
     ensures whole { S.tells → T.kept → IsWholeRun result.how }
-    ensures sure { R.sure runner.old → IsSureEnd result.how }
-    ensures failed { HasFailed (R.failures runner.old) (R.failures runner.new) result.how }
+    ensures sure { AllSure R.sure runners.old → IsSureEnd result.how }
+    ensures failed { HasFailed (sum_by R.failures runners.old) (sum_by R.failures runners.new)
+        result.how }
     ensures failures { IsClosedRun result.how → LogsFailures (records_of desk.moves)
-        result.records (R.failures runner.old) (R.failures runner.new) }
+        result.records (sum_by R.failures runners.old) (sum_by R.failures runners.new) }
     ensures completes { FitsHere desk.plan desk.options → S.tells → T.kept → T.trust
-        → SerialInputsFit desk.plan F.gives T.sources → R.sure runner.old
+        → SerialInputsFit desk.plan F.gives T.sources → AllSure R.sure runners.old
         → records_due desk.plan (records_of desk.moves) + 1 ≤ most_records
         → IfOk result.how (IsCompleteEnd desk.options.limit) }
 {
     let mut desk = desk;
-    let how = ended_by(work(alloc, &mut desk, runner, clock));
+    let how = ended_by(work(rt, alloc, &mut desk, runners, gate, clock));
     let _works = desk.works();
     let (site, records) = desk.into_parts();
     RunEnded { site, records, how }
 }
 
 /// The run over a log, by what the caller states.
-fn run_by<F: Commands, S: Site, R: Runner<F>, C: Clock, T: Terms>(
+fn run_by<
+    W: Threads + Wait + Sync,
+    G: Gate,
+    F: Commands,
+    S: Site,
+    R: Runner<F>,
+    C: Clock,
+    T: Terms,
+>(
+    rt: &W,
     alloc: Global,
     plan: Plan,
     site: S,
     log: Log,
     history: Rows<Record>,
     options: Options,
-    runner: &mut R,
+    runners: &mut [R],
+    gate: &G,
     clock: &C,
 ) -> RunEnded<S>
+    requires some { 0 < length runners.old }
     requires valid { IsValid plan }
     requires takes { Takes log history }
     requires gate { S.tells → IsAt history log.gate (S.may_leave site log.name) }
@@ -136,10 +156,10 @@ fn run_by<F: Commands, S: Site, R: Runner<F>, C: Clock, T: Terms>(
     requires sources { S.tells → T.kept → T.trust → is_empty (part history) ≡ true
         → (f : ℕ) → is_source plan f ≡ true → S.files site (file_name plan f) ≡ T.sources f }
     requires base { T.trust → S.tells × T.kept
-        × TellsJobs plan (R.tells runner.old) (serial plan F.gives T.sources) }
+        × TellsJobs plan (AllTell R.tells runners.old) (serial plan F.gives T.sources) }
     ensures more { Adds T.trust F.gives F.may_fail T.sources plan history result.records }
-    ensures causes { HasCauses (S.count site) (S.count result.site) (R.count runner.old)
-        (R.count runner.new) result.how }
+    ensures causes { HasCauses (S.count site) (S.count result.site) (sum_by R.count runners.old)
+        (sum_by R.count runners.new) result.how }
     ensures legal { IsAdmitted result.how → IsLegal plan result.records }
     ensures idle { IsClosedRun result.how
         → length (running_rules plan result.records) ≤ 0 }
@@ -166,22 +186,23 @@ fn run_by<F: Commands, S: Site, R: Runner<F>, C: Clock, T: Terms>(
         → RunCollects plan options.mode result.records }
     ensures gone { S.tells → (IsCutRun result.how → ⊥)
         → AreGone plan (S.files result.site) history result.records }
-    ensures unused { IsRefusedRun result.how → runner.new ≡ runner.old }
+    ensures unused { IsRefusedRun result.how → runners.new ≡ runners.old }
     ensures opened { (IsRefusedRun result.how → ⊥) → OpensBy options result.records }
     ensures ending { FitsHere plan options → IfOk result.how (IsRunEnd options.limit) }
     ensures damage { S.tells
         → RunDamage plan result.records (S.files result.site) result.how }
     ensures whole { S.tells → T.kept → IsWholeRun result.how }
-    ensures sure { R.sure runner.old → IsSureEnd result.how }
-    ensures failed { HasFailed (R.failures runner.old) (R.failures runner.new) result.how }
+    ensures sure { AllSure R.sure runners.old → IsSureEnd result.how }
+    ensures failed { HasFailed (sum_by R.failures runners.old) (sum_by R.failures runners.new)
+        result.how }
     ensures failures { IsClosedRun result.how → LogsFailures history result.records
-        (R.failures runner.old) (R.failures runner.new) }
+        (sum_by R.failures runners.old) (sum_by R.failures runners.new) }
     ensures completes { FitsHere plan options → S.tells → T.kept → T.trust
         → SerialInputsFit plan F.gives T.sources → HasRecordRoom plan history
-        → R.sure runner.old → IfOk result.how (IsCompleteEnd options.limit) }
+        → AllSure R.sure runners.old → IfOk result.how (IsCompleteEnd options.limit) }
 {
     match Desk::<F, S, T>::start(alloc, plan, site, log, history, options, clock.now()) {
-        Ok(desk) => run_desk(alloc, desk, runner, clock),
+        Ok(desk) => run_desk(rt, alloc, desk, runners, gate, clock),
         Err(refused) => {
             let StartRefused { why, site, history } = refused;
             RunEnded {
@@ -200,23 +221,34 @@ fn run_by<F: Commands, S: Site, R: Runner<F>, C: Clock, T: Terms>(
 /// added, each present file with what was logged, and where the commands are functions of their
 /// inputs, what the serial run makes. Where neither the site failed nor memory was wanting, a
 /// refusal leaves the history.
-pub fn run<F: Commands, S: Site, R: Runner<F>, C: Clock, B: Born>(
+pub fn run<
+    W: Threads + Wait + Sync,
+    G: Gate,
+    F: Commands,
+    S: Site,
+    R: Runner<F>,
+    C: Clock,
+    B: Born,
+>(
+    rt: &W,
     alloc: Global,
     plan: Plan,
     site: S,
     log: Log,
     history: Rows<Record>,
     options: Options,
-    runner: &mut R,
+    runners: &mut [R],
+    gate: &G,
     clock: &C,
 ) -> RunEnded<S>
+    requires some { 0 < length runners.old }
     requires valid { IsValid plan }
     requires takes { Takes log history }
     requires gate { S.tells → IsAt history log.gate (S.may_leave site log.name) }
     requires apart { (f : ℕ) → file_name plan f ≢ log.name }
     requires later { S.tells → B.born ≤ S.moment site }
-    ensures causes { HasCauses (S.count site) (S.count result.site) (R.count runner.old)
-        (R.count runner.new) result.how }
+    ensures causes { HasCauses (S.count site) (S.count result.site) (sum_by R.count runners.old)
+        (sum_by R.count runners.new) result.how }
     ensures grows { BeginsWith history result.records }
     ensures legal { IsAdmitted result.how → IsLegal plan result.records }
     ensures idle { IsClosedRun result.how
@@ -239,14 +271,14 @@ pub fn run<F: Commands, S: Site, R: Runner<F>, C: Clock, B: Born>(
     ensures serial { S.tells
         → let sources = read_sources plan (S.files site) in
         IsStanding F.gives sources plan log.name history (S.may_leave site)
-        → TellsJobs plan (R.tells runner.old) (serial plan F.gives sources)
+        → TellsJobs plan (AllTell R.tells runners.old) (serial plan F.gives sources)
         → (image : Files) → S.images_since result.site B.born image
         → S.images_since site B.born image ⊎ WasKept (SerialFits F.gives sources) plan log.name
         (length history) result.records (IsCutRun result.how) image }
     ensures more { S.tells
         → let sources = read_sources plan (S.files site) in
         IsStanding F.gives sources plan log.name history (S.may_leave site)
-        → TellsJobs plan (R.tells runner.old) (serial plan F.gives sources)
+        → TellsJobs plan (AllTell R.tells runners.old) (serial plan F.gives sources)
         → Adds (Unit {0}) F.gives F.may_fail sources plan history result.records }
     ensures starts { S.tells
         → StartEnds (run_fault plan options history (S.files site)) result.how }
@@ -257,25 +289,28 @@ pub fn run<F: Commands, S: Site, R: Runner<F>, C: Clock, B: Born>(
         → RunCollects plan options.mode result.records }
     ensures gone { S.tells → (IsCutRun result.how → ⊥)
         → AreGone plan (S.files result.site) history result.records }
-    ensures unused { IsRefusedRun result.how → runner.new ≡ runner.old }
+    ensures unused { IsRefusedRun result.how → runners.new ≡ runners.old }
     ensures opened { (IsRefusedRun result.how → ⊥) → OpensBy options result.records }
     ensures closed { FitsHere plan options → IfOk result.how (IsRunEnd options.limit) }
     ensures damage { S.tells
         → RunDamage plan result.records (S.files result.site) result.how }
     ensures whole { S.tells → IsKeeping plan log.name history (S.may_leave site)
         → IsWholeRun result.how }
-    ensures sure { R.sure runner.old → IsSureEnd result.how }
-    ensures failed { HasFailed (R.failures runner.old) (R.failures runner.new) result.how }
+    ensures sure { AllSure R.sure runners.old → IsSureEnd result.how }
+    ensures failed { HasFailed (sum_by R.failures runners.old) (sum_by R.failures runners.new)
+        result.how }
     ensures failures { IsClosedRun result.how → LogsFailures history result.records
-        (R.failures runner.old) (R.failures runner.new) }
+        (sum_by R.failures runners.old) (sum_by R.failures runners.new) }
     ensures completes { S.tells
         → let sources = read_sources plan (S.files site) in
         IsStanding F.gives sources plan log.name history (S.may_leave site)
-        → TellsJobs plan (R.tells runner.old) (serial plan F.gives sources)
+        → TellsJobs plan (AllTell R.tells runners.old) (serial plan F.gives sources)
         → FitsHere plan options → SerialInputsFit plan F.gives sources
         → HasRecordRoom plan history → run_fault plan options history (S.files site) ≡ None
-        → R.sure runner.old → S.count result.site ≤ S.count site
+        → AllSure R.sure runners.old → S.count result.site ≤ S.count site
         → IsDone options.limit result.how }
 {
-    run_by::<F, S, R, C, Brand>(alloc, plan, site, log, history, options, runner, clock)
+    run_by::<W, G, F, S, R, C, Brand>(
+        rt, alloc, plan, site, log, history, options, runners, gate, clock,
+    )
 }

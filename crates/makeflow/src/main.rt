@@ -1,6 +1,8 @@
 //! `makeflow FILE`: runs the rules of a flow file in the current folder.
 #![tactic(auto)]
 
+ghost use Rattle.std.specs.Prelude.{◌≡◌, IfOk, length};
+
 use master_run::makeflow_top;
 use real_outside::{FolderSite, Owner, ShellRunner, StdoutSink, System, SystemClock};
 use std::alloc::AllocError;
@@ -9,6 +11,7 @@ use std::io::ErrorKind;
 use std::process::ExitCode;
 use std::rt::Env;
 use std::{env, fs, process};
+use worker_pool::OpenGate;
 
 // The status of want of memory, here before there is a run that could say so.
 const OUT_OF_MEMORY: u8 = 8;
@@ -32,6 +35,23 @@ fn variables_of<R: Env + AllocGlobal>(rt: &R) -> Result<Vec<(String, String)>, A
     }
 }
 
+// How many jobs are run at once, at most.
+const MOST_JOBS: usize = 16;
+
+// A runner for each job that may be run at once. Each makes a folder of its own for its job.
+fn runners_of<'a, R: AllocGlobal>(
+    rt: &'a R,
+    owner: &'a Owner,
+) -> Result<Vec<ShellRunner<'a, R>>, AllocError>
+    ensures { IfOk result (λ runners. length runners.items ≡ 16) }
+{
+    let mut runners = Vec::new(rt.alloc());
+    for _ in 0..MOST_JOBS {
+        runners.push(ShellRunner::new(rt, owner))?;
+    }
+    Ok(runners)
+}
+
 // What is opened where a standard stream is closed takes the stream's number, and then what is
 // printed would go into it. These three take such numbers first, and can't be written.
 const NOT_WRITTEN: &str = "/dev/null";
@@ -50,14 +70,18 @@ fn main(rt: HostRuntime) -> ExitCode {
         return ExitCode::from(OUT_OF_MEMORY);
     };
     let site = FolderSite::new(&rt, &owner);
-    let mut runner = ShellRunner::new(&rt, &owner);
+    let Ok(mut runners) = runners_of(&rt, &owner) else {
+        return ExitCode::from(OUT_OF_MEMORY);
+    };
     let mut out = StdoutSink::new(&rt);
-    let ended = makeflow_top::<System, _, _, _, _>(
+    let ended = makeflow_top::<System, _, _, _, _, _, _>(
+        &rt,
         rt.alloc(),
         words.as_slice(),
         variables.as_slice(),
         site,
-        &mut runner,
+        runners.as_mut_slice(),
+        &OpenGate,
         &SystemClock::new(&rt),
         &mut out,
     );

@@ -38,8 +38,10 @@ use Rattle.report.specs.declared.cause.Cause.TheVariants as causes
 use Rattle.report.specs.declared.cause.Kind.{Kind}
 use Rattle.report.specs.declared.cause.Kind.TheVariants as kinds
 use Rattle.report.specs.Causes.{is_cut, is_failing, is_refusal, kind_of, was_read}
+use Rattle.master_run.proofs.Counted.{site_rise}
 use Rattle.master_run.specs.declared.ask.Ask.{Ask}
-use Rattle.master_run.specs.declared.counts.Counts.{Counts}
+use Rattle.master_run.specs.Counts.{Counts}
+use Rattle.master_run.specs.declared.rises.Rise.{Rise}
 use Rattle.master_run.specs.Ends.{Answers, FaultEnd, GoesOn, IsDamagedAt, IsReadOr, Yields, start_cause}
 use Rattle.master_run.specs.Headline.{HasLog, IsCleanedBy, IsLegalOr, StartsNone, is_early, is_run_end}
 use Rattle.master_run.specs.Runs.{clean_cause, look_cause}
@@ -99,24 +101,24 @@ ended_either H moment false = inr refl
 
 -- ---- of a look that is refused
 
-pub look_cut : (b a : Counts) (why : LookFault) → IsCutFault why → is_cut (kind_of (look_cause b a why)) ≡ true
-look_cut b a (looks.Log recovery.Site) cut = refl
-look_cut b a (looks.Log recovery.BadHeader) cut = absurd cut
-look_cut b a (looks.Log (recovery.BadRecord at)) cut = absurd cut
-look_cut b a (looks.Log recovery.Memory) cut = refl
-look_cut b a (looks.OtherFlow logged found) cut = absurd cut
-look_cut b a (looks.NotLegal at) cut = absurd cut
-look_cut b a looks.Memory cut = refl
+pub look_cut : (s : Rise) (why : LookFault) → IsCutFault why → is_cut (kind_of (look_cause s why)) ≡ true
+look_cut s (looks.Log recovery.Site) cut = refl
+look_cut s (looks.Log recovery.BadHeader) cut = absurd cut
+look_cut s (looks.Log (recovery.BadRecord at)) cut = absurd cut
+look_cut s (looks.Log recovery.Memory) cut = refl
+look_cut s (looks.OtherFlow logged found) cut = absurd cut
+look_cut s (looks.NotLegal at) cut = absurd cut
+look_cut s looks.Memory cut = refl
 
-pub cut_look : (b a : Counts) (why : LookFault) → is_refusal (kind_of (look_cause b a why)) ≡ true → IsCutFault why → ⊥
-cut_look b a why refused cut = by_kind (kind_of (look_cause b a why)) (look_cut b a why cut) refused
+pub cut_look : (s : Rise) (why : LookFault) → is_refusal (kind_of (look_cause s why)) ≡ true → IsCutFault why → ⊥
+cut_look s why refused cut = by_kind (kind_of (look_cause s why)) (look_cut s why cut) refused
   where
     by_kind : (kind : Kind) → is_cut kind ≡ true → is_refusal kind ≡ true → ⊥
     by_kind kinds.SiteBroke cut refused = true≢false (sym refused)
     by_kind kinds.NoMemory cut refused = true≢false (sym refused)
     by_kind _ cut refused = true≢false (sym cut)
 
-pub look_faults : (b a : Counts) (s0 s1 : ℕ) (why : LookFault) → b.site ≤ s0 → a.site ≡ s1 → (IsSiteFault why → s0 < s1) → FaultEnd b a (look_cause b a why)
+pub look_faults : (b a : Counts) (s0 s1 : ℕ) (why : LookFault) → b.site ≤ s0 → a.site ≡ s1 → (IsSiteFault why → s0 < s1) → FaultEnd b a (look_cause (site_rise b a) why)
 look_faults b a s0 s1 (looks.Log recovery.Site) le is rises = (refl, refl, omega (arith, le, is, rises tt))
 look_faults b a s0 s1 (looks.Log recovery.BadHeader) le is rises = tt
 look_faults b a s0 s1 (looks.Log (recovery.BadRecord at)) le is rises = tt
@@ -125,51 +127,51 @@ look_faults b a s0 s1 (looks.OtherFlow logged found) le is rises = tt
 look_faults b a s0 s1 (looks.NotLegal at) le is rises = tt
 look_faults b a s0 s1 looks.Memory le is rises = tt
 
-pub look_log : (b a : Counts) (P : Plan) (H given : List Record) (why : LookFault) → IsLookFault P H why → GivesBack H why given → HasLog H given (kind_of (look_cause b a why))
-look_log b a P H given (looks.Log recovery.Site) is gives = inr (gives, refl)
-look_log b a P H given (looks.Log recovery.BadHeader) is gives = absurd is
-look_log b a P H given (looks.Log (recovery.BadRecord at)) is gives = absurd is
-look_log b a P H given (looks.Log recovery.Memory) is gives = inr (gives, refl)
-look_log b a P H given (looks.OtherFlow logged found) is gives = inl ([], gives ∙ sym (append_nothing H))
-look_log b a P H given (looks.NotLegal at) is gives = inl ([], gives ∙ sym (append_nothing H))
-look_log b a P H given looks.Memory is gives = inl ([], gives ∙ sym (append_nothing H))
+pub look_log : (s : Rise) (P : Plan) (H given : List Record) (why : LookFault) → IsLookFault P H why → GivesBack H why given → HasLog H given (kind_of (look_cause s why))
+look_log s P H given (looks.Log recovery.Site) is gives = inr (gives, refl)
+look_log s P H given (looks.Log recovery.BadHeader) is gives = absurd is
+look_log s P H given (looks.Log (recovery.BadRecord at)) is gives = absurd is
+look_log s P H given (looks.Log recovery.Memory) is gives = inr (gives, refl)
+look_log s P H given (looks.OtherFlow logged found) is gives = inl ([], gives ∙ sym (append_nothing H))
+look_log s P H given (looks.NotLegal at) is gives = inl ([], gives ∙ sym (append_nothing H))
+look_log s P H given looks.Memory is gives = inl ([], gives ∙ sym (append_nothing H))
 
-pub look_legal : (b a : Counts) (P : Plan) (H given : List Record) (why : LookFault) → GivesBack H why given → IsLegalOr P H given (kind_of (look_cause b a why))
-look_legal b a P H given (looks.Log recovery.Site) gives = inr (inr gives, refl)
-look_legal b a P H given (looks.Log recovery.BadHeader) gives = inr (inr gives, refl)
-look_legal b a P H given (looks.Log (recovery.BadRecord at)) gives = inr (inr gives, refl)
-look_legal b a P H given (looks.Log recovery.Memory) gives = inr (inr gives, refl)
-look_legal b a P H given (looks.OtherFlow logged found) gives = inr (inl gives, refl)
-look_legal b a P H given (looks.NotLegal at) gives = inr (inl gives, refl)
-look_legal b a P H given looks.Memory gives = inr (inl gives, refl)
+pub look_legal : (s : Rise) (P : Plan) (H given : List Record) (why : LookFault) → GivesBack H why given → IsLegalOr P H given (kind_of (look_cause s why))
+look_legal s P H given (looks.Log recovery.Site) gives = inr (inr gives, refl)
+look_legal s P H given (looks.Log recovery.BadHeader) gives = inr (inr gives, refl)
+look_legal s P H given (looks.Log (recovery.BadRecord at)) gives = inr (inr gives, refl)
+look_legal s P H given (looks.Log recovery.Memory) gives = inr (inr gives, refl)
+look_legal s P H given (looks.OtherFlow logged found) gives = inr (inl gives, refl)
+look_legal s P H given (looks.NotLegal at) gives = inr (inl gives, refl)
+look_legal s P H given looks.Memory gives = inr (inl gives, refl)
 
-pub look_unread : (b a : Counts) (why : LookFault) → was_read (kind_of (look_cause b a why)) ≡ false
-look_unread b a (looks.Log recovery.Site) = refl
-look_unread b a (looks.Log recovery.BadHeader) = refl
-look_unread b a (looks.Log (recovery.BadRecord at)) = refl
-look_unread b a (looks.Log recovery.Memory) = refl
-look_unread b a (looks.OtherFlow logged found) = refl
-look_unread b a (looks.NotLegal at) = refl
-look_unread b a looks.Memory = refl
+pub look_unread : (s : Rise) (why : LookFault) → was_read (kind_of (look_cause s why)) ≡ false
+look_unread s (looks.Log recovery.Site) = refl
+look_unread s (looks.Log recovery.BadHeader) = refl
+look_unread s (looks.Log (recovery.BadRecord at)) = refl
+look_unread s (looks.Log recovery.Memory) = refl
+look_unread s (looks.OtherFlow logged found) = refl
+look_unread s (looks.NotLegal at) = refl
+look_unread s looks.Memory = refl
 
 -- where the records were given back, none was added
-pub look_either : (H given : List Record) (moment : ℕ) (b a : Counts) (P : Plan) (why : LookFault) → IsLookFault P H why → GivesBack H why given → (is_cut (kind_of (look_cause b a why)) ≡ true → ⊥) → AreEither H moment given
-look_either H given moment b a P (looks.Log recovery.Site) is gives whole = absurd (whole refl)
-look_either H given moment b a P (looks.Log recovery.BadHeader) is gives whole = absurd is
-look_either H given moment b a P (looks.Log (recovery.BadRecord at)) is gives whole = absurd is
-look_either H given moment b a P (looks.Log recovery.Memory) is gives whole = absurd (whole refl)
-look_either H given moment b a P (looks.OtherFlow logged found) is gives whole = inl gives
-look_either H given moment b a P (looks.NotLegal at) is gives whole = inl gives
-look_either H given moment b a P looks.Memory is gives whole = absurd (whole refl)
+pub look_either : (H given : List Record) (moment : ℕ) (s : Rise) (P : Plan) (why : LookFault) → IsLookFault P H why → GivesBack H why given → (is_cut (kind_of (look_cause s why)) ≡ true → ⊥) → AreEither H moment given
+look_either H given moment s P (looks.Log recovery.Site) is gives whole = absurd (whole refl)
+look_either H given moment s P (looks.Log recovery.BadHeader) is gives whole = absurd is
+look_either H given moment s P (looks.Log (recovery.BadRecord at)) is gives whole = absurd is
+look_either H given moment s P (looks.Log recovery.Memory) is gives whole = absurd (whole refl)
+look_either H given moment s P (looks.OtherFlow logged found) is gives whole = inl gives
+look_either H given moment s P (looks.NotLegal at) is gives whole = inl gives
+look_either H given moment s P looks.Memory is gives whole = absurd (whole refl)
 
-pub look_read : (b a : Counts) (file : Option (List ℕ)) (given : List Record) (why : LookFault) → IsOfFile file why given → IsReadOr file (look_cause b a why)
-look_read b a file given (looks.Log recovery.Site) is = inr (inr refl)
-look_read b a file given (looks.Log recovery.BadHeader) is = inr (inl (0, refl))
-look_read b a file given (looks.Log (recovery.BadRecord at)) is = inr (inl (at, refl))
-look_read b a file given (looks.Log recovery.Memory) is = inr (inr refl)
-look_read b a file given (looks.OtherFlow logged found) is = inl (given, is)
-look_read b a file given (looks.NotLegal at) is = inl (given, is)
-look_read b a file given looks.Memory is = inl (given, is)
+pub look_read : (s : Rise) (file : Option (List ℕ)) (given : List Record) (why : LookFault) → IsOfFile file why given → IsReadOr file (look_cause s why)
+look_read s file given (looks.Log recovery.Site) is = inr (inr refl)
+look_read s file given (looks.Log recovery.BadHeader) is = inr (inl (0, refl))
+look_read s file given (looks.Log (recovery.BadRecord at)) is = inr (inl (at, refl))
+look_read s file given (looks.Log recovery.Memory) is = inr (inr refl)
+look_read s file given (looks.OtherFlow logged found) is = inl (given, is)
+look_read s file given (looks.NotLegal at) is = inl (given, is)
+look_read s file given looks.Memory is = inl (given, is)
 
 at_of : (x y : ℕ) → causes.LogDamaged x ≡ causes.LogDamaged y → x ≡ y
 at_of x y is = ap at is
@@ -178,27 +180,27 @@ at_of x y is = ap at is
     at (causes.LogDamaged n) = n
     at _ = 0
 
-pub look_damaged : (b a : Counts) (file : Option (List ℕ)) (given : List Record) (why : LookFault) (at : ℕ) → IsOfFile file why given → look_cause b a why ≡ causes.LogDamaged at → IsDamagedAt file at
-look_damaged b a file given (looks.Log recovery.Site) at is told = absurd (cc)
-look_damaged b a file given (looks.Log recovery.BadHeader) at is told = inl (is, sym (at_of 0 at told))
-look_damaged b a file given (looks.Log (recovery.BadRecord place)) at is told = inr (subst (HasBadRecord file) (at_of place at told) is)
-look_damaged b a file given (looks.Log recovery.Memory) at is told = absurd (cc)
-look_damaged b a file given (looks.OtherFlow logged found) at is told = absurd (cc)
-look_damaged b a file given (looks.NotLegal at_record) at is told = absurd (cc)
-look_damaged b a file given looks.Memory at is told = absurd (cc)
+pub look_damaged : (s : Rise) (file : Option (List ℕ)) (given : List Record) (why : LookFault) (at : ℕ) → IsOfFile file why given → look_cause s why ≡ causes.LogDamaged at → IsDamagedAt file at
+look_damaged s file given (looks.Log recovery.Site) at is told = absurd (cc)
+look_damaged s file given (looks.Log recovery.BadHeader) at is told = inl (is, sym (at_of 0 at told))
+look_damaged s file given (looks.Log (recovery.BadRecord place)) at is told = inr (subst (HasBadRecord file) (at_of place at told) is)
+look_damaged s file given (looks.Log recovery.Memory) at is told = absurd (cc)
+look_damaged s file given (looks.OtherFlow logged found) at is told = absurd (cc)
+look_damaged s file given (looks.NotLegal at_record) at is told = absurd (cc)
+look_damaged s file given looks.Memory at is told = absurd (cc)
 
 said_goes : (refusal : Option StartFault) (why : StartFault) (rest : Type 0) → refusal ≡ Some why → Yields (option_map start_cause refusal) (start_cause why) rest
 said_goes refusal why rest is = subst (λ (o : Option StartFault). Yields (option_map start_cause o) (start_cause why) rest) (sym is) (λ stays. inl refl)
 
-pub look_goes : (b a : Counts) (ask : Ask) (H : List Record) (before after : Files) (records : List Record) (why : LookFault) → IsLookFault ask.plan H why
-    → GoesOn works.PrintLog ask H before after records (look_cause b a why)
-look_goes b a ask H before after records (looks.Log recovery.Site) is = fault_goes works.PrintLog ask H before after records (causes.SiteFault b.site a.site) refl
-look_goes b a ask H before after records (looks.Log recovery.BadHeader) is = absurd is
-look_goes b a ask H before after records (looks.Log (recovery.BadRecord at)) is = absurd is
-look_goes b a ask H before after records (looks.Log recovery.Memory) is = fault_goes works.PrintLog ask H before after records causes.Memory refl
-look_goes b a ask H before after records (looks.OtherFlow logged found) is = said_goes (history_fault ask.plan H) (faults.OtherFlow logged found) _ is
-look_goes b a ask H before after records (looks.NotLegal at) is = said_goes (history_fault ask.plan H) (faults.NotLegal at) _ is
-look_goes b a ask H before after records looks.Memory is = fault_goes works.PrintLog ask H before after records causes.Memory refl
+pub look_goes : (s : Rise) (ask : Ask) (H : List Record) (before after : Files) (records : List Record) (why : LookFault) → IsLookFault ask.plan H why
+    → GoesOn works.PrintLog ask H before after records (look_cause s why)
+look_goes s ask H before after records (looks.Log recovery.Site) is = fault_goes works.PrintLog ask H before after records (causes.SiteFault s.before s.after) refl
+look_goes s ask H before after records (looks.Log recovery.BadHeader) is = absurd is
+look_goes s ask H before after records (looks.Log (recovery.BadRecord at)) is = absurd is
+look_goes s ask H before after records (looks.Log recovery.Memory) is = fault_goes works.PrintLog ask H before after records causes.Memory refl
+look_goes s ask H before after records (looks.OtherFlow logged found) is = said_goes (history_fault ask.plan H) (faults.OtherFlow logged found) _ is
+look_goes s ask H before after records (looks.NotLegal at) is = said_goes (history_fault ask.plan H) (faults.NotLegal at) _ is
+look_goes s ask H before after records looks.Memory is = fault_goes works.PrintLog ask H before after records causes.Memory refl
 
 -- a log that isn't begun is refused by nothing
 pub look_begun : (one : SpellsOneList) (header : HasAHeader) (whole : IsWhole) (P : Plan) (file : Option (List ℕ)) (given : List Record) (why : LookFault) → (IsCutFault why → ⊥) → IsOfFile file why given
@@ -213,132 +215,132 @@ look_begun one header whole P file given looks.Memory uncut is ends unbegun = un
 
 -- ---- of a cleaning that is refused
 
-pub clean_cut : (b a : Counts) (why : CleanFault) → IsCutFor why → is_cut (kind_of (clean_cause b a why)) ≡ true
-clean_cut b a (cleans.Look why) cut = look_cut b a why cut
-clean_cut b a (cleans.LogFull count) cut = absurd cut
-clean_cut b a cleans.Site cut = refl
-clean_cut b a cleans.Memory cut = refl
+pub clean_cut : (s : Rise) (why : CleanFault) → IsCutFor why → is_cut (kind_of (clean_cause s why)) ≡ true
+clean_cut s (cleans.Look why) cut = look_cut s why cut
+clean_cut s (cleans.LogFull count) cut = absurd cut
+clean_cut s cleans.Site cut = refl
+clean_cut s cleans.Memory cut = refl
 
-pub cut_clean : (b a : Counts) (why : CleanFault) → is_refusal (kind_of (clean_cause b a why)) ≡ true → IsCutFor why → ⊥
-cut_clean b a (cleans.Look why) refused cut = cut_look b a why refused cut
-cut_clean b a (cleans.LogFull count) refused cut = cut
-cut_clean b a cleans.Site refused cut = true≢false (sym refused)
-cut_clean b a cleans.Memory refused cut = true≢false (sym refused)
+pub cut_clean : (s : Rise) (why : CleanFault) → is_refusal (kind_of (clean_cause s why)) ≡ true → IsCutFor why → ⊥
+cut_clean s (cleans.Look why) refused cut = cut_look s why refused cut
+cut_clean s (cleans.LogFull count) refused cut = cut
+cut_clean s cleans.Site refused cut = true≢false (sym refused)
+cut_clean s cleans.Memory refused cut = true≢false (sym refused)
 
-pub clean_faults : (b a : Counts) (s0 s1 : ℕ) (why : CleanFault) → b.site ≤ s0 → a.site ≡ s1 → (IsOfSite why → s0 < s1) → FaultEnd b a (clean_cause b a why)
+pub clean_faults : (b a : Counts) (s0 s1 : ℕ) (why : CleanFault) → b.site ≤ s0 → a.site ≡ s1 → (IsOfSite why → s0 < s1) → FaultEnd b a (clean_cause (site_rise b a) why)
 clean_faults b a s0 s1 (cleans.Look why) le is rises = look_faults b a s0 s1 why le is rises
 clean_faults b a s0 s1 (cleans.LogFull count) le is rises = tt
 clean_faults b a s0 s1 cleans.Site le is rises = (refl, refl, omega (arith, le, is, rises tt))
 clean_faults b a s0 s1 cleans.Memory le is rises = tt
 
-pub clean_log : (b a : Counts) (P : Plan) (H given : List Record) (moment : ℕ) (why : CleanFault) → IsCleanFault P H why → IsLeft H moment why given → HasLog H given (kind_of (clean_cause b a why))
-clean_log b a P H given moment (cleans.Look why) is left = look_log b a P H given why is left
-clean_log b a P H given moment (cleans.LogFull count) is left = inl ([], left ∙ sym (append_nothing H))
-clean_log b a P H given moment cleans.Site is left = inl (begins_so H given moment left)
-clean_log b a P H given moment cleans.Memory is left = inl (begins_so H given moment left)
+pub clean_log : (s : Rise) (P : Plan) (H given : List Record) (moment : ℕ) (why : CleanFault) → IsCleanFault P H why → IsLeft H moment why given → HasLog H given (kind_of (clean_cause s why))
+clean_log s P H given moment (cleans.Look why) is left = look_log s P H given why is left
+clean_log s P H given moment (cleans.LogFull count) is left = inl ([], left ∙ sym (append_nothing H))
+clean_log s P H given moment cleans.Site is left = inl (begins_so H given moment left)
+clean_log s P H given moment cleans.Memory is left = inl (begins_so H given moment left)
 
-pub clean_legal : (b a : Counts) (P : Plan) (H given : List Record) (moment : ℕ) (why : CleanFault) → IsLeft H moment why given → (WasAdmitted why → IsLegal P given) → IsLegalOr P H given (kind_of (clean_cause b a why))
-clean_legal b a P H given moment (cleans.Look why) left legal = look_legal b a P H given why left
-clean_legal b a P H given moment (cleans.LogFull count) left legal = inl (legal tt)
-clean_legal b a P H given moment cleans.Site left legal = inl (legal tt)
-clean_legal b a P H given moment cleans.Memory left legal = inl (legal tt)
+pub clean_legal : (s : Rise) (P : Plan) (H given : List Record) (moment : ℕ) (why : CleanFault) → IsLeft H moment why given → (WasAdmitted why → IsLegal P given) → IsLegalOr P H given (kind_of (clean_cause s why))
+clean_legal s P H given moment (cleans.Look why) left legal = look_legal s P H given why left
+clean_legal s P H given moment (cleans.LogFull count) left legal = inl (legal tt)
+clean_legal s P H given moment cleans.Site left legal = inl (legal tt)
+clean_legal s P H given moment cleans.Memory left legal = inl (legal tt)
 
-pub clean_read : (b a : Counts) (P : Plan) (given : List Record) (why : CleanFault) → (WasAdmitted why → IsLegal P given) → was_read (kind_of (clean_cause b a why)) ≡ true → IsLegal P given
-clean_read b a P given (cleans.Look why) legal read = absent (sym (look_unread b a why) ∙ read)
-clean_read b a P given (cleans.LogFull count) legal read = legal tt
-clean_read b a P given cleans.Site legal read = legal tt
-clean_read b a P given cleans.Memory legal read = legal tt
+pub clean_read : (s : Rise) (P : Plan) (given : List Record) (why : CleanFault) → (WasAdmitted why → IsLegal P given) → was_read (kind_of (clean_cause s why)) ≡ true → IsLegal P given
+clean_read s P given (cleans.Look why) legal read = absent (sym (look_unread s why) ∙ read)
+clean_read s P given (cleans.LogFull count) legal read = legal tt
+clean_read s P given cleans.Site legal read = legal tt
+clean_read s P given cleans.Memory legal read = legal tt
 
-pub clean_either : (H given : List Record) (moment : ℕ) (b a : Counts) (P : Plan) (why : CleanFault) → IsCleanFault P H why → IsLeft H moment why given → (is_cut (kind_of (clean_cause b a why)) ≡ true → ⊥) → AreEither H moment given
-clean_either H given moment b a P (cleans.Look why) is left whole = look_either H given moment b a P why is left whole
-clean_either H given moment b a P (cleans.LogFull count) is left whole = inl left
-clean_either H given moment b a P cleans.Site is left whole = left
-clean_either H given moment b a P cleans.Memory is left whole = left
+pub clean_either : (H given : List Record) (moment : ℕ) (s : Rise) (P : Plan) (why : CleanFault) → IsCleanFault P H why → IsLeft H moment why given → (is_cut (kind_of (clean_cause s why)) ≡ true → ⊥) → AreEither H moment given
+clean_either H given moment s P (cleans.Look why) is left whole = look_either H given moment s P why is left whole
+clean_either H given moment s P (cleans.LogFull count) is left whole = inl left
+clean_either H given moment s P cleans.Site is left whole = left
+clean_either H given moment s P cleans.Memory is left whole = left
 
-pub clean_of : (b a : Counts) (file : Option (List ℕ)) (given : List Record) (why : CleanFault) → IsCleanOfFile file why given → IsReadOr file (clean_cause b a why)
-clean_of b a file given (cleans.Look why) is = look_read b a file given why is
-clean_of b a file given (cleans.LogFull count) is = inl is
-clean_of b a file given cleans.Site is = inl is
-clean_of b a file given cleans.Memory is = inl is
+pub clean_of : (s : Rise) (file : Option (List ℕ)) (given : List Record) (why : CleanFault) → IsCleanOfFile file why given → IsReadOr file (clean_cause s why)
+clean_of s file given (cleans.Look why) is = look_read s file given why is
+clean_of s file given (cleans.LogFull count) is = inl is
+clean_of s file given cleans.Site is = inl is
+clean_of s file given cleans.Memory is = inl is
 
-pub clean_damaged : (b a : Counts) (file : Option (List ℕ)) (given : List Record) (why : CleanFault) (at : ℕ) → IsCleanOfFile file why given → clean_cause b a why ≡ causes.LogDamaged at → IsDamagedAt file at
-clean_damaged b a file given (cleans.Look why) at is told = look_damaged b a file given why at is told
-clean_damaged b a file given (cleans.LogFull count) at is told = absurd (cc)
-clean_damaged b a file given cleans.Site at is told = absurd (cc)
-clean_damaged b a file given cleans.Memory at is told = absurd (cc)
+pub clean_damaged : (s : Rise) (file : Option (List ℕ)) (given : List Record) (why : CleanFault) (at : ℕ) → IsCleanOfFile file why given → clean_cause s why ≡ causes.LogDamaged at → IsDamagedAt file at
+clean_damaged s file given (cleans.Look why) at is told = look_damaged s file given why at is told
+clean_damaged s file given (cleans.LogFull count) at is told = absurd (cc)
+clean_damaged s file given cleans.Site at is told = absurd (cc)
+clean_damaged s file given cleans.Memory at is told = absurd (cc)
 
 first_said : (P : Plan) (H : List Record) (why : StartFault) → history_fault P H ≡ Some why → clean_fault P H ≡ Some why
 first_said P H why is = ap (λ (o : Option StartFault). or_else o (or_else (where_so (not (is_empty (part H)) && nat_le most_records (length H)) (faults.LogFull (length H))) None)) is
 
-pub clean_goes : (b a : Counts) (ask : Ask) (H : List Record) (before after : Files) (records : List Record) (why : CleanFault) → IsCleanFault ask.plan H why
-    → GoesOn works.Clean ask H before after records (clean_cause b a why)
-clean_goes b a ask H before after records (cleans.Look (looks.Log recovery.Site)) is = fault_goes works.Clean ask H before after records (causes.SiteFault b.site a.site) refl
-clean_goes b a ask H before after records (cleans.Look (looks.Log recovery.BadHeader)) is = absurd is
-clean_goes b a ask H before after records (cleans.Look (looks.Log (recovery.BadRecord at))) is = absurd is
-clean_goes b a ask H before after records (cleans.Look (looks.Log recovery.Memory)) is = fault_goes works.Clean ask H before after records causes.Memory refl
-clean_goes b a ask H before after records (cleans.Look (looks.OtherFlow logged found)) is = said_goes (clean_fault ask.plan H) (faults.OtherFlow logged found) _ (first_said ask.plan H (faults.OtherFlow logged found) is)
-clean_goes b a ask H before after records (cleans.Look (looks.NotLegal at)) is = said_goes (clean_fault ask.plan H) (faults.NotLegal at) _ (first_said ask.plan H (faults.NotLegal at) is)
-clean_goes b a ask H before after records (cleans.Look looks.Memory) is = fault_goes works.Clean ask H before after records causes.Memory refl
-clean_goes b a ask H before after records (cleans.LogFull count) is = said_goes (clean_fault ask.plan H) (faults.LogFull count) _ is
-clean_goes b a ask H before after records cleans.Site is = fault_goes works.Clean ask H before after records (causes.SiteFault b.site a.site) refl
-clean_goes b a ask H before after records cleans.Memory is = fault_goes works.Clean ask H before after records causes.Memory refl
+pub clean_goes : (s : Rise) (ask : Ask) (H : List Record) (before after : Files) (records : List Record) (why : CleanFault) → IsCleanFault ask.plan H why
+    → GoesOn works.Clean ask H before after records (clean_cause s why)
+clean_goes s ask H before after records (cleans.Look (looks.Log recovery.Site)) is = fault_goes works.Clean ask H before after records (causes.SiteFault s.before s.after) refl
+clean_goes s ask H before after records (cleans.Look (looks.Log recovery.BadHeader)) is = absurd is
+clean_goes s ask H before after records (cleans.Look (looks.Log (recovery.BadRecord at))) is = absurd is
+clean_goes s ask H before after records (cleans.Look (looks.Log recovery.Memory)) is = fault_goes works.Clean ask H before after records causes.Memory refl
+clean_goes s ask H before after records (cleans.Look (looks.OtherFlow logged found)) is = said_goes (clean_fault ask.plan H) (faults.OtherFlow logged found) _ (first_said ask.plan H (faults.OtherFlow logged found) is)
+clean_goes s ask H before after records (cleans.Look (looks.NotLegal at)) is = said_goes (clean_fault ask.plan H) (faults.NotLegal at) _ (first_said ask.plan H (faults.NotLegal at) is)
+clean_goes s ask H before after records (cleans.Look looks.Memory) is = fault_goes works.Clean ask H before after records causes.Memory refl
+clean_goes s ask H before after records (cleans.LogFull count) is = said_goes (clean_fault ask.plan H) (faults.LogFull count) _ is
+clean_goes s ask H before after records cleans.Site is = fault_goes works.Clean ask H before after records (causes.SiteFault s.before s.after) refl
+clean_goes s ask H before after records cleans.Memory is = fault_goes works.Clean ask H before after records causes.Memory refl
 
-pub clean_begun : (one : SpellsOneList) (header : HasAHeader) (whole : IsWhole) (P : Plan) (file : Option (List ℕ)) (given : List Record) (why : CleanFault) (b a : Counts) → is_refusal (kind_of (clean_cause b a why)) ≡ true
+pub clean_begun : (one : SpellsOneList) (header : HasAHeader) (whole : IsWhole) (P : Plan) (file : Option (List ℕ)) (given : List Record) (why : CleanFault) (s : Rise) → is_refusal (kind_of (clean_cause s why)) ≡ true
     → IsCleanOfFile file why given → ((H : List Record) → Spells H file → IsCleanFault P H why) → IsUnbegun file → ⊥
-clean_begun one header whole P file given (cleans.Look why) b a refused is ends unbegun = look_begun one header whole P file given why (cut_look b a why refused) is ends unbegun
-clean_begun one header whole P file given (cleans.LogFull count) b a refused is ends unbegun = true≢false (sym refused)
-clean_begun one header whole P file given cleans.Site b a refused is ends unbegun = true≢false (sym refused)
-clean_begun one header whole P file given cleans.Memory b a refused is ends unbegun = true≢false (sym refused)
+clean_begun one header whole P file given (cleans.Look why) s refused is ends unbegun = look_begun one header whole P file given why (cut_look s why refused) is ends unbegun
+clean_begun one header whole P file given (cleans.LogFull count) s refused is ends unbegun = true≢false (sym refused)
+clean_begun one header whole P file given cleans.Site s refused is ends unbegun = true≢false (sym refused)
+clean_begun one header whole P file given cleans.Memory s refused is ends unbegun = true≢false (sym refused)
 
 pub done_goes : (refusal : Option StartFault) (expected cause : Cause) → refusal ≡ None → cause ≡ expected → Yields (option_map start_cause refusal) cause (Answers expected cause)
 done_goes refusal expected cause none same = subst (λ (o : Option StartFault). Yields (option_map start_cause o) cause (Answers expected cause)) (sym none) (λ stays. inl same)
 
 -- ---- kinds
 
-pub look_late : (b a : Counts) (why : LookFault) → is_early (kind_of (look_cause b a why)) ≡ false
-look_late b a (looks.Log recovery.Site) = refl
-look_late b a (looks.Log recovery.BadHeader) = refl
-look_late b a (looks.Log (recovery.BadRecord at)) = refl
-look_late b a (looks.Log recovery.Memory) = refl
-look_late b a (looks.OtherFlow logged found) = refl
-look_late b a (looks.NotLegal at) = refl
-look_late b a looks.Memory = refl
+pub look_late : (s : Rise) (why : LookFault) → is_early (kind_of (look_cause s why)) ≡ false
+look_late s (looks.Log recovery.Site) = refl
+look_late s (looks.Log recovery.BadHeader) = refl
+look_late s (looks.Log (recovery.BadRecord at)) = refl
+look_late s (looks.Log recovery.Memory) = refl
+look_late s (looks.OtherFlow logged found) = refl
+look_late s (looks.NotLegal at) = refl
+look_late s looks.Memory = refl
 
-pub look_still : (b a : Counts) (why : LookFault) → (is_run_end (kind_of (look_cause b a why)) ≡ false) × (is_failing (kind_of (look_cause b a why)) ≡ false)
-look_still b a (looks.Log recovery.Site) = (refl, refl)
-look_still b a (looks.Log recovery.BadHeader) = (refl, refl)
-look_still b a (looks.Log (recovery.BadRecord at)) = (refl, refl)
-look_still b a (looks.Log recovery.Memory) = (refl, refl)
-look_still b a (looks.OtherFlow logged found) = (refl, refl)
-look_still b a (looks.NotLegal at) = (refl, refl)
-look_still b a looks.Memory = (refl, refl)
+pub look_still : (s : Rise) (why : LookFault) → (is_run_end (kind_of (look_cause s why)) ≡ false) × (is_failing (kind_of (look_cause s why)) ≡ false)
+look_still s (looks.Log recovery.Site) = (refl, refl)
+look_still s (looks.Log recovery.BadHeader) = (refl, refl)
+look_still s (looks.Log (recovery.BadRecord at)) = (refl, refl)
+look_still s (looks.Log recovery.Memory) = (refl, refl)
+look_still s (looks.OtherFlow logged found) = (refl, refl)
+look_still s (looks.NotLegal at) = (refl, refl)
+look_still s looks.Memory = (refl, refl)
 
-pub look_cleans : (b a : Counts) (P : Plan) (H : List Record) (files : Files) (why : LookFault) → IsCleanedBy P H files (look_cause b a why)
-look_cleans b a P H files (looks.Log recovery.Site) = tt
-look_cleans b a P H files (looks.Log recovery.BadHeader) = tt
-look_cleans b a P H files (looks.Log (recovery.BadRecord at)) = tt
-look_cleans b a P H files (looks.Log recovery.Memory) = tt
-look_cleans b a P H files (looks.OtherFlow logged found) = tt
-look_cleans b a P H files (looks.NotLegal at) = tt
-look_cleans b a P H files looks.Memory = tt
+pub look_cleans : (s : Rise) (P : Plan) (H : List Record) (files : Files) (why : LookFault) → IsCleanedBy P H files (look_cause s why)
+look_cleans s P H files (looks.Log recovery.Site) = tt
+look_cleans s P H files (looks.Log recovery.BadHeader) = tt
+look_cleans s P H files (looks.Log (recovery.BadRecord at)) = tt
+look_cleans s P H files (looks.Log recovery.Memory) = tt
+look_cleans s P H files (looks.OtherFlow logged found) = tt
+look_cleans s P H files (looks.NotLegal at) = tt
+look_cleans s P H files looks.Memory = tt
 
-pub clean_cleans : (b a : Counts) (P : Plan) (H : List Record) (files : Files) (why : CleanFault) → IsCleanedBy P H files (clean_cause b a why)
-clean_cleans b a P H files (cleans.Look why) = look_cleans b a P H files why
-clean_cleans b a P H files (cleans.LogFull count) = tt
-clean_cleans b a P H files cleans.Site = tt
-clean_cleans b a P H files cleans.Memory = tt
+pub clean_cleans : (s : Rise) (P : Plan) (H : List Record) (files : Files) (why : CleanFault) → IsCleanedBy P H files (clean_cause s why)
+clean_cleans s P H files (cleans.Look why) = look_cleans s P H files why
+clean_cleans s P H files (cleans.LogFull count) = tt
+clean_cleans s P H files cleans.Site = tt
+clean_cleans s P H files cleans.Memory = tt
 
-pub clean_late : (b a : Counts) (why : CleanFault) → is_early (kind_of (clean_cause b a why)) ≡ false
-clean_late b a (cleans.Look why) = look_late b a why
-clean_late b a (cleans.LogFull count) = refl
-clean_late b a cleans.Site = refl
-clean_late b a cleans.Memory = refl
+pub clean_late : (s : Rise) (why : CleanFault) → is_early (kind_of (clean_cause s why)) ≡ false
+clean_late s (cleans.Look why) = look_late s why
+clean_late s (cleans.LogFull count) = refl
+clean_late s cleans.Site = refl
+clean_late s cleans.Memory = refl
 
-pub clean_still : (b a : Counts) (why : CleanFault) → (is_run_end (kind_of (clean_cause b a why)) ≡ false) × (is_failing (kind_of (clean_cause b a why)) ≡ false)
-clean_still b a (cleans.Look why) = look_still b a why
-clean_still b a (cleans.LogFull count) = (refl, refl)
-clean_still b a cleans.Site = (refl, refl)
-clean_still b a cleans.Memory = (refl, refl)
+pub clean_still : (s : Rise) (why : CleanFault) → (is_run_end (kind_of (clean_cause s why)) ≡ false) × (is_failing (kind_of (clean_cause s why)) ≡ false)
+clean_still s (cleans.Look why) = look_still s why
+clean_still s (cleans.LogFull count) = (refl, refl)
+clean_still s cleans.Site = (refl, refl)
+clean_still s cleans.Memory = (refl, refl)
 
 -- where the records begin those that are given, or none are given
 pub look_begins : (H given : List Record) (time : ℕ) (why : LookFault) → GivesBack H why given → AreEither H time given ⊎ (given ≡ [])
@@ -354,17 +356,17 @@ clean_begins H given time cleans.Site left = inl left
 clean_begins H given time cleans.Memory left = inl left
 
 -- what isn't cut was read, where the file spells a list
-pub look_seen : (b a : Counts) (P : Plan) (H given : List Record) (why : LookFault) → IsLookFault P H why → GivesBack H why given → (is_cut (kind_of (look_cause b a why)) ≡ true → ⊥) → WasRead why × (given ≡ H)
-look_seen b a P H given (looks.Log recovery.Site) is gives whole = absurd (whole refl)
-look_seen b a P H given (looks.Log recovery.BadHeader) is gives whole = absurd is
-look_seen b a P H given (looks.Log (recovery.BadRecord at)) is gives whole = absurd is
-look_seen b a P H given (looks.Log recovery.Memory) is gives whole = absurd (whole refl)
-look_seen b a P H given (looks.OtherFlow logged found) is gives whole = (tt, gives)
-look_seen b a P H given (looks.NotLegal at) is gives whole = (tt, gives)
-look_seen b a P H given looks.Memory is gives whole = absurd (whole refl)
+pub look_seen : (s : Rise) (P : Plan) (H given : List Record) (why : LookFault) → IsLookFault P H why → GivesBack H why given → (is_cut (kind_of (look_cause s why)) ≡ true → ⊥) → WasRead why × (given ≡ H)
+look_seen s P H given (looks.Log recovery.Site) is gives whole = absurd (whole refl)
+look_seen s P H given (looks.Log recovery.BadHeader) is gives whole = absurd is
+look_seen s P H given (looks.Log (recovery.BadRecord at)) is gives whole = absurd is
+look_seen s P H given (looks.Log recovery.Memory) is gives whole = absurd (whole refl)
+look_seen s P H given (looks.OtherFlow logged found) is gives whole = (tt, gives)
+look_seen s P H given (looks.NotLegal at) is gives whole = (tt, gives)
+look_seen s P H given looks.Memory is gives whole = absurd (whole refl)
 
-pub clean_uncut : (b a : Counts) (why : CleanFault) → (is_cut (kind_of (clean_cause b a why)) ≡ true → ⊥) → IsCutFor why → ⊥
-clean_uncut b a why whole cut = whole (clean_cut b a why cut)
+pub clean_uncut : (s : Rise) (why : CleanFault) → (is_cut (kind_of (clean_cause s why)) ≡ true → ⊥) → IsCutFor why → ⊥
+clean_uncut s why whole cut = whole (clean_cut s why cut)
 
 -- a part isn't longer than its history
 pushed : (xs : List Record) (x : Record) → length (xs ++ (x ∷ [])) ≡ length xs + 1

@@ -24,7 +24,7 @@ use Rattle.report.specs.declared.cause.Kind.{Kind}
 use Rattle.report.specs.declared.cause.Kind.TheVariants as kinds
 use Rattle.report.specs.Causes.{is_completion, is_cut, is_failing, is_refusal, kind_of, may_lose, may_replace, was_read}
 use Rattle.master_run.specs.declared.ask.Ask.{Ask}
-use Rattle.master_run.specs.declared.counts.Counts.{Counts}
+use Rattle.master_run.specs.Counts.{Counts}
 use Rattle.master_run.specs.Ends.{FaultEnd, GoesOn, IsStop, NoneRose, RunEnds, Yields, clean_refusal, log_refusal, run_refusal}
 use Rattle.master_run.specs.Headline.{HasLog, IsCleanedBy, IsLegalOr, is_early, is_run_end}
 use Rattle.master_run.specs.Serves.{AllMoments, Completes, Fit, Serves, StaysResumable}

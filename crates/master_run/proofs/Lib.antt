@@ -1,4 +1,6 @@
 pub mod StageSteps
+pub mod Counted
+pub mod Widened
 pub mod Folders
 pub mod Fitted
 pub mod Printed

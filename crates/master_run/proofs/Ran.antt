@@ -1,5 +1,5 @@
 -- What a call does that runs a plan, by how the run ended.
-use Rattle.std.proofs.Common.{◌≡◌, ◌≤◌, ◌+◌, ◌⊎◌, ⊎_elim, inl, inr, ◌∙◌, ℕ, Bool, true, false, List, [], length, Option, Some, None, Result, Ok, Err, IfOk, OnOk, refl, sym, ap, subst, arith, true≢false, option_map, if◌then◌else◌}
+use Rattle.std.proofs.Common.{◌≡◌, ◌≤◌, ◌<◌, ◌+◌, ◌⊎◌, ⊎_elim, inl, inr, ◌∙◌, ℕ, Bool, true, false, List, [], length, sum, Option, Some, None, Result, Ok, Err, IfOk, OnOk, refl, sym, ap, subst, arith, true≢false, option_map, if◌then◌else◌}
 use Rattle.flow_types.specs.declared.plan.Plan.{Plan}
 use Rattle.flow_types.specs.declared.numbers.Content.{Content}
 use Rattle.flow_types.specs.declared.numbers.FileNo.{FileNo}
@@ -35,9 +35,11 @@ use Rattle.report.specs.declared.cause.Cause.{Cause}
 use Rattle.report.specs.declared.cause.Cause.TheVariants as causes
 use Rattle.report.specs.declared.cause.Kind.TheVariants as kinds
 use Rattle.report.specs.Causes.{is_cut, is_failing, is_refusal, kind_of, may_lose, was_read}
+use Rattle.master_run.proofs.Counted.{site_rise}
 use Rattle.master_run.specs.declared.ask.Ask.{Ask}
-use Rattle.master_run.specs.declared.counts.Counts.{Counts}
-use Rattle.master_run.specs.Ends.{FaultEnd, GoesOn, IsSomeRunEnd, IsStop, RunEnds, Yields, end_cause, start_cause}
+use Rattle.master_run.specs.Counts.{Counts}
+use Rattle.master_run.specs.declared.rises.Rise.{Rise}
+use Rattle.master_run.specs.Ends.{FaultEnd, GoesOn, IsSomeRunEnd, IsStop, OneRose, RunEnds, Yields, end_cause, start_cause}
 use Rattle.master_run.specs.Headline.{FailureEnd, IsCleanedBy, IsLegalOr, IsSpentBy, LogsFailed, StartsNone, is_early, is_run_end}
 use Rattle.master_run.specs.Runs.{damage_cause, run_cause}
 use Rattle.master_run.specs.Serves.{Completes, IsCut, Serves}
@@ -56,22 +58,22 @@ damage_kind true file logged found = refl
 damage_kind false file logged found = refl
 
 -- where a run was cut short the call is
-pub cut_run : (b a : Counts) (P : Plan) (how : Result Check Stopped) → IsCutRun how → is_cut (kind_of (run_cause b a P how)) ≡ true
-cut_run b a P (Ok ended) cut = absurd cut
-cut_run b a P (Err (stopped.Refused (faults.OtherFlow logged found))) cut = absurd cut
-cut_run b a P (Err (stopped.Refused (faults.NotLegal at))) cut = absurd cut
-cut_run b a P (Err (stopped.Refused (faults.LogFull count))) cut = absurd cut
-cut_run b a P (Err (stopped.Refused (faults.StoredAboveLimit bytes limit))) cut = absurd cut
-cut_run b a P (Err (stopped.Refused (faults.SourceMissing file))) cut = absurd cut
-cut_run b a P (Err (stopped.Refused (faults.SourceTooLarge file size))) cut = absurd cut
-cut_run b a P (Err (stopped.Refused (faults.SourceChanged file logged found))) cut = absurd cut
-cut_run b a P (Err (stopped.Refused (faults.FileDamaged file logged found))) cut = absurd cut
-cut_run b a P (Err (stopped.Refused (faults.Site old new))) cut = refl
-cut_run b a P (Err (stopped.Refused faults.Memory)) cut = refl
-cut_run b a P (Err (stopped.Halted (halts.Damaged file logged found))) cut = absurd cut
-cut_run b a P (Err (stopped.Halted halts.Runner)) cut = absurd cut
-cut_run b a P (Err (stopped.Halted halts.Site)) cut = refl
-cut_run b a P (Err (stopped.Halted halts.Memory)) cut = refl
+pub cut_run : (s r : Rise) (P : Plan) (how : Result Check Stopped) → IsCutRun how → is_cut (kind_of (run_cause s r P how)) ≡ true
+cut_run s r P (Ok ended) cut = absurd cut
+cut_run s r P (Err (stopped.Refused (faults.OtherFlow logged found))) cut = absurd cut
+cut_run s r P (Err (stopped.Refused (faults.NotLegal at))) cut = absurd cut
+cut_run s r P (Err (stopped.Refused (faults.LogFull count))) cut = absurd cut
+cut_run s r P (Err (stopped.Refused (faults.StoredAboveLimit bytes limit))) cut = absurd cut
+cut_run s r P (Err (stopped.Refused (faults.SourceMissing file))) cut = absurd cut
+cut_run s r P (Err (stopped.Refused (faults.SourceTooLarge file size))) cut = absurd cut
+cut_run s r P (Err (stopped.Refused (faults.SourceChanged file logged found))) cut = absurd cut
+cut_run s r P (Err (stopped.Refused (faults.FileDamaged file logged found))) cut = absurd cut
+cut_run s r P (Err (stopped.Refused (faults.Site old new))) cut = refl
+cut_run s r P (Err (stopped.Refused faults.Memory)) cut = refl
+cut_run s r P (Err (stopped.Halted (halts.Damaged file logged found))) cut = absurd cut
+cut_run s r P (Err (stopped.Halted halts.Runner)) cut = absurd cut
+cut_run s r P (Err (stopped.Halted halts.Site)) cut = refl
+cut_run s r P (Err (stopped.Halted halts.Memory)) cut = refl
 
 damage_faults : (b a : Counts) (source : Bool) (file : FileNo) (logged : Content) (found : Found) → FaultEnd b a (if source then causes.SourceChanged file logged found else causes.FileDamaged file logged found)
 damage_faults b a true file logged found = tt
@@ -86,68 +88,69 @@ end_faults b a rules (check.NoRoom rule need bytes limit) = tt
 end_faults b a rules _ = tt
 
 -- a fault is told only where that count rose
-pub run_faults : (b a : Counts) (P : Plan) (s0 s1 r0 r1 : ℕ) (how : Result Check Stopped) → b.site ≤ s0 → a.site ≡ s1 → b.runner ≡ r0 → a.runner ≡ r1 → HasCauses s0 s1 r0 r1 how → FaultEnd b a (run_cause b a P how)
-run_faults b a P s0 s1 r0 r1 (Ok ended) le same is is_now rises = end_faults b a (length P.rules) ended
-run_faults b a P s0 s1 r0 r1 (Err (stopped.Refused (faults.Site old new))) le same is is_now rises = (refl, refl, omega (arith, le, same, rises))
-run_faults b a P s0 s1 r0 r1 (Err (stopped.Refused faults.Memory)) le same is is_now rises = tt
-run_faults b a P s0 s1 r0 r1 (Err (stopped.Refused (faults.OtherFlow logged found))) le same is is_now rises = tt
-run_faults b a P s0 s1 r0 r1 (Err (stopped.Refused (faults.NotLegal at))) le same is is_now rises = tt
-run_faults b a P s0 s1 r0 r1 (Err (stopped.Refused (faults.LogFull count))) le same is is_now rises = tt
-run_faults b a P s0 s1 r0 r1 (Err (stopped.Refused (faults.StoredAboveLimit bytes limit))) le same is is_now rises = tt
-run_faults b a P s0 s1 r0 r1 (Err (stopped.Refused (faults.SourceMissing file))) le same is is_now rises = tt
-run_faults b a P s0 s1 r0 r1 (Err (stopped.Refused (faults.SourceTooLarge file size))) le same is is_now rises = tt
-run_faults b a P s0 s1 r0 r1 (Err (stopped.Refused (faults.SourceChanged file logged found))) le same is is_now rises = tt
-run_faults b a P s0 s1 r0 r1 (Err (stopped.Refused (faults.FileDamaged file logged found))) le same is is_now rises = tt
-run_faults b a P s0 s1 r0 r1 (Err (stopped.Halted (halts.Damaged file logged found))) le same is is_now rises = damage_faults b a (is_source P file.0) file logged found
-run_faults b a P s0 s1 r0 r1 (Err (stopped.Halted halts.Runner)) le same is is_now rises = (refl, refl, omega (arith, is, is_now, rises))
-run_faults b a P s0 s1 r0 r1 (Err (stopped.Halted halts.Site)) le same is is_now rises = (refl, refl, omega (arith, le, same, rises))
-run_faults b a P s0 s1 r0 r1 (Err (stopped.Halted halts.Memory)) le same is is_now rises = tt
+pub run_faults : (b a : Counts) (r : Rise) (P : Plan) (s0 s1 : ℕ) (how : Result Check Stopped) → b.site ≤ s0 → a.site ≡ s1 → (sum b.runners < sum a.runners → OneRose r.before r.after b.runners a.runners) → HasCauses s0 s1 (sum b.runners) (sum a.runners) how
+    → FaultEnd b a (run_cause (site_rise b a) r P how)
+run_faults b a r P s0 s1 (Ok ended) le same one rises = end_faults b a (length P.rules) ended
+run_faults b a r P s0 s1 (Err (stopped.Refused (faults.Site old new))) le same one rises = (refl, refl, omega (arith, le, same, rises))
+run_faults b a r P s0 s1 (Err (stopped.Refused faults.Memory)) le same one rises = tt
+run_faults b a r P s0 s1 (Err (stopped.Refused (faults.OtherFlow logged found))) le same one rises = tt
+run_faults b a r P s0 s1 (Err (stopped.Refused (faults.NotLegal at))) le same one rises = tt
+run_faults b a r P s0 s1 (Err (stopped.Refused (faults.LogFull count))) le same one rises = tt
+run_faults b a r P s0 s1 (Err (stopped.Refused (faults.StoredAboveLimit bytes limit))) le same one rises = tt
+run_faults b a r P s0 s1 (Err (stopped.Refused (faults.SourceMissing file))) le same one rises = tt
+run_faults b a r P s0 s1 (Err (stopped.Refused (faults.SourceTooLarge file size))) le same one rises = tt
+run_faults b a r P s0 s1 (Err (stopped.Refused (faults.SourceChanged file logged found))) le same one rises = tt
+run_faults b a r P s0 s1 (Err (stopped.Refused (faults.FileDamaged file logged found))) le same one rises = tt
+run_faults b a r P s0 s1 (Err (stopped.Halted (halts.Damaged file logged found))) le same one rises = damage_faults b a (is_source P file.0) file logged found
+run_faults b a r P s0 s1 (Err (stopped.Halted halts.Runner)) le same one rises = one rises
+run_faults b a r P s0 s1 (Err (stopped.Halted halts.Site)) le same one rises = (refl, refl, omega (arith, le, same, rises))
+run_faults b a r P s0 s1 (Err (stopped.Halted halts.Memory)) le same one rises = tt
 
 -- the records may stand in the log, or they are those of the log
-legal_run : (b a : Counts) (P : Plan) (H all : List Record) (how : Result Check Stopped) → (IsRefusedRun how → all ≡ H) → (IsAdmitted how → IsLegal P all) → IsLegalOr P H all (kind_of (run_cause b a P how))
-legal_run b a P H all (Err (stopped.Refused (faults.OtherFlow logged found))) same legal = inr (inl (same tt), refl)
-legal_run b a P H all (Err (stopped.Refused (faults.NotLegal at))) same legal = inr (inl (same tt), refl)
-legal_run b a P H all (Err (stopped.Refused faults.Memory)) same legal = inr (inl (same tt), refl)
-legal_run b a P H all (Err (stopped.Refused (faults.LogFull count))) same legal = inl (legal tt)
-legal_run b a P H all (Err (stopped.Refused (faults.StoredAboveLimit bytes limit))) same legal = inl (legal tt)
-legal_run b a P H all (Err (stopped.Refused (faults.SourceMissing file))) same legal = inl (legal tt)
-legal_run b a P H all (Err (stopped.Refused (faults.SourceTooLarge file size))) same legal = inl (legal tt)
-legal_run b a P H all (Err (stopped.Refused (faults.SourceChanged file logged found))) same legal = inl (legal tt)
-legal_run b a P H all (Err (stopped.Refused (faults.FileDamaged file logged found))) same legal = inl (legal tt)
-legal_run b a P H all (Err (stopped.Refused (faults.Site old new))) same legal = inl (legal tt)
-legal_run b a P H all (Ok ended) same legal = inl (legal tt)
-legal_run b a P H all (Err (stopped.Halted halt)) same legal = inl (legal tt)
+legal_run : (s r : Rise) (P : Plan) (H all : List Record) (how : Result Check Stopped) → (IsRefusedRun how → all ≡ H) → (IsAdmitted how → IsLegal P all) → IsLegalOr P H all (kind_of (run_cause s r P how))
+legal_run s r P H all (Err (stopped.Refused (faults.OtherFlow logged found))) same legal = inr (inl (same tt), refl)
+legal_run s r P H all (Err (stopped.Refused (faults.NotLegal at))) same legal = inr (inl (same tt), refl)
+legal_run s r P H all (Err (stopped.Refused faults.Memory)) same legal = inr (inl (same tt), refl)
+legal_run s r P H all (Err (stopped.Refused (faults.LogFull count))) same legal = inl (legal tt)
+legal_run s r P H all (Err (stopped.Refused (faults.StoredAboveLimit bytes limit))) same legal = inl (legal tt)
+legal_run s r P H all (Err (stopped.Refused (faults.SourceMissing file))) same legal = inl (legal tt)
+legal_run s r P H all (Err (stopped.Refused (faults.SourceTooLarge file size))) same legal = inl (legal tt)
+legal_run s r P H all (Err (stopped.Refused (faults.SourceChanged file logged found))) same legal = inl (legal tt)
+legal_run s r P H all (Err (stopped.Refused (faults.FileDamaged file logged found))) same legal = inl (legal tt)
+legal_run s r P H all (Err (stopped.Refused (faults.Site old new))) same legal = inl (legal tt)
+legal_run s r P H all (Ok ended) same legal = inl (legal tt)
+legal_run s r P H all (Err (stopped.Halted halt)) same legal = inl (legal tt)
 
-admitted_run : (b a : Counts) (P : Plan) (how : Result Check Stopped) → was_read (kind_of (run_cause b a P how)) ≡ true → IsAdmitted how
-admitted_run b a P (Err (stopped.Refused (faults.OtherFlow logged found))) read = absent read
-admitted_run b a P (Err (stopped.Refused (faults.NotLegal at))) read = absent read
-admitted_run b a P (Err (stopped.Refused faults.Memory)) read = absent read
-admitted_run b a P (Err (stopped.Refused (faults.LogFull count))) read = tt
-admitted_run b a P (Err (stopped.Refused (faults.StoredAboveLimit bytes limit))) read = tt
-admitted_run b a P (Err (stopped.Refused (faults.SourceMissing file))) read = tt
-admitted_run b a P (Err (stopped.Refused (faults.SourceTooLarge file size))) read = tt
-admitted_run b a P (Err (stopped.Refused (faults.SourceChanged file logged found))) read = tt
-admitted_run b a P (Err (stopped.Refused (faults.FileDamaged file logged found))) read = tt
-admitted_run b a P (Err (stopped.Refused (faults.Site old new))) read = tt
-admitted_run b a P (Ok ended) read = tt
-admitted_run b a P (Err (stopped.Halted halt)) read = tt
+admitted_run : (s r : Rise) (P : Plan) (how : Result Check Stopped) → was_read (kind_of (run_cause s r P how)) ≡ true → IsAdmitted how
+admitted_run s r P (Err (stopped.Refused (faults.OtherFlow logged found))) read = absent read
+admitted_run s r P (Err (stopped.Refused (faults.NotLegal at))) read = absent read
+admitted_run s r P (Err (stopped.Refused faults.Memory)) read = absent read
+admitted_run s r P (Err (stopped.Refused (faults.LogFull count))) read = tt
+admitted_run s r P (Err (stopped.Refused (faults.StoredAboveLimit bytes limit))) read = tt
+admitted_run s r P (Err (stopped.Refused (faults.SourceMissing file))) read = tt
+admitted_run s r P (Err (stopped.Refused (faults.SourceTooLarge file size))) read = tt
+admitted_run s r P (Err (stopped.Refused (faults.SourceChanged file logged found))) read = tt
+admitted_run s r P (Err (stopped.Refused (faults.FileDamaged file logged found))) read = tt
+admitted_run s r P (Err (stopped.Refused (faults.Site old new))) read = tt
+admitted_run s r P (Ok ended) read = tt
+admitted_run s r P (Err (stopped.Halted halt)) read = tt
 
-pub closed_run : (b a : Counts) (P : Plan) (how : Result Check Stopped) → is_run_end (kind_of (run_cause b a P how)) ≡ true → IsClosedRun how
-closed_run b a P (Ok ended) ends = tt
-closed_run b a P (Err (stopped.Refused (faults.OtherFlow logged found))) ends = absent ends
-closed_run b a P (Err (stopped.Refused (faults.NotLegal at))) ends = absent ends
-closed_run b a P (Err (stopped.Refused (faults.LogFull count))) ends = absent ends
-closed_run b a P (Err (stopped.Refused (faults.StoredAboveLimit bytes limit))) ends = absent ends
-closed_run b a P (Err (stopped.Refused (faults.SourceMissing file))) ends = absent ends
-closed_run b a P (Err (stopped.Refused (faults.SourceTooLarge file size))) ends = absent ends
-closed_run b a P (Err (stopped.Refused (faults.SourceChanged file logged found))) ends = absent ends
-closed_run b a P (Err (stopped.Refused (faults.FileDamaged file logged found))) ends = absent ends
-closed_run b a P (Err (stopped.Refused (faults.Site old new))) ends = absent ends
-closed_run b a P (Err (stopped.Refused faults.Memory)) ends = absent ends
-closed_run b a P (Err (stopped.Halted (halts.Damaged file logged found))) ends = tt
-closed_run b a P (Err (stopped.Halted halts.Runner)) ends = tt
-closed_run b a P (Err (stopped.Halted halts.Site)) ends = absent ends
-closed_run b a P (Err (stopped.Halted halts.Memory)) ends = absent ends
+pub closed_run : (s r : Rise) (P : Plan) (how : Result Check Stopped) → is_run_end (kind_of (run_cause s r P how)) ≡ true → IsClosedRun how
+closed_run s r P (Ok ended) ends = tt
+closed_run s r P (Err (stopped.Refused (faults.OtherFlow logged found))) ends = absent ends
+closed_run s r P (Err (stopped.Refused (faults.NotLegal at))) ends = absent ends
+closed_run s r P (Err (stopped.Refused (faults.LogFull count))) ends = absent ends
+closed_run s r P (Err (stopped.Refused (faults.StoredAboveLimit bytes limit))) ends = absent ends
+closed_run s r P (Err (stopped.Refused (faults.SourceMissing file))) ends = absent ends
+closed_run s r P (Err (stopped.Refused (faults.SourceTooLarge file size))) ends = absent ends
+closed_run s r P (Err (stopped.Refused (faults.SourceChanged file logged found))) ends = absent ends
+closed_run s r P (Err (stopped.Refused (faults.FileDamaged file logged found))) ends = absent ends
+closed_run s r P (Err (stopped.Refused (faults.Site old new))) ends = absent ends
+closed_run s r P (Err (stopped.Refused faults.Memory)) ends = absent ends
+closed_run s r P (Err (stopped.Halted (halts.Damaged file logged found))) ends = tt
+closed_run s r P (Err (stopped.Halted halts.Runner)) ends = tt
+closed_run s r P (Err (stopped.Halted halts.Site)) ends = absent ends
+closed_run s r P (Err (stopped.Halted halts.Memory)) ends = absent ends
 
 -- a run that was closed was started
 pub closed_starts : (how : Result Check Stopped) → IsClosedRun how → IsRefusedRun how → ⊥
@@ -161,14 +164,14 @@ some_end limit (Ok ended) is = (limit, is)
 some_end limit (Err why) is = tt
 
 -- each command that failed is logged once
-pub logged_run : (b a : Counts) (P : Plan) (H all : List Record) (f0 f1 : ℕ) (how : Result Check Stopped) → (IsClosedRun how → LogsFailures H all f0 f1) → (IsRefusedRun how → all ≡ H) → (IsRefusedRun how → f1 ≡ f0)
-    → (is_cut (kind_of (run_cause b a P how)) ≡ true → ⊥) → LogsFailed H all f0 f1
-logged_run b a P H all f0 f1 (Ok ended) logs same unused whole = logs tt
-logged_run b a P H all f0 f1 (Err (stopped.Refused why)) logs same unused whole = ap (λ (xs : List Record). failed_count xs + f0) (same tt) ∙ ap (λ (n : ℕ). failed_count H + n) (sym (unused tt))
-logged_run b a P H all f0 f1 (Err (stopped.Halted (halts.Damaged file logged found))) logs same unused whole = logs tt
-logged_run b a P H all f0 f1 (Err (stopped.Halted halts.Runner)) logs same unused whole = logs tt
-logged_run b a P H all f0 f1 (Err (stopped.Halted halts.Site)) logs same unused whole = absurd (whole refl)
-logged_run b a P H all f0 f1 (Err (stopped.Halted halts.Memory)) logs same unused whole = absurd (whole refl)
+pub logged_run : (s r : Rise) (P : Plan) (H all : List Record) (f0 f1 : ℕ) (how : Result Check Stopped) → (IsClosedRun how → LogsFailures H all f0 f1) → (IsRefusedRun how → all ≡ H) → (IsRefusedRun how → f1 ≡ f0)
+    → (is_cut (kind_of (run_cause s r P how)) ≡ true → ⊥) → LogsFailed H all f0 f1
+logged_run s r P H all f0 f1 (Ok ended) logs same unused whole = logs tt
+logged_run s r P H all f0 f1 (Err (stopped.Refused why)) logs same unused whole = ap (λ (xs : List Record). failed_count xs + f0) (same tt) ∙ ap (λ (n : ℕ). failed_count H + n) (sym (unused tt))
+logged_run s r P H all f0 f1 (Err (stopped.Halted (halts.Damaged file logged found))) logs same unused whole = logs tt
+logged_run s r P H all f0 f1 (Err (stopped.Halted halts.Runner)) logs same unused whole = logs tt
+logged_run s r P H all f0 f1 (Err (stopped.Halted halts.Site)) logs same unused whole = absurd (whole refl)
+logged_run s r P H all f0 f1 (Err (stopped.Halted halts.Memory)) logs same unused whole = absurd (whole refl)
 
 starts_none : (H all : List Record) → all ≡ H → StartsNone H all
 starts_none H all same = ([], same ∙ sym (append_nothing H), refl)
@@ -176,27 +179,27 @@ starts_none H all same = ([], same ∙ sym (append_nothing H), refl)
 loses_none : (H all : List Record) → all ≡ H → LosesNone H all
 loses_none H all same = ([], same ∙ sym (append_nothing H), refl)
 
-spent_run : (b a : Counts) (P : Plan) (H all : List Record) (how : Result Check Stopped) → (IsRefusedRun how → all ≡ H) → (IsClosedRun how → SpentOnce (since_opening all))
-    → (is_cut (kind_of (run_cause b a P how)) ≡ true → ⊥) → IsSpentBy H all
-spent_run b a P H all (Ok ended) same spent whole = inr (spent tt)
-spent_run b a P H all (Err (stopped.Refused why)) same spent whole = inl (starts_none H all (same tt))
-spent_run b a P H all (Err (stopped.Halted (halts.Damaged file logged found))) same spent whole = inr (spent tt)
-spent_run b a P H all (Err (stopped.Halted halts.Runner)) same spent whole = inr (spent tt)
-spent_run b a P H all (Err (stopped.Halted halts.Site)) same spent whole = absurd (whole refl)
-spent_run b a P H all (Err (stopped.Halted halts.Memory)) same spent whole = absurd (whole refl)
+spent_run : (s r : Rise) (P : Plan) (H all : List Record) (how : Result Check Stopped) → (IsRefusedRun how → all ≡ H) → (IsClosedRun how → SpentOnce (since_opening all))
+    → (is_cut (kind_of (run_cause s r P how)) ≡ true → ⊥) → IsSpentBy H all
+spent_run s r P H all (Ok ended) same spent whole = inr (spent tt)
+spent_run s r P H all (Err (stopped.Refused why)) same spent whole = inl (starts_none H all (same tt))
+spent_run s r P H all (Err (stopped.Halted (halts.Damaged file logged found))) same spent whole = inr (spent tt)
+spent_run s r P H all (Err (stopped.Halted halts.Runner)) same spent whole = inr (spent tt)
+spent_run s r P H all (Err (stopped.Halted halts.Site)) same spent whole = absurd (whole refl)
+spent_run s r P H all (Err (stopped.Halted halts.Memory)) same spent whole = absurd (whole refl)
 
 damage_loses : (source : Bool) (file : FileNo) (logged : Content) (found : Found) → may_lose (kind_of (if source then causes.SourceChanged file logged found else causes.FileDamaged file logged found)) ≡ true
 damage_loses true file logged found = refl
 damage_loses false file logged found = refl
 
-lost_run : (b a : Counts) (P : Plan) (H all : List Record) (how : Result Check Stopped) → (IsRefusedRun how → all ≡ H) → OnOk how (LosesNone H all)
-    → may_lose (kind_of (run_cause b a P how)) ≡ false → LosesNone H all
-lost_run b a P H all (Ok ended) same lost keeps = lost
-lost_run b a P H all (Err (stopped.Refused why)) same lost keeps = loses_none H all (same tt)
-lost_run b a P H all (Err (stopped.Halted (halts.Damaged file logged found))) same lost keeps = present (sym (damage_loses (is_source P file.0) file logged found) ∙ keeps)
-lost_run b a P H all (Err (stopped.Halted halts.Runner)) same lost keeps = present keeps
-lost_run b a P H all (Err (stopped.Halted halts.Site)) same lost keeps = present keeps
-lost_run b a P H all (Err (stopped.Halted halts.Memory)) same lost keeps = present keeps
+lost_run : (s r : Rise) (P : Plan) (H all : List Record) (how : Result Check Stopped) → (IsRefusedRun how → all ≡ H) → OnOk how (LosesNone H all)
+    → may_lose (kind_of (run_cause s r P how)) ≡ false → LosesNone H all
+lost_run s r P H all (Ok ended) same lost keeps = lost
+lost_run s r P H all (Err (stopped.Refused why)) same lost keeps = loses_none H all (same tt)
+lost_run s r P H all (Err (stopped.Halted (halts.Damaged file logged found))) same lost keeps = present (sym (damage_loses (is_source P file.0) file logged found) ∙ keeps)
+lost_run s r P H all (Err (stopped.Halted halts.Runner)) same lost keeps = present keeps
+lost_run s r P H all (Err (stopped.Halted halts.Site)) same lost keeps = present keeps
+lost_run s r P H all (Err (stopped.Halted halts.Memory)) same lost keeps = present keeps
 
 end_refuses : (rules : ℕ) (ended : Check) → is_refusal (kind_of (end_cause rules ended)) ≡ false
 end_refuses rules (check.Complete collected) = refl
@@ -210,22 +213,22 @@ damage_refuses : (source : Bool) (file : FileNo) (logged : Content) (found : Fou
 damage_refuses true file logged found = refl
 damage_refuses false file logged found = refl
 
-early_run : (b a : Counts) (P : Plan) (how : Result Check Stopped) → is_refusal (kind_of (run_cause b a P how)) ≡ true → IsEarlyRun how
-early_run b a P (Ok ended) refused = present (sym refused ∙ end_refuses (length P.rules) ended)
-early_run b a P (Err (stopped.Refused (faults.OtherFlow logged found))) refused = tt
-early_run b a P (Err (stopped.Refused (faults.NotLegal at))) refused = tt
-early_run b a P (Err (stopped.Refused (faults.LogFull count))) refused = absent refused
-early_run b a P (Err (stopped.Refused (faults.StoredAboveLimit bytes limit))) refused = absent refused
-early_run b a P (Err (stopped.Refused (faults.SourceMissing file))) refused = absent refused
-early_run b a P (Err (stopped.Refused (faults.SourceTooLarge file size))) refused = absent refused
-early_run b a P (Err (stopped.Refused (faults.SourceChanged file logged found))) refused = absent refused
-early_run b a P (Err (stopped.Refused (faults.FileDamaged file logged found))) refused = absent refused
-early_run b a P (Err (stopped.Refused (faults.Site old new))) refused = absent refused
-early_run b a P (Err (stopped.Refused faults.Memory)) refused = absent refused
-early_run b a P (Err (stopped.Halted (halts.Damaged file logged found))) refused = present (sym refused ∙ damage_refuses (is_source P file.0) file logged found)
-early_run b a P (Err (stopped.Halted halts.Runner)) refused = absent refused
-early_run b a P (Err (stopped.Halted halts.Site)) refused = absent refused
-early_run b a P (Err (stopped.Halted halts.Memory)) refused = absent refused
+early_run : (s r : Rise) (P : Plan) (how : Result Check Stopped) → is_refusal (kind_of (run_cause s r P how)) ≡ true → IsEarlyRun how
+early_run s r P (Ok ended) refused = present (sym refused ∙ end_refuses (length P.rules) ended)
+early_run s r P (Err (stopped.Refused (faults.OtherFlow logged found))) refused = tt
+early_run s r P (Err (stopped.Refused (faults.NotLegal at))) refused = tt
+early_run s r P (Err (stopped.Refused (faults.LogFull count))) refused = absent refused
+early_run s r P (Err (stopped.Refused (faults.StoredAboveLimit bytes limit))) refused = absent refused
+early_run s r P (Err (stopped.Refused (faults.SourceMissing file))) refused = absent refused
+early_run s r P (Err (stopped.Refused (faults.SourceTooLarge file size))) refused = absent refused
+early_run s r P (Err (stopped.Refused (faults.SourceChanged file logged found))) refused = absent refused
+early_run s r P (Err (stopped.Refused (faults.FileDamaged file logged found))) refused = absent refused
+early_run s r P (Err (stopped.Refused (faults.Site old new))) refused = absent refused
+early_run s r P (Err (stopped.Refused faults.Memory)) refused = absent refused
+early_run s r P (Err (stopped.Halted (halts.Damaged file logged found))) refused = present (sym refused ∙ damage_refuses (is_source P file.0) file logged found)
+early_run s r P (Err (stopped.Halted halts.Runner)) refused = absent refused
+early_run s r P (Err (stopped.Halted halts.Site)) refused = absent refused
+early_run s r P (Err (stopped.Halted halts.Memory)) refused = absent refused
 
 abbrev tells_damage : Cause → Bool
 tells_damage (causes.LogDamaged at) = true
@@ -243,22 +246,22 @@ input_whole : (source : Bool) (file : FileNo) (logged : Content) (found : Found)
 input_whole true file logged found = refl
 input_whole false file logged found = refl
 
-run_whole : (b a : Counts) (P : Plan) (how : Result Check Stopped) → tells_damage (run_cause b a P how) ≡ false
-run_whole b a P (Ok ended) = end_whole (length P.rules) ended
-run_whole b a P (Err (stopped.Refused (faults.OtherFlow logged found))) = refl
-run_whole b a P (Err (stopped.Refused (faults.NotLegal at))) = refl
-run_whole b a P (Err (stopped.Refused (faults.LogFull count))) = refl
-run_whole b a P (Err (stopped.Refused (faults.StoredAboveLimit bytes limit))) = refl
-run_whole b a P (Err (stopped.Refused (faults.SourceMissing file))) = refl
-run_whole b a P (Err (stopped.Refused (faults.SourceTooLarge file size))) = refl
-run_whole b a P (Err (stopped.Refused (faults.SourceChanged file logged found))) = refl
-run_whole b a P (Err (stopped.Refused (faults.FileDamaged file logged found))) = refl
-run_whole b a P (Err (stopped.Refused (faults.Site old new))) = refl
-run_whole b a P (Err (stopped.Refused faults.Memory)) = refl
-run_whole b a P (Err (stopped.Halted (halts.Damaged file logged found))) = input_whole (is_source P file.0) file logged found
-run_whole b a P (Err (stopped.Halted halts.Runner)) = refl
-run_whole b a P (Err (stopped.Halted halts.Site)) = refl
-run_whole b a P (Err (stopped.Halted halts.Memory)) = refl
+run_whole : (s r : Rise) (P : Plan) (how : Result Check Stopped) → tells_damage (run_cause s r P how) ≡ false
+run_whole s r P (Ok ended) = end_whole (length P.rules) ended
+run_whole s r P (Err (stopped.Refused (faults.OtherFlow logged found))) = refl
+run_whole s r P (Err (stopped.Refused (faults.NotLegal at))) = refl
+run_whole s r P (Err (stopped.Refused (faults.LogFull count))) = refl
+run_whole s r P (Err (stopped.Refused (faults.StoredAboveLimit bytes limit))) = refl
+run_whole s r P (Err (stopped.Refused (faults.SourceMissing file))) = refl
+run_whole s r P (Err (stopped.Refused (faults.SourceTooLarge file size))) = refl
+run_whole s r P (Err (stopped.Refused (faults.SourceChanged file logged found))) = refl
+run_whole s r P (Err (stopped.Refused (faults.FileDamaged file logged found))) = refl
+run_whole s r P (Err (stopped.Refused (faults.Site old new))) = refl
+run_whole s r P (Err (stopped.Refused faults.Memory)) = refl
+run_whole s r P (Err (stopped.Halted (halts.Damaged file logged found))) = input_whole (is_source P file.0) file logged found
+run_whole s r P (Err (stopped.Halted halts.Runner)) = refl
+run_whole s r P (Err (stopped.Halted halts.Site)) = refl
+run_whole s r P (Err (stopped.Halted halts.Memory)) = refl
 
 -- where nothing stands in the way
 free_goes : (ask : Ask) (H : List Record) (before after : Files) (records : List Record) (cause : Cause) → run_fault ask.plan ask.options H before ≡ None → RunEnds ask records after cause
@@ -273,76 +276,76 @@ damage_stops : (P : Plan) (records : List Record) (after : Files) (file : FileNo
 damage_stops P records after file logged found true is damage = (is, damage)
 damage_stops P records after file logged found false is damage = (is, damage)
 
-run_goes : (b a : Counts) (ask : Ask) (H : List Record) (before after : Files) (records : List Record) (how : Result Check Stopped) → StartEnds (run_fault ask.plan ask.options H before) how → IfOk how (IsRunEnd ask.options.limit)
-    → IfOk how (λ ended. ended ≡ end_over ask.plan ask.options (before_end records) None) → RunDamage ask.plan records after how → GoesOn works.Run ask H before after records (run_cause b a ask.plan how)
-run_goes b a ask H before after records (Ok ended) starts closed ends damage =
+run_goes : (s r : Rise) (ask : Ask) (H : List Record) (before after : Files) (records : List Record) (how : Result Check Stopped) → StartEnds (run_fault ask.plan ask.options H before) how → IfOk how (IsRunEnd ask.options.limit)
+    → IfOk how (λ ended. ended ≡ end_over ask.plan ask.options (before_end records) None) → RunDamage ask.plan records after how → GoesOn works.Run ask H before after records (run_cause s r ask.plan how)
+run_goes s r ask H before after records (Ok ended) starts closed ends damage =
     free_goes ask H before after records (end_cause (length ask.plan.rules) ended) starts
     (inl (subst (IsRunEnd ask.options.limit) ends closed, inl (ap (end_cause (length ask.plan.rules)) ends)))
-run_goes b a ask H before after records (Err (stopped.Refused (faults.OtherFlow logged found))) starts closed ends damage = uncut_goes ask H before after records (faults.OtherFlow logged found) (starts tt)
-run_goes b a ask H before after records (Err (stopped.Refused (faults.NotLegal at))) starts closed ends damage = uncut_goes ask H before after records (faults.NotLegal at) (starts tt)
-run_goes b a ask H before after records (Err (stopped.Refused (faults.LogFull count))) starts closed ends damage = uncut_goes ask H before after records (faults.LogFull count) (starts tt)
-run_goes b a ask H before after records (Err (stopped.Refused (faults.StoredAboveLimit bytes limit))) starts closed ends damage = uncut_goes ask H before after records (faults.StoredAboveLimit bytes limit) (starts tt)
-run_goes b a ask H before after records (Err (stopped.Refused (faults.SourceMissing file))) starts closed ends damage = uncut_goes ask H before after records (faults.SourceMissing file) (starts tt)
-run_goes b a ask H before after records (Err (stopped.Refused (faults.SourceTooLarge file size))) starts closed ends damage = uncut_goes ask H before after records (faults.SourceTooLarge file size) (starts tt)
-run_goes b a ask H before after records (Err (stopped.Refused (faults.SourceChanged file logged found))) starts closed ends damage = uncut_goes ask H before after records (faults.SourceChanged file logged found) (starts tt)
-run_goes b a ask H before after records (Err (stopped.Refused (faults.FileDamaged file logged found))) starts closed ends damage = uncut_goes ask H before after records (faults.FileDamaged file logged found) (starts tt)
-run_goes b a ask H before after records (Err (stopped.Refused (faults.Site old new))) starts closed ends damage = fault_goes works.Run ask H before after records (causes.SiteFault b.site a.site) refl
-run_goes b a ask H before after records (Err (stopped.Refused faults.Memory)) starts closed ends damage = fault_goes works.Run ask H before after records causes.Memory refl
-run_goes b a ask H before after records (Err (stopped.Halted (halts.Damaged file logged found))) starts closed ends damage =
+run_goes s r ask H before after records (Err (stopped.Refused (faults.OtherFlow logged found))) starts closed ends damage = uncut_goes ask H before after records (faults.OtherFlow logged found) (starts tt)
+run_goes s r ask H before after records (Err (stopped.Refused (faults.NotLegal at))) starts closed ends damage = uncut_goes ask H before after records (faults.NotLegal at) (starts tt)
+run_goes s r ask H before after records (Err (stopped.Refused (faults.LogFull count))) starts closed ends damage = uncut_goes ask H before after records (faults.LogFull count) (starts tt)
+run_goes s r ask H before after records (Err (stopped.Refused (faults.StoredAboveLimit bytes limit))) starts closed ends damage = uncut_goes ask H before after records (faults.StoredAboveLimit bytes limit) (starts tt)
+run_goes s r ask H before after records (Err (stopped.Refused (faults.SourceMissing file))) starts closed ends damage = uncut_goes ask H before after records (faults.SourceMissing file) (starts tt)
+run_goes s r ask H before after records (Err (stopped.Refused (faults.SourceTooLarge file size))) starts closed ends damage = uncut_goes ask H before after records (faults.SourceTooLarge file size) (starts tt)
+run_goes s r ask H before after records (Err (stopped.Refused (faults.SourceChanged file logged found))) starts closed ends damage = uncut_goes ask H before after records (faults.SourceChanged file logged found) (starts tt)
+run_goes s r ask H before after records (Err (stopped.Refused (faults.FileDamaged file logged found))) starts closed ends damage = uncut_goes ask H before after records (faults.FileDamaged file logged found) (starts tt)
+run_goes s r ask H before after records (Err (stopped.Refused (faults.Site old new))) starts closed ends damage = fault_goes works.Run ask H before after records (causes.SiteFault s.before s.after) refl
+run_goes s r ask H before after records (Err (stopped.Refused faults.Memory)) starts closed ends damage = fault_goes works.Run ask H before after records causes.Memory refl
+run_goes s r ask H before after records (Err (stopped.Halted (halts.Damaged file logged found))) starts closed ends damage =
     free_goes ask H before after records (damage_cause ask.plan file logged found) starts (inr (damage_stops ask.plan records after file logged found (is_source ask.plan file.0) refl damage))
-run_goes b a ask H before after records (Err (stopped.Halted halts.Runner)) starts closed ends damage = free_goes ask H before after records (causes.RunnerFault b.runner a.runner) starts (inr tt)
-run_goes b a ask H before after records (Err (stopped.Halted halts.Site)) starts closed ends damage = free_goes ask H before after records (causes.SiteFault b.site a.site) starts (inr tt)
-run_goes b a ask H before after records (Err (stopped.Halted halts.Memory)) starts closed ends damage = free_goes ask H before after records causes.Memory starts (inr tt)
+run_goes s r ask H before after records (Err (stopped.Halted halts.Runner)) starts closed ends damage = free_goes ask H before after records (causes.RunnerFault r.before r.after) starts (inr tt)
+run_goes s r ask H before after records (Err (stopped.Halted halts.Site)) starts closed ends damage = free_goes ask H before after records (causes.SiteFault s.before s.after) starts (inr tt)
+run_goes s r ask H before after records (Err (stopped.Halted halts.Memory)) starts closed ends damage = free_goes ask H before after records causes.Memory starts (inr tt)
 
 damage_sure : (source : Bool) (file : FileNo) (logged : Content) (found : Found) → is_failing (kind_of (if source then causes.SourceChanged file logged found else causes.FileDamaged file logged found)) ≡ false
 damage_sure true file logged found = refl
 damage_sure false file logged found = refl
 
-sure_run : (b a : Counts) (P : Plan) (how : Result Check Stopped) → IsSureEnd how → is_failing (kind_of (run_cause b a P how)) ≡ false
-sure_run b a P (Ok (check.CommandFailed rule why)) is = absurd is
-sure_run b a P (Ok (check.Complete collected)) is = refl
-sure_run b a P (Ok (check.InputsTooLarge rule total)) is = refl
-sure_run b a P (Ok (check.LogFull count)) is = refl
-sure_run b a P (Ok (check.NoRoom rule need bytes limit)) is = refl
-sure_run b a P (Ok _) is = refl
-sure_run b a P (Err (stopped.Refused (faults.OtherFlow logged found))) is = refl
-sure_run b a P (Err (stopped.Refused (faults.NotLegal at))) is = refl
-sure_run b a P (Err (stopped.Refused (faults.LogFull count))) is = refl
-sure_run b a P (Err (stopped.Refused (faults.StoredAboveLimit bytes limit))) is = refl
-sure_run b a P (Err (stopped.Refused (faults.SourceMissing file))) is = refl
-sure_run b a P (Err (stopped.Refused (faults.SourceTooLarge file size))) is = refl
-sure_run b a P (Err (stopped.Refused (faults.SourceChanged file logged found))) is = refl
-sure_run b a P (Err (stopped.Refused (faults.FileDamaged file logged found))) is = refl
-sure_run b a P (Err (stopped.Refused (faults.Site old new))) is = refl
-sure_run b a P (Err (stopped.Refused faults.Memory)) is = refl
-sure_run b a P (Err (stopped.Halted (halts.Damaged file logged found))) is = damage_sure (is_source P file.0) file logged found
-sure_run b a P (Err (stopped.Halted halts.Runner)) is = absurd is
-sure_run b a P (Err (stopped.Halted halts.Site)) is = refl
-sure_run b a P (Err (stopped.Halted halts.Memory)) is = refl
+sure_run : (s r : Rise) (P : Plan) (how : Result Check Stopped) → IsSureEnd how → is_failing (kind_of (run_cause s r P how)) ≡ false
+sure_run s r P (Ok (check.CommandFailed rule why)) is = absurd is
+sure_run s r P (Ok (check.Complete collected)) is = refl
+sure_run s r P (Ok (check.InputsTooLarge rule total)) is = refl
+sure_run s r P (Ok (check.LogFull count)) is = refl
+sure_run s r P (Ok (check.NoRoom rule need bytes limit)) is = refl
+sure_run s r P (Ok _) is = refl
+sure_run s r P (Err (stopped.Refused (faults.OtherFlow logged found))) is = refl
+sure_run s r P (Err (stopped.Refused (faults.NotLegal at))) is = refl
+sure_run s r P (Err (stopped.Refused (faults.LogFull count))) is = refl
+sure_run s r P (Err (stopped.Refused (faults.StoredAboveLimit bytes limit))) is = refl
+sure_run s r P (Err (stopped.Refused (faults.SourceMissing file))) is = refl
+sure_run s r P (Err (stopped.Refused (faults.SourceTooLarge file size))) is = refl
+sure_run s r P (Err (stopped.Refused (faults.SourceChanged file logged found))) is = refl
+sure_run s r P (Err (stopped.Refused (faults.FileDamaged file logged found))) is = refl
+sure_run s r P (Err (stopped.Refused (faults.Site old new))) is = refl
+sure_run s r P (Err (stopped.Refused faults.Memory)) is = refl
+sure_run s r P (Err (stopped.Halted (halts.Damaged file logged found))) is = damage_sure (is_source P file.0) file logged found
+sure_run s r P (Err (stopped.Halted halts.Runner)) is = absurd is
+sure_run s r P (Err (stopped.Halted halts.Site)) is = refl
+sure_run s r P (Err (stopped.Halted halts.Memory)) is = refl
 
-done_run : (b a : Counts) (P : Plan) (most : Option ℕ) (how : Result Check Stopped) → IsDone most how → Completes most (run_cause b a P how)
-done_run b a P most (Ok (check.Complete collected)) done = refl
-done_run b a P most (Ok (check.CommandFailed rule why)) done = absurd done
-done_run b a P most (Ok (check.InputsTooLarge rule total)) done = absurd done
-done_run b a P most (Ok (check.LogFull count)) done = absurd done
-done_run b a P most (Ok check.Going) done = absurd done
-done_run b a P most (Ok check.Halted) done = absurd done
-done_run b a P most (Ok (check.NoRoom rule need bytes limit)) done = done
-done_run b a P most (Ok (check.Waited wait)) done = absurd done
-done_run b a P most (Err (stopped.Refused (faults.OtherFlow logged found))) done = absurd done
-done_run b a P most (Err (stopped.Refused (faults.NotLegal at))) done = absurd done
-done_run b a P most (Err (stopped.Refused (faults.LogFull count))) done = absurd done
-done_run b a P most (Err (stopped.Refused (faults.StoredAboveLimit bytes limit))) done = absurd done
-done_run b a P most (Err (stopped.Refused (faults.SourceMissing file))) done = absurd done
-done_run b a P most (Err (stopped.Refused (faults.SourceTooLarge file size))) done = absurd done
-done_run b a P most (Err (stopped.Refused (faults.SourceChanged file logged found))) done = absurd done
-done_run b a P most (Err (stopped.Refused (faults.FileDamaged file logged found))) done = absurd done
-done_run b a P most (Err (stopped.Refused (faults.Site old new))) done = absurd done
-done_run b a P most (Err (stopped.Refused faults.Memory)) done = refl
-done_run b a P most (Err (stopped.Halted (halts.Damaged file logged found))) done = absurd done
-done_run b a P most (Err (stopped.Halted halts.Runner)) done = absurd done
-done_run b a P most (Err (stopped.Halted halts.Site)) done = absurd done
-done_run b a P most (Err (stopped.Halted halts.Memory)) done = refl
+done_run : (s r : Rise) (P : Plan) (most : Option ℕ) (how : Result Check Stopped) → IsDone most how → Completes most (run_cause s r P how)
+done_run s r P most (Ok (check.Complete collected)) done = refl
+done_run s r P most (Ok (check.CommandFailed rule why)) done = absurd done
+done_run s r P most (Ok (check.InputsTooLarge rule total)) done = absurd done
+done_run s r P most (Ok (check.LogFull count)) done = absurd done
+done_run s r P most (Ok check.Going) done = absurd done
+done_run s r P most (Ok check.Halted) done = absurd done
+done_run s r P most (Ok (check.NoRoom rule need bytes limit)) done = done
+done_run s r P most (Ok (check.Waited wait)) done = absurd done
+done_run s r P most (Err (stopped.Refused (faults.OtherFlow logged found))) done = absurd done
+done_run s r P most (Err (stopped.Refused (faults.NotLegal at))) done = absurd done
+done_run s r P most (Err (stopped.Refused (faults.LogFull count))) done = absurd done
+done_run s r P most (Err (stopped.Refused (faults.StoredAboveLimit bytes limit))) done = absurd done
+done_run s r P most (Err (stopped.Refused (faults.SourceMissing file))) done = absurd done
+done_run s r P most (Err (stopped.Refused (faults.SourceTooLarge file size))) done = absurd done
+done_run s r P most (Err (stopped.Refused (faults.SourceChanged file logged found))) done = absurd done
+done_run s r P most (Err (stopped.Refused (faults.FileDamaged file logged found))) done = absurd done
+done_run s r P most (Err (stopped.Refused (faults.Site old new))) done = absurd done
+done_run s r P most (Err (stopped.Refused faults.Memory)) done = refl
+done_run s r P most (Err (stopped.Halted (halts.Damaged file logged found))) done = absurd done
+done_run s r P most (Err (stopped.Halted halts.Runner)) done = absurd done
+done_run s r P most (Err (stopped.Halted halts.Site)) done = absurd done
+done_run s r P most (Err (stopped.Halted halts.Memory)) done = refl
 
 end_late : (rules : ℕ) (ended : Check) → is_early (kind_of (end_cause rules ended)) ≡ false
 end_late rules (check.Complete collected) = refl
@@ -356,22 +359,22 @@ damage_late : (source : Bool) (file : FileNo) (logged : Content) (found : Found)
 damage_late true file logged found = refl
 damage_late false file logged found = refl
 
-run_late : (b a : Counts) (P : Plan) (how : Result Check Stopped) → is_early (kind_of (run_cause b a P how)) ≡ false
-run_late b a P (Ok ended) = end_late (length P.rules) ended
-run_late b a P (Err (stopped.Refused (faults.OtherFlow logged found))) = refl
-run_late b a P (Err (stopped.Refused (faults.NotLegal at))) = refl
-run_late b a P (Err (stopped.Refused (faults.LogFull count))) = refl
-run_late b a P (Err (stopped.Refused (faults.StoredAboveLimit bytes limit))) = refl
-run_late b a P (Err (stopped.Refused (faults.SourceMissing file))) = refl
-run_late b a P (Err (stopped.Refused (faults.SourceTooLarge file size))) = refl
-run_late b a P (Err (stopped.Refused (faults.SourceChanged file logged found))) = refl
-run_late b a P (Err (stopped.Refused (faults.FileDamaged file logged found))) = refl
-run_late b a P (Err (stopped.Refused (faults.Site old new))) = refl
-run_late b a P (Err (stopped.Refused faults.Memory)) = refl
-run_late b a P (Err (stopped.Halted (halts.Damaged file logged found))) = damage_late (is_source P file.0) file logged found
-run_late b a P (Err (stopped.Halted halts.Runner)) = refl
-run_late b a P (Err (stopped.Halted halts.Site)) = refl
-run_late b a P (Err (stopped.Halted halts.Memory)) = refl
+run_late : (s r : Rise) (P : Plan) (how : Result Check Stopped) → is_early (kind_of (run_cause s r P how)) ≡ false
+run_late s r P (Ok ended) = end_late (length P.rules) ended
+run_late s r P (Err (stopped.Refused (faults.OtherFlow logged found))) = refl
+run_late s r P (Err (stopped.Refused (faults.NotLegal at))) = refl
+run_late s r P (Err (stopped.Refused (faults.LogFull count))) = refl
+run_late s r P (Err (stopped.Refused (faults.StoredAboveLimit bytes limit))) = refl
+run_late s r P (Err (stopped.Refused (faults.SourceMissing file))) = refl
+run_late s r P (Err (stopped.Refused (faults.SourceTooLarge file size))) = refl
+run_late s r P (Err (stopped.Refused (faults.SourceChanged file logged found))) = refl
+run_late s r P (Err (stopped.Refused (faults.FileDamaged file logged found))) = refl
+run_late s r P (Err (stopped.Refused (faults.Site old new))) = refl
+run_late s r P (Err (stopped.Refused faults.Memory)) = refl
+run_late s r P (Err (stopped.Halted (halts.Damaged file logged found))) = damage_late (is_source P file.0) file logged found
+run_late s r P (Err (stopped.Halted halts.Runner)) = refl
+run_late s r P (Err (stopped.Halted halts.Site)) = refl
+run_late s r P (Err (stopped.Halted halts.Memory)) = refl
 
 end_cleans : (P : Plan) (H : List Record) (files : Files) (rules : ℕ) (ended : Check) → IsCleanedBy P H files (end_cause rules ended)
 end_cleans P H files rules (check.Complete collected) = tt
@@ -385,61 +388,61 @@ damage_cleans : (P : Plan) (H : List Record) (files : Files) (source : Bool) (fi
 damage_cleans P H files true file logged found = tt
 damage_cleans P H files false file logged found = tt
 
-run_cleans : (b a : Counts) (P : Plan) (H : List Record) (files : Files) (how : Result Check Stopped) → IsCleanedBy P H files (run_cause b a P how)
-run_cleans b a P H files (Ok ended) = end_cleans P H files (length P.rules) ended
-run_cleans b a P H files (Err (stopped.Refused (faults.OtherFlow logged found))) = tt
-run_cleans b a P H files (Err (stopped.Refused (faults.NotLegal at))) = tt
-run_cleans b a P H files (Err (stopped.Refused (faults.LogFull count))) = tt
-run_cleans b a P H files (Err (stopped.Refused (faults.StoredAboveLimit bytes limit))) = tt
-run_cleans b a P H files (Err (stopped.Refused (faults.SourceMissing file))) = tt
-run_cleans b a P H files (Err (stopped.Refused (faults.SourceTooLarge file size))) = tt
-run_cleans b a P H files (Err (stopped.Refused (faults.SourceChanged file logged found))) = tt
-run_cleans b a P H files (Err (stopped.Refused (faults.FileDamaged file logged found))) = tt
-run_cleans b a P H files (Err (stopped.Refused (faults.Site old new))) = tt
-run_cleans b a P H files (Err (stopped.Refused faults.Memory)) = tt
-run_cleans b a P H files (Err (stopped.Halted (halts.Damaged file logged found))) = damage_cleans P H files (is_source P file.0) file logged found
-run_cleans b a P H files (Err (stopped.Halted halts.Runner)) = tt
-run_cleans b a P H files (Err (stopped.Halted halts.Site)) = tt
-run_cleans b a P H files (Err (stopped.Halted halts.Memory)) = tt
+run_cleans : (s r : Rise) (P : Plan) (H : List Record) (files : Files) (how : Result Check Stopped) → IsCleanedBy P H files (run_cause s r P how)
+run_cleans s r P H files (Ok ended) = end_cleans P H files (length P.rules) ended
+run_cleans s r P H files (Err (stopped.Refused (faults.OtherFlow logged found))) = tt
+run_cleans s r P H files (Err (stopped.Refused (faults.NotLegal at))) = tt
+run_cleans s r P H files (Err (stopped.Refused (faults.LogFull count))) = tt
+run_cleans s r P H files (Err (stopped.Refused (faults.StoredAboveLimit bytes limit))) = tt
+run_cleans s r P H files (Err (stopped.Refused (faults.SourceMissing file))) = tt
+run_cleans s r P H files (Err (stopped.Refused (faults.SourceTooLarge file size))) = tt
+run_cleans s r P H files (Err (stopped.Refused (faults.SourceChanged file logged found))) = tt
+run_cleans s r P H files (Err (stopped.Refused (faults.FileDamaged file logged found))) = tt
+run_cleans s r P H files (Err (stopped.Refused (faults.Site old new))) = tt
+run_cleans s r P H files (Err (stopped.Refused faults.Memory)) = tt
+run_cleans s r P H files (Err (stopped.Halted (halts.Damaged file logged found))) = damage_cleans P H files (is_source P file.0) file logged found
+run_cleans s r P H files (Err (stopped.Halted halts.Runner)) = tt
+run_cleans s r P H files (Err (stopped.Halted halts.Site)) = tt
+run_cleans s r P H files (Err (stopped.Halted halts.Memory)) = tt
 
 none_refused : (o : Option StartFault) → option_map start_cause o ≡ None → o ≡ None
 none_refused None is = refl
 none_refused (Some why) is = absurd (cc)
 
 -- the count of failed commands
-pub failed_run : (b a : Counts) (P : Plan) (f0 f1 : ℕ) (how : Result Check Stopped) → HasFailed f0 f1 how → FailureEnd f0 f1 (kind_of (run_cause b a P how))
-failed_run b a P f0 f1 (Ok (check.CommandFailed rule why)) failed = record { later = omega (arith, failed); rose = λ is. failed }
-failed_run b a P f0 f1 (Ok (check.Complete collected)) failed = record { later = failed; rose = λ wrong. absurd (cc) }
-failed_run b a P f0 f1 (Ok (check.InputsTooLarge rule total)) failed = record { later = failed; rose = λ wrong. absurd (cc) }
-failed_run b a P f0 f1 (Ok (check.LogFull count)) failed = record { later = failed; rose = λ wrong. absurd (cc) }
-failed_run b a P f0 f1 (Ok (check.NoRoom rule need bytes limit)) failed = record { later = failed; rose = λ wrong. absurd (cc) }
-failed_run b a P f0 f1 (Ok _) failed = record { later = failed; rose = λ wrong. absurd (cc) }
-failed_run b a P f0 f1 (Err (stopped.Refused (faults.OtherFlow logged found))) failed = record { later = failed; rose = λ wrong. absurd (cc) }
-failed_run b a P f0 f1 (Err (stopped.Refused (faults.NotLegal at))) failed = record { later = failed; rose = λ wrong. absurd (cc) }
-failed_run b a P f0 f1 (Err (stopped.Refused (faults.LogFull count))) failed = record { later = failed; rose = λ wrong. absurd (cc) }
-failed_run b a P f0 f1 (Err (stopped.Refused (faults.StoredAboveLimit bytes limit))) failed = record { later = failed; rose = λ wrong. absurd (cc) }
-failed_run b a P f0 f1 (Err (stopped.Refused (faults.SourceMissing file))) failed = record { later = failed; rose = λ wrong. absurd (cc) }
-failed_run b a P f0 f1 (Err (stopped.Refused (faults.SourceTooLarge file size))) failed = record { later = failed; rose = λ wrong. absurd (cc) }
-failed_run b a P f0 f1 (Err (stopped.Refused (faults.SourceChanged file logged found))) failed = record { later = failed; rose = λ wrong. absurd (cc) }
-failed_run b a P f0 f1 (Err (stopped.Refused (faults.FileDamaged file logged found))) failed = record { later = failed; rose = λ wrong. absurd (cc) }
-failed_run b a P f0 f1 (Err (stopped.Refused (faults.Site old new))) failed = record { later = failed; rose = λ wrong. absurd (cc) }
-failed_run b a P f0 f1 (Err (stopped.Refused faults.Memory)) failed = record { later = failed; rose = λ wrong. absurd (cc) }
-failed_run b a P f0 f1 (Err (stopped.Halted (halts.Damaged file logged found))) failed = record {
+pub failed_run : (s r : Rise) (P : Plan) (f0 f1 : ℕ) (how : Result Check Stopped) → HasFailed f0 f1 how → FailureEnd f0 f1 (kind_of (run_cause s r P how))
+failed_run s r P f0 f1 (Ok (check.CommandFailed rule why)) failed = record { later = omega (arith, failed); rose = λ is. failed }
+failed_run s r P f0 f1 (Ok (check.Complete collected)) failed = record { later = failed; rose = λ wrong. absurd (cc) }
+failed_run s r P f0 f1 (Ok (check.InputsTooLarge rule total)) failed = record { later = failed; rose = λ wrong. absurd (cc) }
+failed_run s r P f0 f1 (Ok (check.LogFull count)) failed = record { later = failed; rose = λ wrong. absurd (cc) }
+failed_run s r P f0 f1 (Ok (check.NoRoom rule need bytes limit)) failed = record { later = failed; rose = λ wrong. absurd (cc) }
+failed_run s r P f0 f1 (Ok _) failed = record { later = failed; rose = λ wrong. absurd (cc) }
+failed_run s r P f0 f1 (Err (stopped.Refused (faults.OtherFlow logged found))) failed = record { later = failed; rose = λ wrong. absurd (cc) }
+failed_run s r P f0 f1 (Err (stopped.Refused (faults.NotLegal at))) failed = record { later = failed; rose = λ wrong. absurd (cc) }
+failed_run s r P f0 f1 (Err (stopped.Refused (faults.LogFull count))) failed = record { later = failed; rose = λ wrong. absurd (cc) }
+failed_run s r P f0 f1 (Err (stopped.Refused (faults.StoredAboveLimit bytes limit))) failed = record { later = failed; rose = λ wrong. absurd (cc) }
+failed_run s r P f0 f1 (Err (stopped.Refused (faults.SourceMissing file))) failed = record { later = failed; rose = λ wrong. absurd (cc) }
+failed_run s r P f0 f1 (Err (stopped.Refused (faults.SourceTooLarge file size))) failed = record { later = failed; rose = λ wrong. absurd (cc) }
+failed_run s r P f0 f1 (Err (stopped.Refused (faults.SourceChanged file logged found))) failed = record { later = failed; rose = λ wrong. absurd (cc) }
+failed_run s r P f0 f1 (Err (stopped.Refused (faults.FileDamaged file logged found))) failed = record { later = failed; rose = λ wrong. absurd (cc) }
+failed_run s r P f0 f1 (Err (stopped.Refused (faults.Site old new))) failed = record { later = failed; rose = λ wrong. absurd (cc) }
+failed_run s r P f0 f1 (Err (stopped.Refused faults.Memory)) failed = record { later = failed; rose = λ wrong. absurd (cc) }
+failed_run s r P f0 f1 (Err (stopped.Halted (halts.Damaged file logged found))) failed = record {
   later = failed;
   rose = λ is. absurd (let wrong : kinds.WrongFile ≡ kinds.RuleFailed = sym (damage_kind (is_source P file.0) file logged found) ∙ is in cc);
 }
-failed_run b a P f0 f1 (Err (stopped.Halted halts.Runner)) failed = record { later = failed; rose = λ wrong. absurd (cc) }
-failed_run b a P f0 f1 (Err (stopped.Halted halts.Site)) failed = record { later = failed; rose = λ wrong. absurd (cc) }
-failed_run b a P f0 f1 (Err (stopped.Halted halts.Memory)) failed = record { later = failed; rose = λ wrong. absurd (cc) }
+failed_run s r P f0 f1 (Err (stopped.Halted halts.Runner)) failed = record { later = failed; rose = λ wrong. absurd (cc) }
+failed_run s r P f0 f1 (Err (stopped.Halted halts.Site)) failed = record { later = failed; rose = λ wrong. absurd (cc) }
+failed_run s r P f0 f1 (Err (stopped.Halted halts.Memory)) failed = record { later = failed; rose = λ wrong. absurd (cc) }
 
 module _ {S : Type 0} (tells : Type 0) (files : S → Files) (may_leave : S → Outcomes) (moment : S → ℕ) (images_since : S → ℕ → Files → Type 0) (count : S → ℕ) (born : ℕ)
-    (gives : Function) (may_fail : Job → Failure → Type 0) (told : Job → Type 0) (sure : Type 0) (b a : Counts) (ask : Ask) (old new : S) (records : List Record) (how : Result Check Stopped) where
+    (gives : Function) (may_fail : Job → Failure → Type 0) (told : Job → Type 0) (sure : Type 0) (b a : Counts) (r : Rise) (ask : Ask) (old new : S) (records : List Record) (how : Result Check Stopped) where
   -- What is known of a run.
   pub record Ran : Type 0 where
     pub work : ask.work ≡ works.Run
     pub le : b.site ≤ count old
     pub now_site : a.site ≡ count new
-    pub faults : FaultEnd b a (run_cause b a ask.plan how)
+    pub faults : FaultEnd b a (run_cause (site_rise b a) r ask.plan how)
     pub log : tells → (H : List Record) × Spells H (files old ask.log)
     pub grows : tells → (H : List Record) → Spells H (files old ask.log) → BeginsWith H records
     pub same : tells → (H : List Record) → Spells H (files old ask.log) → IsRefusedRun how → records ≡ H
@@ -483,41 +486,41 @@ module _ {S : Type 0} (tells : Type 0) (files : S → Files) (may_leave : S → 
       by_how (Err why) lost = tt
 
   -- what the call does
-  pub ran_serves : Ran → Serves tells files may_leave moment images_since born gives may_fail told sure b a ask old new records (run_cause b a ask.plan how)
-  ran_serves r = record {
+  pub ran_serves : Ran → Serves tells files may_leave moment images_since born gives may_fail told sure b a ask old new records (run_cause (site_rise b a) r ask.plan how)
+  ran_serves k = record {
     ends = λ t. record {
-      damaged = λ at is. absurd (true≢false (ap tells_damage (sym is) ∙ run_whole b a ask.plan how));
-      read = inl (r.log t);
-      whole = λ H spelled. subst (λ (w : Work). GoesOn w ask H (files old) (files new) records (run_cause b a ask.plan how)) (sym r.work)
-          (run_goes b a ask H (files old) (files new) records how (r.starts t H spelled) r.closed r.ends (r.damage t));
+      damaged = λ at is. absurd (true≢false (ap tells_damage (sym is) ∙ run_whole (site_rise b a) r ask.plan how));
+      read = inl (k.log t);
+      whole = λ H spelled. subst (λ (w : Work). GoesOn w ask H (files old) (files new) records (run_cause (site_rise b a) r ask.plan how)) (sym k.work)
+          (run_goes (site_rise b a) r ask H (files old) (files new) records how (k.starts t H spelled) k.closed k.ends (k.damage t));
     };
-    late = run_late b a ask.plan how;
-    faults = r.faults;
-    has_log = λ t H spelled. inl (r.grows t H spelled);
-    legal = λ read. r.legal (admitted_run b a ask.plan how read);
-    logged = λ t H spelled. legal_run b a ask.plan H records how (r.same t H spelled) r.legal;
-    closed = λ ends. r.spent (closed_run b a ask.plan how ends);
-    spent = λ t H spelled whole. spent_run b a ask.plan H records how (r.same t H spelled) r.spent whole;
-    lost = λ t H spelled keeps. lost_run b a ask.plan H records how (r.same t H spelled) (on_told r.lost t H spelled) keeps;
+    late = run_late (site_rise b a) r ask.plan how;
+    faults = k.faults;
+    has_log = λ t H spelled. inl (k.grows t H spelled);
+    legal = λ read. k.legal (admitted_run (site_rise b a) r ask.plan how read);
+    logged = λ t H spelled. legal_run (site_rise b a) r ask.plan H records how (k.same t H spelled) k.legal;
+    closed = λ ends. k.spent (closed_run (site_rise b a) r ask.plan how ends);
+    spent = λ t H spelled whole. spent_run (site_rise b a) r ask.plan H records how (k.same t H spelled) k.spent whole;
+    lost = λ t H spelled keeps. lost_run (site_rise b a) r ask.plan H records how (k.same t H spelled) (on_told k.lost t H spelled) keeps;
     moments = λ t H spelled resumable image left.
         ⊎_elim (λ was. inl was)
         (λ (m : IsMoment Held ask.plan ask.log (files old) (may_leave old) H records (IsCutRun how) image).
-        inr (moment_after Held ask.plan ask.log (files old) (may_leave old) H records (IsCutRun how) (IsCut (run_cause b a ask.plan how)) image (cut_run b a ask.plan how) m))
-        (r.moments t H spelled resumable image left);
-    resumable = λ t some image left. let log = r.log t in r.resumable t log.0 log.1 some image left;
-    now = λ t H spelled resumable whole. r.at_end t H spelled resumable (λ cut. whole (cut_run b a ask.plan how cut));
-    untouched = λ t refused. λ i m. r.quiet t (early_run b a ask.plan how refused) m i;
-    others = r.others;
+        inr (moment_after Held ask.plan ask.log (files old) (may_leave old) H records (IsCutRun how) (IsCut (run_cause (site_rise b a) r ask.plan how)) image (cut_run (site_rise b a) r ask.plan how) m))
+        (k.moments t H spelled resumable image left);
+    resumable = λ t some image left. let log = k.log t in k.resumable t log.0 log.1 some image left;
+    now = λ t H spelled resumable whole. k.at_end t H spelled resumable (λ cut. whole (cut_run (site_rise b a) r ask.plan how cut));
+    untouched = λ t refused. λ i m. k.quiet t (early_run (site_rise b a) r ask.plan how refused) m i;
+    others = k.others;
     contents = λ t H spelled jobs resumable image left.
         ⊎_elim (λ was. inl was)
         (λ (m : IsMoment (SerialFits gives (read_sources ask.plan (files old))) ask.plan ask.log (files old) (may_leave old) H records (IsCutRun how) image).
-        inr (moment_after (SerialFits gives (read_sources ask.plan (files old))) ask.plan ask.log (files old) (may_leave old) H records (IsCutRun how) (IsCut (run_cause b a ask.plan how)) image (cut_run b a ask.plan how) m))
-        (r.contents t H spelled resumable jobs image left);
-    honest = λ t H spelled resumable jobs begins. r.honest t H spelled resumable jobs;
-    modes = λ t H spelled begins. r.modes t H spelled;
-    gone = λ t H spelled whole. r.gone t (λ cut. whole (cut_run b a ask.plan how cut)) H spelled;
-    cleaned = λ t H spelled. run_cleans b a ask.plan H (files new) how;
-    sure_end = λ is. sure_run b a ask.plan how (r.is_sure is);
+        inr (moment_after (SerialFits gives (read_sources ask.plan (files old))) ask.plan ask.log (files old) (may_leave old) H records (IsCutRun how) (IsCut (run_cause (site_rise b a) r ask.plan how)) image (cut_run (site_rise b a) r ask.plan how) m))
+        (k.contents t H spelled resumable jobs image left);
+    honest = λ t H spelled resumable jobs begins. k.honest t H spelled resumable jobs;
+    modes = λ t H spelled begins. k.modes t H spelled;
+    gone = λ t H spelled whole. k.gone t (λ cut. whole (cut_run (site_rise b a) r ask.plan how cut)) H spelled;
+    cleaned = λ t H spelled. run_cleans (site_rise b a) r ask.plan H (files new) how;
+    sure_end = λ is. sure_run (site_rise b a) r ask.plan how (k.is_sure is);
     completes = λ t H spelled work resumable free there fit room is jobs none.
-        done_run b a ask.plan ask.options.limit how (r.completes t H spelled resumable jobs fit room (none_refused (run_fault ask.plan ask.options H (files old)) free) is (omega (arith, r.le, r.now_site, none.site)));
+        done_run (site_rise b a) r ask.plan ask.options.limit how (k.completes t H spelled resumable jobs fit room (none_refused (run_fault ask.plan ask.options H (files old)) free) is (omega (arith, k.le, k.now_site, none.site)));
   }

@@ -15,7 +15,7 @@ use Rattle.local_run.specs.Moments.{IsBefore, IsMoment, IsResumable, KeepsSome}
 use Rattle.local_run.specs.Runs.{Adds, Held, SerialFits, read_sources}
 use Rattle.report.specs.declared.cause.Cause.{Cause}
 use Rattle.master_run.specs.declared.ask.Ask.{Ask}
-use Rattle.master_run.specs.declared.counts.Counts.{Counts}
+use Rattle.master_run.specs.Counts.{Counts}
 use Rattle.master_run.specs.Ends.{LogEnds}
 use Rattle.master_run.specs.Serves.{AllMoments, CanComplete, Fit, IsCut, Serves}
 

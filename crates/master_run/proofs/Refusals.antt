@@ -14,10 +14,12 @@ use Rattle.report.specs.declared.cause.Cause.TheVariants as causes
 use Rattle.report.specs.declared.cause.Kind.{Kind}
 use Rattle.report.specs.declared.cause.Kind.TheVariants as kinds
 use Rattle.report.specs.Causes.{is_completion, is_cut, is_failing, kind_of, may_replace, was_read}
+use Rattle.master_run.proofs.Counted.{site_rise}
 use Rattle.master_run.specs.declared.ask.Ask.{Ask}
 use Rattle.master_run.specs.declared.asking.Refusal.{Refusal}
 use Rattle.master_run.specs.declared.asking.Refusal.TheVariants as refusals
-use Rattle.master_run.specs.declared.counts.Counts.{Counts}
+use Rattle.master_run.specs.Counts.{Counts}
+use Rattle.master_run.specs.declared.rises.Rise.{Rise}
 use Rattle.master_run.specs.Ends.{CallEnds, FaultEnd, NoneRose, WordsEnd}
 use Rattle.master_run.specs.Headline.{is_early, is_run_end}
 use Rattle.master_run.specs.Runs.{refusal_cause}
@@ -36,10 +38,10 @@ no_ask : {A : Type 0} (cause : Cause) (ask : Ask) → (let one : Result Ask Caus
 no_ask cause ask wrong = absurd (cc)
 
 -- where something is asked for, only what cuts a call short refuses it
-pub refused_cuts : {A : Type 0} (asked : Result Ask Cause) (ask : Ask) (b a : Counts) (refusal : Refusal) → Stage {T = Ask} asked (Err refusal) → asked ≡ Ok ask → (is_cut (kind_of (refusal_cause b a refusal)) ≡ true → ⊥) → A
-refused_cuts asked ask b a (refusals.Said cause) stage is whole = no_ask cause ask (sym stage ∙ is)
-refused_cuts asked ask b a refusals.Site stage is whole = absurd (whole refl)
-refused_cuts asked ask b a refusals.Memory stage is whole = absurd (whole refl)
+pub refused_cuts : {A : Type 0} (asked : Result Ask Cause) (ask : Ask) (s : Rise) (refusal : Refusal) → Stage {T = Ask} asked (Err refusal) → asked ≡ Ok ask → (is_cut (kind_of (refusal_cause s refusal)) ≡ true → ⊥) → A
+refused_cuts asked ask s (refusals.Said cause) stage is whole = no_ask cause ask (sym stage ∙ is)
+refused_cuts asked ask s refusals.Site stage is whole = absurd (whole refl)
+refused_cuts asked ask s refusals.Memory stage is whole = absurd (whole refl)
 
 fault_ends : (asked : Result Ask Cause) (before after : Files) (cause : Cause) → is_cut (kind_of cause) ≡ true → may_replace (kind_of cause) ≡ true → (cause_at : (at : ℕ) → cause ≡ causes.LogDamaged at → ⊥) → after ≡ before
     → CallEnds asked before after [] cause
@@ -51,20 +53,20 @@ fault_ends (Ok ask) before after cause cut replaces whole same = record {
 fault_ends (Err refusal) before after cause cut replaces whole same = (λ stays. absent (sym stays ∙ replaces), same, refl)
 
 -- how the call ends
-pub refused_ends : (asked : Result Ask Cause) (before after : Files) (b a : Counts) (refusal : Refusal) → Stage {T = Ask} asked (Err refusal) → after ≡ before → CallEnds asked before after [] (refusal_cause b a refusal)
-refused_ends asked before after b a (refusals.Said cause) stage same = subst (λ (e : Result Ask Cause). CallEnds e before after [] cause) (sym stage) (λ stays. inl refl, same, refl)
-refused_ends asked before after b a refusals.Site stage same = fault_ends asked before after (causes.SiteFault b.site a.site) refl refl (λ at wrong. absurd (cc)) same
-refused_ends asked before after b a refusals.Memory stage same = fault_ends asked before after causes.Memory refl refl (λ at wrong. absurd (cc)) same
+pub refused_ends : (asked : Result Ask Cause) (before after : Files) (s : Rise) (refusal : Refusal) → Stage {T = Ask} asked (Err refusal) → after ≡ before → CallEnds asked before after [] (refusal_cause s refusal)
+refused_ends asked before after s (refusals.Said cause) stage same = subst (λ (e : Result Ask Cause). CallEnds e before after [] cause) (sym stage) (λ stays. inl refl, same, refl)
+refused_ends asked before after s refusals.Site stage same = fault_ends asked before after (causes.SiteFault s.before s.after) refl refl (λ at wrong. absurd (cc)) same
+refused_ends asked before after s refusals.Memory stage same = fault_ends asked before after causes.Memory refl refl (λ at wrong. absurd (cc)) same
 
 memory_words : (words : Result Options Cause) → WordsEnd words causes.Memory
 memory_words (Err refusal) = λ other. absurd (true≢false other)
 memory_words (Ok options) = refl
 
-pub refused_words : (words : Result Options Cause) (b a : Counts) (refusal : Refusal) → WordsStage {T = Ask} words (Err refusal) → WordsEnd words (refusal_cause b a refusal)
-refused_words words b a (refusals.Said cause) stage = stage
-refused_words (Err refusal) b a refusals.Site stage = absent stage
-refused_words (Ok options) b a refusals.Site stage = refl
-refused_words words b a refusals.Memory stage = memory_words words
+pub refused_words : (words : Result Options Cause) (s : Rise) (refusal : Refusal) → WordsStage {T = Ask} words (Err refusal) → WordsEnd words (refusal_cause s refusal)
+refused_words words s (refusals.Said cause) stage = stage
+refused_words (Err refusal) s refusals.Site stage = absent stage
+refused_words (Ok options) s refusals.Site stage = refl
+refused_words words s refusals.Memory stage = memory_words words
 
 said_fault : (b a : Counts) (cause : Cause) → is_refusal (kind_of cause) ≡ true → FaultEnd b a cause
 said_fault b a (causes.SiteFault old new) says = absent says
@@ -72,7 +74,7 @@ said_fault b a (causes.RunnerFault old new) says = absent says
 said_fault b a (causes.SinkFault old new) says = absent says
 said_fault b a _ says = tt
 
-pub refused_fault : (b a : Counts) (refusal : Refusal) → SaysRefusal {T = Ask} (Err refusal) → (refusal ≡ refusals.Site → b.site < a.site) → FaultEnd b a (refusal_cause b a refusal)
+pub refused_fault : (b a : Counts) (refusal : Refusal) → SaysRefusal {T = Ask} (Err refusal) → (refusal ≡ refusals.Site → b.site < a.site) → FaultEnd b a (refusal_cause (site_rise b a) refusal)
 refused_fault b a (refusals.Said cause) says rose = said_fault b a cause says
 refused_fault b a refusals.Site says rose = (refl, refl, rose refl)
 refused_fault b a refusals.Memory says rose = tt
@@ -100,10 +102,10 @@ early_kind kinds.RunnerBroke says = absent says
 early_kind kinds.SinkBroke says = absent says
 early_kind kinds.NoMemory says = absent says
 
-pub refused_kind : (b a : Counts) (refusal : Refusal) → SaysRefusal {T = Ask} (Err refusal) → IsEarlyKind (kind_of (refusal_cause b a refusal))
-refused_kind b a (refusals.Said cause) says = early_kind (kind_of cause) says
-refused_kind b a refusals.Site says = record { unread = refl; no_end = refl; sure = refl; failed = λ wrong. cc }
-refused_kind b a refusals.Memory says = record { unread = refl; no_end = refl; sure = refl; failed = λ wrong. cc }
+pub refused_kind : (s : Rise) (refusal : Refusal) → SaysRefusal {T = Ask} (Err refusal) → IsEarlyKind (kind_of (refusal_cause s refusal))
+refused_kind s (refusals.Said cause) says = early_kind (kind_of cause) says
+refused_kind s refusals.Site says = record { unread = refl; no_end = refl; sure = refl; failed = λ wrong. cc }
+refused_kind s refusals.Memory says = record { unread = refl; no_end = refl; sure = refl; failed = λ wrong. cc }
 
 -- the words, where a plan was read
 pub late_words : (words : Result Options Cause) (cause : Cause) → IsOk words → is_early (kind_of cause) ≡ false → WordsEnd words cause
@@ -139,7 +141,7 @@ module _ {S : Type 0} (tells : Type 0) (files : S → Files) (may_leave : S → 
 
   -- what the call does, whatever was asked
   pub refused_serves : (refusal : Refusal) (asked : Result Ask Cause) → Stage {T = Ask} asked (Err refusal) → asked ≡ Ok ask → (refusal ≡ refusals.Site → b.site < a.site)
-      → Serves tells files may_leave moment images_since born gives may_fail told sure b a ask old new [] (refusal_cause b a refusal)
+      → Serves tells files may_leave moment images_since born gives may_fail told sure b a ask old new [] (refusal_cause (site_rise b a) refusal)
   refused_serves (refusals.Said cause) asked stage is rose = no_ask cause ask (sym stage ∙ is)
   refused_serves refusals.Site asked stage is rose =
       by_fault (causes.SiteFault b.site a.site) refl refl refl (refl, refl, rose refl) (λ none. absurd (let wrong : ⊥ = omega (arith, rose refl, none.site) in wrong))

@@ -179,14 +179,14 @@ pub printed_words : (words : List (List ℕ)) (b a : ℕ) (cause now : Cause) �
 printed_words words b a cause now stood said =
     of_each (WordsEnd (chosen words)) b a cause now stood said (λ rose is. sink_words b a (chosen words) cause (early_words words) is said) (memory_words (chosen words))
 
-wider_fault : (sb rb b sa ra a : ℕ) (cause : Cause) → FaultEnd (counts sb rb 0) (counts sa ra 0) cause → FaultEnd (counts sb rb b) (counts sa ra a) cause
+wider_fault : (sb : ℕ) (rb : List ℕ) (b sa : ℕ) (ra : List ℕ) (a : ℕ) (cause : Cause) → FaultEnd (counts sb rb 0) (counts sa ra 0) cause → FaultEnd (counts sb rb b) (counts sa ra a) cause
 wider_fault sb rb b sa ra a (causes.SiteFault old new) fault = fault
 wider_fault sb rb b sa ra a (causes.RunnerFault old new) fault = fault
 wider_fault sb rb b sa ra a (causes.SinkFault old new) fault = absurd (let wrong : ⊥ = omega (arith, fault.2) in wrong)
 wider_fault sb rb b sa ra a _ fault = tt
 
 -- of faults: the sink's is told only where its count rose
-pub printed_fault : (sb rb b sa ra a : ℕ) (cause now : Cause) → Stands b a cause now → FaultEnd (counts sb rb 0) (counts sa ra 0) cause → FaultEnd (counts sb rb b) (counts sa ra a) now
+pub printed_fault : (sb : ℕ) (rb : List ℕ) (b sa : ℕ) (ra : List ℕ) (a : ℕ) (cause now : Cause) → Stands b a cause now → FaultEnd (counts sb rb 0) (counts sa ra 0) cause → FaultEnd (counts sb rb b) (counts sa ra a) now
 printed_fault sb rb b sa ra a cause now stood fault =
     of_each (FaultEnd (counts sb rb b) (counts sa ra a)) b a cause now stood (wider_fault sb rb b sa ra a cause fault) (λ rose is. (refl, refl, rose)) tt
 
@@ -226,7 +226,7 @@ legal_after : (P : Plan) (H all : List Record) (kind now : Kind) → (was_read k
 legal_after P H all kind now unread legal = ⊎_elim (λ is. inl is) (λ (other : ((all ≡ H) ⊎ (all ≡ [])) × (was_read kind ≡ false)). inr (other.0, unread other.1)) legal
 
 module _ {S : Type 0} (tells : Type 0) (files : S → Files) (may_leave : S → Outcomes) (moment : S → ℕ) (images_since : S → ℕ → Files → Type 0) (born : ℕ)
-    (gives : Function) (may_fail : Job → Failure → Type 0) (told : Job → Type 0) (sure : Type 0) (sb rb b sa ra a : ℕ) (ask : Ask) (old new : S) (records : List Record) where
+    (gives : Function) (may_fail : Job → Failure → Type 0) (told : Job → Type 0) (sure : Type 0) (sb : ℕ) (rb : List ℕ) (b sa : ℕ) (ra : List ℕ) (a : ℕ) (ask : Ask) (old new : S) (records : List Record) where
   -- what holds once the text was printed
   pub printed_serves : (cause now : Cause) → Stands b a cause now
       → Serves tells files may_leave moment images_since born gives may_fail told sure (counts sb rb 0) (counts sa ra 0) ask old new records cause
@@ -255,7 +255,7 @@ module _ {S : Type 0} (tells : Type 0) (files : S → Files) (may_leave : S → 
         cleaned = s.cleaned;
         sure_end = s.sure_end;
         completes = λ t H spelled work resumable free there fit room is_sure jobs none.
-            s.completes t H spelled work resumable free there fit room is_sure jobs (record { site = none.site; runner = none.runner; sink = refl });
+            s.completes t H spelled work resumable free there fit room is_sure jobs (record { site = none.site; runners = none.runners; sink = refl });
       })
       (λ rose is. record {
         ends = λ t. printed_log b a ask (files old) (files new) records cause (causes.SinkFault b a) (inr (inl (refl, rose, is))) (s.ends t);

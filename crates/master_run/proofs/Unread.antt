@@ -17,8 +17,10 @@ use Rattle.local_run.proofs.Joining.{goes_on_from}
 use Rattle.report.specs.declared.cause.Cause.{Cause}
 use Rattle.report.specs.declared.cause.Cause.TheVariants as causes
 use Rattle.report.specs.Causes.{is_completion, is_cut, kind_of, may_replace, was_read}
+use Rattle.master_run.proofs.Counted.{site_rise}
 use Rattle.master_run.specs.declared.ask.Ask.{Ask}
-use Rattle.master_run.specs.declared.counts.Counts.{Counts}
+use Rattle.master_run.specs.Counts.{Counts}
+use Rattle.master_run.specs.declared.rises.Rise.{Rise}
 use Rattle.master_run.specs.Ends.{FaultEnd, IsDamagedAt, NoneRose}
 use Rattle.master_run.specs.Headline.{FailureEnd, is_run_end}
 use Rattle.master_run.specs.Runs.{unread_cause}
@@ -29,26 +31,26 @@ use Rattle.master_run.proofs.Faults.{adds_none, before_all, before_beside, fault
 pub recovering_before : (log : List ℕ) (file : Option (List ℕ)) (outcomes : Outcomes) (image : Files) → IsRecovering log file outcomes image → IsBefore log file outcomes image
 recovering_before log file outcomes image is = record { spelled = is.log; others = is.others }
 
-pub unread_failed : (b a : Counts) (f0 f1 : ℕ) (why : RecoverFault) → f0 ≤ f1 → FailureEnd f0 f1 (kind_of (unread_cause b a why))
-unread_failed b a f0 f1 recovery.Site le = record { later = le; rose = λ wrong. absurd (cc) }
-unread_failed b a f0 f1 recovery.BadHeader le = record { later = le; rose = λ wrong. absurd (cc) }
-unread_failed b a f0 f1 (recovery.BadRecord at) le = record { later = le; rose = λ wrong. absurd (cc) }
-unread_failed b a f0 f1 recovery.Memory le = record { later = le; rose = λ wrong. absurd (cc) }
+pub unread_failed : (s : Rise) (f0 f1 : ℕ) (why : RecoverFault) → f0 ≤ f1 → FailureEnd f0 f1 (kind_of (unread_cause s why))
+unread_failed s f0 f1 recovery.Site le = record { later = le; rose = λ wrong. absurd (cc) }
+unread_failed s f0 f1 recovery.BadHeader le = record { later = le; rose = λ wrong. absurd (cc) }
+unread_failed s f0 f1 (recovery.BadRecord at) le = record { later = le; rose = λ wrong. absurd (cc) }
+unread_failed s f0 f1 recovery.Memory le = record { later = le; rose = λ wrong. absurd (cc) }
 
 -- a log that isn't read begins no run
-pub unread_ends : (b a : Counts) (why : RecoverFault) → is_run_end (kind_of (unread_cause b a why)) ≡ false
-unread_ends b a recovery.Site = refl
-unread_ends b a recovery.BadHeader = refl
-unread_ends b a (recovery.BadRecord at) = refl
-unread_ends b a recovery.Memory = refl
+pub unread_ends : (s : Rise) (why : RecoverFault) → is_run_end (kind_of (unread_cause s why)) ≡ false
+unread_ends s recovery.Site = refl
+unread_ends s recovery.BadHeader = refl
+unread_ends s (recovery.BadRecord at) = refl
+unread_ends s recovery.Memory = refl
 
 -- a log that spells records is read, where nothing cuts the call short
-pub unread_cuts : {A : Type 0} (header : HasAHeader) (whole : IsWhole) (b a : Counts) (file : Option (List ℕ)) (H : List Record) (why : RecoverFault) → Spells H file → IsUnread file why
-    → (is_cut (kind_of (unread_cause b a why)) ≡ true → ⊥) → A
-unread_cuts header whole b a file H recovery.Site spelled is uncut = absurd (uncut refl)
-unread_cuts header whole b a file H recovery.BadHeader spelled is uncut = absurd (header H file spelled is)
-unread_cuts header whole b a file H (recovery.BadRecord at) spelled is uncut = absurd (whole H file at spelled is)
-unread_cuts header whole b a file H recovery.Memory spelled is uncut = absurd (uncut refl)
+pub unread_cuts : {A : Type 0} (header : HasAHeader) (whole : IsWhole) (s : Rise) (file : Option (List ℕ)) (H : List Record) (why : RecoverFault) → Spells H file → IsUnread file why
+    → (is_cut (kind_of (unread_cause s why)) ≡ true → ⊥) → A
+unread_cuts header whole s file H recovery.Site spelled is uncut = absurd (uncut refl)
+unread_cuts header whole s file H recovery.BadHeader spelled is uncut = absurd (header H file spelled is)
+unread_cuts header whole s file H (recovery.BadRecord at) spelled is uncut = absurd (whole H file at spelled is)
+unread_cuts header whole s file H recovery.Memory spelled is uncut = absurd (uncut refl)
 
 at_of : (x y : ℕ) → causes.LogDamaged x ≡ causes.LogDamaged y → x ≡ y
 at_of x y is = ap at is
@@ -118,7 +120,7 @@ module _ {S : Type 0} (tells : Type 0) (files : S → Files) (may_leave : S → 
   -- what the call does
   pub unread_serves : (header : HasAHeader) (whole : IsWhole) (why : RecoverFault) → (why ≡ recovery.Site → b.site < a.site) → (tells → IsUnread (files old ask.log) why)
       → (tells → IsDamageFault why → (m : List ℕ) → files new m ≡ files old m)
-      → Serves tells files may_leave moment images_since born gives may_fail told sure b a ask old new [] (unread_cause b a why)
+      → Serves tells files may_leave moment images_since born gives may_fail told sure b a ask old new [] (unread_cause (site_rise b a) why)
   unread_serves header whole recovery.Site rose is same =
       cut_serves (causes.SiteFault b.site a.site) refl refl refl (refl, refl, rose refl) (λ none. absurd (let wrong : ⊥ = omega (arith, rose refl, none.site) in wrong))
   unread_serves header whole recovery.BadHeader rose is same =

@@ -20,7 +20,7 @@ use Rattle.report.specs.declared.cause.Kind.{Kind}
 use Rattle.report.specs.declared.cause.Kind.TheVariants as kinds
 use Rattle.report.specs.Causes.{is_cut, is_failing, is_refusal, kind_of, may_lose, was_read}
 use Rattle.master_run.specs.declared.ask.Ask.{Ask}
-use Rattle.master_run.specs.declared.counts.Counts.{Counts}
+use Rattle.master_run.specs.Counts.{Counts}
 use Rattle.master_run.specs.Ends.{FaultEnd, GoesOn, IsDamagedAt, IsReadOr}
 use Rattle.master_run.specs.Headline.{HasLog, IsCleanedBy, IsLegalOr, is_early, is_run_end}
 use Rattle.master_run.specs.Serves.{AllMoments, Fit, IsCut, Serves}

@@ -74,7 +74,7 @@ run_options options = record { mode = run_mode options.mode; limit = options.lim
 
 -- what is asked for of this plan
 abbrev pub ask_of : Options → Plan → Ask
-ask_of options P = record { plan = P; work = options.work; log = options.log; options = run_options options }
+ask_of options P = record { plan = P; work = options.work; log = options.log; options = run_options options; jobs = options.service.jobs }
 
 -- the same where there is a plan
 abbrev pub ask_by : Options → Result Plan Cause → Result Ask Cause

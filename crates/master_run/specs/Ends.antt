@@ -1,5 +1,5 @@
 -- How a call ends: by the first refusal, or by what was asked for.
-use Rattle.std.specs.Prelude.{◌≡◌, ◌⊎◌, ◌<◌, ℕ, Bool, true, false, List, [], length, Option, Some, None, Result, Ok, Err, IsTrue, IsFalse, option_map}
+use Rattle.std.specs.Prelude.{◌≡◌, ◌⊎◌, ◌<◌, ℕ, Bool, true, false, List, [], length, Option, Some, None, Result, Ok, Err, IsTrue, IsFalse, option_map, slice_get}
 use Rattle.flow_types.specs.declared.plan.Plan.{Plan}
 use Rattle.flow_types.specs.declared.records.Record.{Record}
 use Rattle.flow_types.specs.Plans.{is_source}
@@ -24,7 +24,7 @@ use Rattle.report.specs.declared.cause.Cause.TheVariants as causes
 use Rattle.report.specs.declared.cause.Kind.TheVariants.{SinkBroke}
 use Rattle.report.specs.Causes.{is_end, kind_of, may_replace}
 use Rattle.master_run.specs.declared.ask.Ask.{Ask}
-use Rattle.master_run.specs.declared.counts.Counts.{Counts}
+use Rattle.master_run.specs.Counts.{Counts}
 use Rattle.master_run.specs.Prints.{is_no_memory}
 use Rattle.master_run.specs.Words.{flow_name}
 
@@ -146,19 +146,23 @@ WordsEnd (Ok options) cause = SaysOfFlow (flow_name options.flow) cause
 abbrev pub Rose : ℕ → ℕ → ℕ → ℕ → Type 0
 Rose told_before told_after before after = (told_before ≡ before) × (told_after ≡ after) × (before < after)
 
--- A fault is told only where that object's count rose in the call, and with both counts.
+-- The two counts are those of one of the objects before and after, and the second is greater.
+abbrev pub OneRose : ℕ → ℕ → List ℕ → List ℕ → Type 0
+OneRose told_before told_after before after = (at : ℕ) × (slice_get before at ≡ Some told_before) × (slice_get after at ≡ Some told_after) × (told_before < told_after)
+
+-- A fault is told only where that object's count rose in the call, and with both counts. Of the runners it is one whose count rose.
 abbrev pub FaultEnd : Counts → Counts → Cause → Type 0
 FaultEnd before after (causes.SiteFault old new) = Rose old new before.site after.site
-FaultEnd before after (causes.RunnerFault old new) = Rose old new before.runner after.runner
+FaultEnd before after (causes.RunnerFault old new) = OneRose old new before.runners after.runners
 FaultEnd before after (causes.SinkFault old new) = Rose old new before.sink after.sink
 FaultEnd before after cause = Unit {0}
 
 -- counts of these numbers
-abbrev pub counts : ℕ → ℕ → ℕ → Counts
-counts site runner sink = record { site = site; runner = runner; sink = sink }
+abbrev pub counts : ℕ → List ℕ → ℕ → Counts
+counts site runners sink = record { site = site; runners = runners; sink = sink }
 
 -- Nothing failed: the counts stand.
 pub record NoneRose (before after : Counts) : Type 0 where
   pub site : after.site ≡ before.site
-  pub runner : after.runner ≡ before.runner
+  pub runners : after.runners ≡ before.runners
   pub sink : after.sink ≡ before.sink

@@ -3,6 +3,7 @@ pub mod LogNames
 pub mod Needs
 pub mod Asked
 pub mod Prints
+pub mod Counts
 pub mod Ends
 pub mod Headline
 pub mod Serves

@@ -22,7 +22,7 @@ use Rattle.report.specs.declared.cause.Cause.{Cause}
 use Rattle.report.specs.declared.cause.Cause.TheVariants as causes
 use Rattle.report.specs.Causes.{is_completion, is_cut, is_failing, is_refusal, kind_of, may_lose, was_read}
 use Rattle.master_run.specs.declared.ask.Ask.{Ask}
-use Rattle.master_run.specs.declared.counts.Counts.{Counts}
+use Rattle.master_run.specs.Counts.{Counts}
 use Rattle.master_run.specs.Ends.{FaultEnd, LogEnds, NoneRose, run_refusal}
 use Rattle.master_run.specs.Headline.{HasLog, IsCleanedBy, IsLegalOr, IsSpentBy, is_early, is_run_end}
 

@@ -13,4 +13,6 @@ pub struct Ask {
     pub log: Name,
     /// What a run goes by.
     pub options: run_history::Options,
+    /// How many jobs of a run may be run at once.
+    pub jobs: u32,
 }

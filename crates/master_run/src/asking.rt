@@ -41,6 +41,7 @@ fn chosen(alloc: Global, words: &[String]) -> Result<Options, Refusal>
     ensures words { WordsStage (choice words.now) result }
     ensures kind { SaysRefusal result }
     ensures no_site { IsErrOf result Refusal.Site → ⊥ }
+    ensures some { IfOk result (λ options. 0 < options.service.jobs) }
 {
     match read_words(alloc, words) {
         Ok(options) => {
@@ -195,6 +196,9 @@ pub fn read_ask<S: Site>(
     ensures fits { IfOk result (λ ask. FitsHere ask.plan ask.options) }
     ensures goes_by { IfOk result (λ ask. (options : OptionsValue)
         → choice words.now ≡ Ok options → ask.options ≡ run_options options) }
+    ensures jobs { IfOk result (λ ask. (options : OptionsValue)
+        → choice words.now ≡ Ok options → ask.jobs ≡ options.service.jobs) }
+    ensures some { IfOk result (λ ask. 0 < ask.jobs) }
     ensures files { S.tells → S.files site.new ≡ S.files site.old }
     ensures crash { S.tells → Within (S.may_leave site.old) (S.may_leave site.new) }
     ensures any_moment { S.tells → LeavesOnly S.moment S.images_since site.old site.new
@@ -210,6 +214,7 @@ pub fn read_ask<S: Site>(
         work,
         flow,
         log,
+        service,
         ..
     } = options;
     let language = language_of_flow(&flow);
@@ -223,6 +228,7 @@ pub fn read_ask<S: Site>(
             work,
             log,
             options: goes_by,
+            jobs: service.jobs,
         }),
         Err(refusal) => Err(refusal),
     }

@@ -1,5 +1,5 @@
 //! What is done with a log beside a run: its part is cleaned, or it is printed.
-ghost use Rattle.std.specs.Prelude.{◌≡◌, ◌≢◌, ◌≤◌, ◌<◌, ◌^◌, ℕ, List, length, IsFalse};
+ghost use Rattle.std.specs.Prelude.{◌≡◌, ◌≢◌, ◌≤◌, ◌<◌, ◌^◌, ℕ, List, [], length, IsFalse};
 ghost use Rattle.flow_types.specs.declared.records.Record.{Record as RecordValue};
 ghost use Rattle.flow_types.specs.Plans.{IsValid};
 ghost use Rattle.run_history.specs.History.{part};
@@ -15,33 +15,32 @@ ghost use Rattle.master_run.specs.Serves.{IsCut, Serves};
 
 use crate::ask::Ask;
 use crate::causes::{clean_cause, look_cause};
-use crate::counts::Counts;
-use crate::course::{Course, counts_of};
+use crate::course::Course;
+use crate::rises::Rise;
 use cleaning::{CleanRefused, Cleaned, LookRefused, clean, look};
 use local_run::Born;
 use log_recover::files_spell_one_list;
 use log_text::part_of;
-use outside::{Commands, Runner, Site};
+use outside::{Commands, Site};
 use report::Cause;
 use std::alloc::Global;
 
 /// Ends the part of the log, and removes the files that were made in it.
-pub fn clean_flow<F: Commands, S: Site, R: Runner<F>, B: Born>(
+pub fn clean_flow<F: Commands, S: Site, B: Born>(
     alloc: Global,
-    before: Counts,
+    before: u64,
     ask: Ask,
     site: S,
-    runner: &R,
     moment: u64,
 ) -> Course<S>
     requires valid { IsValid ask.plan }
     requires apart { (f : ℕ) → file_name ask.plan f ≢ ask.log }
     requires later { S.tells → B.born ≤ S.moment site }
     requires work { ask.work ≡ Clean }
-    requires counted { before.site ≤ S.count site }
+    requires counted { before ≤ S.count site }
     ensures serves { Serves S.tells S.files S.may_leave S.moment S.images_since B.born
-        F.gives F.may_fail (R.tells runner.now) (R.sure runner.now)
-        before (counts (S.count result.site) (R.count runner.now) 0)
+        F.gives F.may_fail (λ job. Unit {0}) (Unit {0})
+        (counts before [] 0) (counts (S.count result.site) [] 0)
         ask site result.site result.records result.cause }
     ensures fails_none { S.tells → (H : List RecordValue) → Spells H (S.files site ask.log)
         → (IsCut result.cause → ⊥) → failed_count result.records ≡ failed_count H }
@@ -60,9 +59,9 @@ pub fn clean_flow<F: Commands, S: Site, R: Runner<F>, B: Born>(
             plan,
         },
         Err(CleanRefused { why, records }) => {
-            let after = counts_of::<F, _, _>(&site, runner);
+            let after = site.faults();
             Course {
-                cause: clean_cause(before, after, why),
+                cause: clean_cause(Rise { before, after }, why),
                 site,
                 records,
                 plan,
@@ -72,21 +71,20 @@ pub fn clean_flow<F: Commands, S: Site, R: Runner<F>, B: Born>(
 }
 
 /// Reads the log, for its lines to be printed.
-pub fn read_log<F: Commands, S: Site, R: Runner<F>, B: Born>(
+pub fn read_log<F: Commands, S: Site, B: Born>(
     alloc: Global,
-    before: Counts,
+    before: u64,
     ask: Ask,
     site: S,
-    runner: &R,
 ) -> Course<S>
     requires valid { IsValid ask.plan }
     requires apart { (f : ℕ) → file_name ask.plan f ≢ ask.log }
     requires later { S.tells → B.born ≤ S.moment site }
     requires work { ask.work ≡ PrintLog }
-    requires counted { before.site ≤ S.count site }
+    requires counted { before ≤ S.count site }
     ensures serves { Serves S.tells S.files S.may_leave S.moment S.images_since B.born
-        F.gives F.may_fail (R.tells runner.now) (R.sure runner.now)
-        before (counts (S.count result.site) (R.count runner.now) 0)
+        F.gives F.may_fail (λ job. Unit {0}) (Unit {0})
+        (counts before [] 0) (counts (S.count result.site) [] 0)
         ask site result.site result.records result.cause }
     ensures fails_none { S.tells → (H : List RecordValue) → Spells H (S.files site ask.log)
         → (IsCut result.cause → ⊥) → failed_count result.records ≡ failed_count H }
@@ -107,9 +105,9 @@ pub fn read_log<F: Commands, S: Site, R: Runner<F>, B: Born>(
             plan,
         },
         Err(LookRefused { why, records }) => {
-            let after = counts_of::<F, _, _>(&site, runner);
+            let after = site.faults();
             Course {
-                cause: look_cause(before, after, why),
+                cause: look_cause(Rise { before, after }, why),
                 site,
                 records,
                 plan,

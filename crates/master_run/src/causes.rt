@@ -8,7 +8,7 @@ ghost use Rattle.master_run.specs.Runs.{refusal_cause, refused_cause, run_cause,
 ghost use Rattle.master_run.specs.Runs.{unread_cause};
 
 use crate::asking::Refusal;
-use crate::counts::Counts;
+use crate::rises::Rise;
 use cleaning::{CleanFault, LookFault};
 use desk::StartFault;
 use flow_types::{Content, FileNo, Plan};
@@ -17,12 +17,12 @@ use log_recover::RecoverFault;
 use report::Cause;
 use run_history::{Check, Found};
 
-fn site_cause(before: Counts, after: Counts) -> Cause
-    ensures { result ≡ site_cause before after }
+fn site_cause(site: Rise) -> Cause
+    ensures { result ≡ site_cause site }
 {
     Cause::SiteFault {
-        before: before.site,
-        after: after.site,
+        before: site.before,
+        after: site.after,
     }
 }
 
@@ -59,11 +59,11 @@ fn start_cause(why: StartFault) -> Cause
     }
 }
 
-fn refused_cause(before: Counts, after: Counts, why: StartFault) -> Cause
-    ensures { result ≡ refused_cause before after why }
+fn refused_cause(site: Rise, why: StartFault) -> Cause
+    ensures { result ≡ refused_cause site why }
 {
     match why {
-        StartFault::Site { .. } => site_cause(before, after),
+        StartFault::Site { .. } => site_cause(site),
         why => start_cause(why),
     }
 }
@@ -95,8 +95,8 @@ fn damage_cause(plan: &Plan, file: FileNo, logged: Content, found: Found) -> Cau
     }
 }
 
-fn halt_cause(before: Counts, after: Counts, plan: &Plan, halt: Halt) -> Cause
-    ensures { result ≡ halt_cause before after plan.now halt }
+fn halt_cause(site: Rise, runner: Rise, plan: &Plan, halt: Halt) -> Cause
+    ensures { result ≡ halt_cause site runner plan.now halt }
 {
     match halt {
         Halt::Damaged {
@@ -105,10 +105,10 @@ fn halt_cause(before: Counts, after: Counts, plan: &Plan, halt: Halt) -> Cause
             found,
         } => damage_cause(plan, file, logged, found),
         Halt::Runner => Cause::RunnerFault {
-            before: before.runner,
-            after: after.runner,
+            before: runner.before,
+            after: runner.after,
         },
-        Halt::Site => site_cause(before, after),
+        Halt::Site => site_cause(site),
         Halt::Memory => Cause::Memory,
     }
 }
@@ -137,25 +137,25 @@ fn end_cause(rules: u32, check: Check) -> Cause
     }
 }
 
-/// The cause of how a run of this plan ended.
-pub fn run_cause(before: Counts, after: Counts, plan: &Plan, how: Result<Check, Stopped>) -> Cause
+/// The cause of how a run of this plan ended, by the counts of the site and of a runner.
+pub fn run_cause(site: Rise, runner: Rise, plan: &Plan, how: Result<Check, Stopped>) -> Cause
     requires ends { IfOk how IsSomeRunEnd }
     requires few { length plan.now.rules < 2 ^ 32 }
-    ensures { result ≡ run_cause before after plan.now how }
+    ensures { result ≡ run_cause site runner plan.now how }
 {
     match how {
         Ok(check) => end_cause(plan.rules.len() as u32, check),
-        Err(Stopped::Refused(why)) => refused_cause(before, after, why),
-        Err(Stopped::Halted(halt)) => halt_cause(before, after, plan, halt),
+        Err(Stopped::Refused(why)) => refused_cause(site, why),
+        Err(Stopped::Halted(halt)) => halt_cause(site, runner, plan, halt),
     }
 }
 
 /// The cause of a log that isn't read.
-pub fn unread_cause(before: Counts, after: Counts, why: RecoverFault) -> Cause
-    ensures { result ≡ unread_cause before after why }
+pub fn unread_cause(site: Rise, why: RecoverFault) -> Cause
+    ensures { result ≡ unread_cause site why }
 {
     match why {
-        RecoverFault::Site => site_cause(before, after),
+        RecoverFault::Site => site_cause(site),
         RecoverFault::BadHeader => Cause::LogDamaged { at: 0 },
         RecoverFault::BadRecord { at } => Cause::LogDamaged { at },
         RecoverFault::Memory => Cause::Memory,
@@ -163,11 +163,11 @@ pub fn unread_cause(before: Counts, after: Counts, why: RecoverFault) -> Cause
 }
 
 /// The cause of a log that can't be used.
-pub fn look_cause(before: Counts, after: Counts, why: LookFault) -> Cause
-    ensures { result ≡ look_cause before after why }
+pub fn look_cause(site: Rise, why: LookFault) -> Cause
+    ensures { result ≡ look_cause site why }
 {
     match why {
-        LookFault::Log(why) => unread_cause(before, after, why),
+        LookFault::Log(why) => unread_cause(site, why),
         LookFault::OtherFlow { logged, found } => Cause::OtherFlow { logged, found },
         LookFault::NotLegal { at } => Cause::NotLegal { at },
         LookFault::Memory => Cause::Memory,
@@ -175,24 +175,24 @@ pub fn look_cause(before: Counts, after: Counts, why: LookFault) -> Cause
 }
 
 /// The cause of a part that isn't cleaned.
-pub fn clean_cause(before: Counts, after: Counts, why: CleanFault) -> Cause
-    ensures { result ≡ clean_cause before after why }
+pub fn clean_cause(site: Rise, why: CleanFault) -> Cause
+    ensures { result ≡ clean_cause site why }
 {
     match why {
-        CleanFault::Look(why) => look_cause(before, after, why),
+        CleanFault::Look(why) => look_cause(site, why),
         CleanFault::LogFull { records } => Cause::LogFull { records },
-        CleanFault::Site => site_cause(before, after),
+        CleanFault::Site => site_cause(site),
         CleanFault::Memory => Cause::Memory,
     }
 }
 
 /// The cause of a refusal.
-pub fn refusal_cause(before: Counts, after: Counts, refusal: Refusal) -> Cause
-    ensures { result ≡ refusal_cause before after refusal }
+pub fn refusal_cause(site: Rise, refusal: Refusal) -> Cause
+    ensures { result ≡ refusal_cause site refusal }
 {
     match refusal {
         Refusal::Said(cause) => cause,
-        Refusal::Site => site_cause(before, after),
+        Refusal::Site => site_cause(site),
         Refusal::Memory => Cause::Memory,
     }
 }

@@ -5,13 +5,13 @@ mod ask;
 mod asking;
 mod caring;
 mod causes;
-mod counts;
 mod course;
 mod flow_file;
 mod flow_plan;
 mod log_name;
 mod needs;
 mod printing;
+mod rises;
 mod running;
 mod top;
 

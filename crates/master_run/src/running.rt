@@ -1,9 +1,11 @@
 //! The run of a plan over its log.
-ghost use Rattle.std.specs.Prelude.{◌≡◌, ◌≢◌, ◌≤◌, ℕ, List, IsTrue};
+ghost use Rattle.std.specs.Prelude.{◌≡◌, ◌≢◌, ◌≤◌, ◌<◌, ℕ, List, IfOk, IsTrue};
+ghost use Rattle.std.specs.Prelude.{drop, length, map, sum_by};
 ghost use Rattle.flow_types.specs.declared.records.Record.{Record as RecordValue};
 ghost use Rattle.flow_types.specs.Plans.{IsValid};
 ghost use Rattle.txn_log.specs.Spells.{Spells};
 ghost use Rattle.file_store.specs.Outputs.{file_name};
+ghost use Rattle.worker_pool.specs.Crews.{AllSure, AllTell};
 ghost use Rattle.local_run.specs.Collecting.{RunCollects};
 ghost use Rattle.local_run.specs.Ends.{FitsHere, OpensBy};
 ghost use Rattle.command_words.specs.declared.options.Work.TheVariants.{Run};
@@ -14,40 +16,67 @@ ghost use Rattle.master_run.specs.Serves.{IsCut, Serves};
 
 use crate::ask::Ask;
 use crate::causes::{run_cause, unread_cause};
-use crate::counts::Counts;
-use crate::course::{Course, counts_of};
-use flow_types::Rows;
+use crate::course::Course;
+use crate::rises::{Rise, counts_of, first_rise};
+use flow_types::{Memory, Plan, Rows};
 use local_run::{Born, ResumeRefused, RunEnded, resume};
 use log_recover::files_spell_one_list;
 use outside::{Clock, Commands, Runner, Site};
 use report::Cause;
 use std::alloc::Global;
+use std::sync::Wait;
+use std::thread::Threads;
+use worker_pool::Gate;
 
-/// Runs the plan over its log.
-pub fn run_flow<F: Commands, S: Site, R: Runner<F>, C: Clock, B: Born>(
+// What a run needs beside what it works on: its plan again, and how often each runner has failed.
+fn kept_aside<F: Commands, R: Runner<F>>(
     alloc: Global,
-    before: Counts,
+    plan: &Plan,
+    runners: &[R],
+) -> Result<(Plan, Rows<u64>), Memory>
+    ensures { IfOk result (λ kept. (kept.0 ≡ plan.now) × (kept.1 ≡ map R.count runners.now)) }
+{
+    let plan = plan.copy(alloc)?;
+    let counts = counts_of::<F, R>(alloc, runners)?;
+    Ok((plan, counts))
+}
+
+// Runs the plan over its log, by all of the runners.
+fn run_by_all<
+    F: Commands,
+    W: Threads + Wait + Sync,
+    S: Site,
+    R: Runner<F>,
+    C: Clock,
+    G: Gate,
+    B: Born,
+>(
+    rt: &W,
+    alloc: Global,
+    before: u64,
     ask: Ask,
     site: S,
-    runner: &mut R,
+    runners: &mut [R],
+    gate: &G,
     clock: &C,
 ) -> Course<S>
+    requires some { 0 < length runners.old }
     requires valid { IsValid ask.plan }
     requires apart { (f : ℕ) → file_name ask.plan f ≢ ask.log }
     requires fits { FitsHere ask.plan ask.options }
     requires later { S.tells → B.born ≤ S.moment site }
     requires work { ask.work ≡ Run }
-    requires counted { before.site ≤ S.count site }
-    requires runner { before.runner ≡ R.count runner.old }
+    requires counted { before ≤ S.count site }
     ensures serves { Serves S.tells S.files S.may_leave S.moment S.images_since B.born
-        F.gives F.may_fail (R.tells runner.old) (R.sure runner.old)
-        before (counts (S.count result.site) (R.count runner.new) 0)
+        F.gives F.may_fail (AllTell R.tells runners.old) (AllSure R.sure runners.old)
+        (counts before (map R.count runners.old) 0)
+        (counts (S.count result.site) (map R.count runners.new) 0)
         ask site result.site result.records result.cause }
-    ensures failures { FailureEnd (R.failures runner.old) (R.failures runner.new)
+    ensures failures { FailureEnd (sum_by R.failures runners.old) (sum_by R.failures runners.new)
         (kind_of result.cause) }
     ensures failed { S.tells → (H : List RecordValue) → Spells H (S.files site ask.log)
-        → (IsCut result.cause → ⊥)
-        → LogsFailed H result.records (R.failures runner.old) (R.failures runner.new) }
+        → (IsCut result.cause → ⊥) → LogsFailed H result.records
+        (sum_by R.failures runners.old) (sum_by R.failures runners.new) }
     ensures opened { IsTrue (is_run_end (kind_of result.cause))
         → OpensBy ask.options result.records }
     ensures collects { IsTrue (is_run_end (kind_of result.cause))
@@ -61,7 +90,7 @@ pub fn run_flow<F: Commands, S: Site, R: Runner<F>, C: Clock, B: Born>(
         options,
         ..
     } = ask;
-    let Ok(copied) = plan.copy(alloc) else {
+    let Ok((copied, counts)) = kept_aside::<F, R>(alloc, &plan, runners) else {
         return Course {
             cause: Cause::Memory,
             site,
@@ -69,12 +98,13 @@ pub fn run_flow<F: Commands, S: Site, R: Runner<F>, C: Clock, B: Born>(
             plan,
         };
     };
-    match resume::<F, S, R, C, B>(alloc, plan, site, log, options, runner, clock) {
+    match resume::<W, G, F, S, R, C, B>(rt, alloc, plan, site, log, options, runners, gate, clock) {
         Ok(ended) => {
             let RunEnded { site, records, how } = ended;
-            let after = counts_of::<F, _, _>(&site, runner);
+            let after = site.faults();
+            let runner = first_rise::<F, R>(counts.as_slice(), runners);
             Course {
-                cause: run_cause(before, after, &copied, how),
+                cause: run_cause(Rise { before, after }, runner, &copied, how),
                 site,
                 records,
                 plan: copied,
@@ -82,13 +112,62 @@ pub fn run_flow<F: Commands, S: Site, R: Runner<F>, C: Clock, B: Born>(
         }
         Err(refused) => {
             let ResumeRefused { why, site } = refused;
-            let after = counts_of::<F, _, _>(&site, runner);
+            let after = site.faults();
             Course {
-                cause: unread_cause(before, after, why),
+                cause: unread_cause(Rise { before, after }, why),
                 site,
                 records: Rows::new(alloc),
                 plan: copied,
             }
         }
     }
+}
+
+/// Runs the plan over its log, by as many of the runners as jobs may be run at once. The others
+/// stay as they are.
+pub fn run_flow<
+    F: Commands,
+    W: Threads + Wait + Sync,
+    S: Site,
+    R: Runner<F>,
+    C: Clock,
+    G: Gate,
+    B: Born,
+>(
+    rt: &W,
+    alloc: Global,
+    before: u64,
+    ask: Ask,
+    site: S,
+    runners: &mut [R],
+    gate: &G,
+    clock: &C,
+) -> Course<S>
+    requires some { (0 < length runners.old) × (0 < ask.jobs) }
+    requires valid { IsValid ask.plan }
+    requires apart { (f : ℕ) → file_name ask.plan f ≢ ask.log }
+    requires fits { FitsHere ask.plan ask.options }
+    requires later { S.tells → B.born ≤ S.moment site }
+    requires work { ask.work ≡ Run }
+    requires counted { before ≤ S.count site }
+    ensures serves { Serves S.tells S.files S.may_leave S.moment S.images_since B.born
+        F.gives F.may_fail (AllTell R.tells runners.old) (AllSure R.sure runners.old)
+        (counts before (map R.count runners.old) 0)
+        (counts (S.count result.site) (map R.count runners.new) 0)
+        ask site result.site result.records result.cause }
+    ensures spare { drop ask.jobs runners.new ≡ drop ask.jobs runners.old }
+    ensures failures { FailureEnd (sum_by R.failures runners.old) (sum_by R.failures runners.new)
+        (kind_of result.cause) }
+    ensures failed { S.tells → (H : List RecordValue) → Spells H (S.files site ask.log)
+        → (IsCut result.cause → ⊥) → LogsFailed H result.records
+        (sum_by R.failures runners.old) (sum_by R.failures runners.new) }
+    ensures opened { IsTrue (is_run_end (kind_of result.cause))
+        → OpensBy ask.options result.records }
+    ensures collects { IsTrue (is_run_end (kind_of result.cause))
+        → RunCollects ask.plan ask.options.mode result.records }
+    ensures plan { result.plan ≡ ask.plan }
+{
+    let count = runners.len().min(ask.jobs as usize);
+    let (working, _) = runners.split_at_mut(count);
+    run_by_all::<F, W, S, R, C, G, B>(rt, alloc, before, ask, site, working, gate, clock)
 }

@@ -1,5 +1,6 @@
 //! The top call.
-ghost use Rattle.std.specs.Prelude.{◌≡◌, ◌≢◌, ◌≤◌, ℕ, List, [], Ok, IsTrue, IsFalse};
+ghost use Rattle.std.specs.Prelude.{◌≡◌, ◌≢◌, ◌≤◌, ◌<◌, ℕ, List, [], Ok, IsTrue, IsFalse};
+ghost use Rattle.std.specs.Prelude.{drop, length, map, sum_by};
 ghost use Rattle.flow_types.specs.declared.records.Record.{Record as RecordValue};
 ghost use Rattle.flow_types.specs.Plans.{IsValid};
 ghost use Rattle.flow_types.specs.Serial.{serial};
@@ -10,6 +11,7 @@ ghost use Rattle.outside.specs.Files.{Files};
 ghost use Rattle.txn_log.specs.Spells.{Spells};
 ghost use Rattle.desk.specs.Kept.{IsLegal, Keeps, StaysBeside};
 ghost use Rattle.file_store.specs.Outputs.{file_name};
+ghost use Rattle.worker_pool.specs.Crews.{AllSure, AllTell};
 ghost use Rattle.local_run.specs.Collecting.{AreGone, CollectsBy, RunCollects};
 ghost use Rattle.local_run.specs.Ends.{FitsHere, OpensBy};
 ghost use Rattle.local_run.specs.Course.{IsUnmade, TellsJobs};
@@ -32,9 +34,9 @@ use crate::ask::Ask;
 use crate::asking::read_ask;
 use crate::caring::{clean_flow, read_log};
 use crate::causes::refusal_cause;
-use crate::counts::Counts;
-use crate::course::{Course, counts_of};
+use crate::course::Course;
 use crate::printing::tell;
+use crate::rises::Rise;
 use crate::running::run_flow;
 use command_words::Work;
 use flow_types::{Plan, Record, Rows};
@@ -43,6 +45,9 @@ use outside::{Clock, Commands, Runner, Sink, Site};
 use report::Cause;
 use std::alloc::Global;
 use std::marker::Brand;
+use std::sync::Wait;
+use std::thread::Threads;
+use worker_pool::Gate;
 
 /// How a call ended.
 #[derive(Drop)]
@@ -68,63 +73,73 @@ fn no_plan(alloc: Global) -> Plan
 }
 
 // Does what is asked for.
-fn serve<F: Commands, S: Site, R: Runner<F>, C: Clock, B: Born>(
+fn serve<F: Commands, W: Threads + Wait + Sync, S: Site, R: Runner<F>, C: Clock, G: Gate, B: Born>(
+    rt: &W,
     alloc: Global,
-    before: Counts,
+    before: u64,
     ask: Ask,
     site: S,
-    runner: &mut R,
+    runners: &mut [R],
+    gate: &G,
     clock: &C,
 ) -> Course<S>
+    requires some { (0 < length runners.old) × (0 < ask.jobs) }
     requires valid { IsValid ask.plan }
     requires apart { (f : ℕ) → file_name ask.plan f ≢ ask.log }
     requires fits { FitsHere ask.plan ask.options }
     requires later { S.tells → B.born ≤ S.moment site }
-    requires counted { before.site ≤ S.count site }
-    requires runner { before.runner ≡ R.count runner.old }
+    requires counted { before ≤ S.count site }
     ensures serves { Serves S.tells S.files S.may_leave S.moment S.images_since B.born
-        F.gives F.may_fail (R.tells runner.old) (R.sure runner.old)
-        before (counts (S.count result.site) (R.count runner.new) 0)
+        F.gives F.may_fail (AllTell R.tells runners.old) (AllSure R.sure runners.old)
+        (counts before (map R.count runners.old) 0)
+        (counts (S.count result.site) (map R.count runners.new) 0)
         ask site result.site result.records result.cause }
-    ensures failures { FailureEnd (R.failures runner.old) (R.failures runner.new)
+    ensures failures { FailureEnd (sum_by R.failures runners.old) (sum_by R.failures runners.new)
         (kind_of result.cause) }
     ensures failed { S.tells → (H : List RecordValue) → Spells H (S.files site ask.log)
         → (IsCut result.cause → ⊥)
-        → LogsFailed H result.records (R.failures runner.old) (R.failures runner.new) }
+        → LogsFailed H result.records
+        (sum_by R.failures runners.old) (sum_by R.failures runners.new) }
     ensures opened { IsTrue (is_run_end (kind_of result.cause))
         → OpensBy ask.options result.records }
     ensures collects { IsTrue (is_run_end (kind_of result.cause))
         → RunCollects ask.plan ask.options.mode result.records }
     ensures plan { result.plan ≡ ask.plan }
+    ensures spare { drop ask.jobs runners.new ≡ drop ask.jobs runners.old }
 {
     match ask.work {
-        Work::Run => run_flow::<F, S, R, C, B>(alloc, before, ask, site, runner, clock),
-        Work::Clean => clean_flow::<F, S, R, B>(alloc, before, ask, site, runner, clock.now()),
-        Work::PrintLog => read_log::<F, S, R, B>(alloc, before, ask, site, runner),
+        Work::Run => run_flow::<F, W, S, R, C, G, B>(
+            rt, alloc, before, ask, site, runners, gate, clock,
+        ),
+        Work::Clean => clean_flow::<F, S, B>(alloc, before, ask, site, clock.now()),
+        Work::PrintLog => read_log::<F, S, B>(alloc, before, ask, site),
     }
 }
 
-fn follow<F: Commands, S: Site, R: Runner<F>, C: Clock, B: Born>(
+fn follow<F: Commands, W: Threads + Wait + Sync, S: Site, R: Runner<F>, C: Clock, G: Gate, B: Born>(
+    rt: &W,
     alloc: Global,
     words: &[String],
     env: &[(String, String)],
     site: S,
-    runner: &mut R,
+    runners: &mut [R],
+    gate: &G,
     clock: &C,
 ) -> Course<S>
+    requires some { 0 < length runners.old }
     requires later { S.tells → B.born ≤ S.moment site }
     ensures ends { S.tells → CallEnds (request words.now env.now (S.files site))
         (S.files site) (S.files result.site) result.records result.cause }
     ensures serves { S.tells → (ask : AskValue)
         → request words.now env.now (S.files site) ≡ Ok ask
         → Serves S.tells S.files S.may_leave S.moment S.images_since B.born
-        F.gives F.may_fail (R.tells runner.old) (R.sure runner.old)
-        (counts (S.count site) (R.count runner.old) 0)
-        (counts (S.count result.site) (R.count runner.new) 0)
+        F.gives F.may_fail (AllTell R.tells runners.old) (AllSure R.sure runners.old)
+        (counts (S.count site) (map R.count runners.old) 0)
+        (counts (S.count result.site) (map R.count runners.new) 0)
         ask site result.site result.records result.cause }
     ensures words { WordsEnd (choice words.now) result.cause }
-    ensures faults { FaultEnd (counts (S.count site) (R.count runner.old) 0)
-        (counts (S.count result.site) (R.count runner.new) 0) result.cause }
+    ensures faults { FaultEnd (counts (S.count site) (map R.count runners.old) 0)
+        (counts (S.count result.site) (map R.count runners.new) 0) result.cause }
     ensures legal { IsTrue (was_read (kind_of result.cause))
         → IsLegal result.plan result.records }
     ensures valid { IsTrue (was_read (kind_of result.cause)) → IsValid result.plan }
@@ -134,28 +149,31 @@ fn follow<F: Commands, S: Site, R: Runner<F>, C: Clock, B: Born>(
         → S.files result.site ≡ S.files site }
     ensures closed { IsTrue (is_run_end (kind_of result.cause))
         → SpentOnce (since_opening result.records) }
-    ensures sure { R.sure runner.old → IsFalse (is_failing (kind_of result.cause)) }
-    ensures failures { FailureEnd (R.failures runner.old) (R.failures runner.new)
+    ensures sure { AllSure R.sure runners.old → IsFalse (is_failing (kind_of result.cause)) }
+    ensures failures { FailureEnd (sum_by R.failures runners.old) (sum_by R.failures runners.new)
         (kind_of result.cause) }
     ensures failed { S.tells → (ask : AskValue)
         → request words.now env.now (S.files site) ≡ Ok ask
         → (H : List RecordValue) → Spells H (S.files site ask.log) → (IsCut result.cause → ⊥)
-        → LogsFailed H result.records (R.failures runner.old) (R.failures runner.new) }
+        → LogsFailed H result.records
+        (sum_by R.failures runners.old) (sum_by R.failures runners.new) }
     ensures opened { (options : OptionsValue) → choice words.now ≡ Ok options
         → IsTrue (is_run_end (kind_of result.cause))
         → OpensBy (run_options options) result.records }
     ensures collects { (options : OptionsValue) → choice words.now ≡ Ok options
         → IsTrue (is_run_end (kind_of result.cause))
         → RunCollects result.plan (run_mode options.mode) result.records }
+    ensures spare { (options : OptionsValue) → choice words.now ≡ Ok options
+        → drop options.service.jobs runners.new ≡ drop options.service.jobs runners.old }
 {
     let mut site = site;
-    let before = counts_of::<F, _, _>(&site, runner);
+    let before = site.faults();
     match read_ask(alloc, words, env, &mut site) {
-        Ok(ask) => serve::<F, S, R, C, B>(alloc, before, ask, site, runner, clock),
+        Ok(ask) => serve::<F, W, S, R, C, G, B>(rt, alloc, before, ask, site, runners, gate, clock),
         Err(refusal) => {
-            let after = counts_of::<F, _, _>(&site, runner);
+            let after = site.faults();
             Course {
-                cause: refusal_cause(before, after, refusal),
+                cause: refusal_cause(Rise { before, after }, refusal),
                 site,
                 records: Rows::new(alloc),
                 plan: no_plan(alloc),
@@ -167,17 +185,31 @@ fn follow<F: Commands, S: Site, R: Runner<F>, C: Clock, B: Born>(
 /// Reads the flow that the words name and does what they ask for: runs its rules over the log,
 /// removes what they made, or prints the log. At the end one text is printed about it.
 ///
+/// As many jobs run at once as the words say, and no more than there are runners. Each passes the
+/// gate before it runs.
+///
 /// The clauses speak of the records that the log's file spells at the entry, of which there is one
 /// list at most. A crash at any moment leaves a site from which the same call goes on.
-pub fn makeflow_top<F: Commands, S: Site, R: Runner<F>, C: Clock, O: Sink>(
+pub fn makeflow_top<
+    F: Commands,
+    W: Threads + Wait + Sync,
+    S: Site,
+    R: Runner<F>,
+    C: Clock,
+    O: Sink,
+    G: Gate,
+>(
+    rt: &W,
     alloc: Global,
     words: &[String],
     env: &[(String, String)],
     site: S,
-    runner: &mut R,
+    runners: &mut [R],
+    gate: &G,
     clock: &C,
     out: &mut O,
 ) -> Ended<S>
+    requires some { 0 < length runners.old }
     ensures status { result.status ≡ status_of result.cause }
 
     // Where the site tells its files, each cause exactly where it belongs, in their order. A fault
@@ -187,10 +219,11 @@ pub fn makeflow_top<F: Commands, S: Site, R: Runner<F>, C: Clock, O: Sink>(
         (S.files site) (S.files result.site) result.records result.cause }
 
     // Over every site: words that are no command line, or that ask for what isn't built, are
-    // refused, and no others; each fault comes only where that object's count rose in this call.
+    // refused, and no others; each fault comes only where that object's count rose in this call,
+    // and that of the runners names both counts of one that rose.
     ensures words { WordsEnd (choice words.now) result.cause }
-    ensures faults { FaultEnd (counts (S.count site) (R.count runner.old) (O.count out.old))
-        (counts (S.count result.site) (R.count runner.new) (O.count out.new)) result.cause }
+    ensures faults { FaultEnd (counts (S.count site) (map R.count runners.old) (O.count out.old))
+        (counts (S.count result.site) (map R.count runners.new) (O.count out.new)) result.cause }
 
     // The records of the log stay, those that were added stand behind them, and together they may
     // stand in a log of the plan.
@@ -269,14 +302,14 @@ pub fn makeflow_top<F: Commands, S: Site, R: Runner<F>, C: Clock, O: Sink>(
     ensures contents { S.tells → OfLog (request words.now env.now (S.files site)) (S.files site)
         (λ ask H. let sources = read_sources ask.plan (S.files site) in
         IsResumable (SerialFits F.gives sources) ask.plan ask.log H (S.may_leave site)
-        → TellsJobs ask.plan (R.tells runner.old) (serial ask.plan F.gives sources)
+        → TellsJobs ask.plan (AllTell R.tells runners.old) (serial ask.plan F.gives sources)
         → (image : Files) → S.images_since result.site (S.moment site) image
         → IsMoment (SerialFits F.gives sources) ask.plan ask.log (S.files site)
         (S.may_leave site) H result.records (IsCut result.cause) image) }
     ensures honest { S.tells → OfLog (request words.now env.now (S.files site)) (S.files site)
         (λ ask H. let sources = read_sources ask.plan (S.files site) in
         IsResumable (SerialFits F.gives sources) ask.plan ask.log H (S.may_leave site)
-        → TellsJobs ask.plan (R.tells runner.old) (serial ask.plan F.gives sources)
+        → TellsJobs ask.plan (AllTell R.tells runners.old) (serial ask.plan F.gives sources)
         → BeginsWith H result.records
         → Adds (Unit {0}) F.gives F.may_fail sources ask.plan H result.records) }
 
@@ -288,26 +321,33 @@ pub fn makeflow_top<F: Commands, S: Site, R: Runner<F>, C: Clock, O: Sink>(
         result.records (O.count out.old) (O.count out.new) (O.bytes out.old) (O.bytes out.new)
         result.cause }
 
-    // CommandFailed only where the runner answered that a command failed, and each command that did
-    // is logged once; over a sure runner neither that nor its fault.
-    ensures failures { FailureEnd (R.failures runner.old) (R.failures runner.new)
+    // CommandFailed only where a runner answered that a command failed, and each command that did
+    // is logged once; over sure runners neither that nor their fault.
+    ensures failures { FailureEnd (sum_by R.failures runners.old) (sum_by R.failures runners.new)
         (kind_of result.cause) }
     ensures logged_failures { S.tells
         → OfLog (request words.now env.now (S.files site)) (S.files site)
         (λ ask H. (IsCut result.cause → ⊥)
-        → LogsFailed H result.records (R.failures runner.old) (R.failures runner.new)) }
-    ensures sure { R.sure runner.old → IsFalse (is_failing (kind_of result.cause)) }
+        → LogsFailed H result.records
+        (sum_by R.failures runners.old) (sum_by R.failures runners.new)) }
+    ensures sure { AllSure R.sure runners.old → IsFalse (is_failing (kind_of result.cause)) }
 
-    // What can come to its end does: over a sure runner that tells, with nothing in its way, room
+    // What can come to its end does: over sure runners that tell, with nothing in its way, room
     // in the log and no count rising, every rule is complete, or memory was wanting, or with a limit
     // of the storage there was no room.
     ensures completes { S.tells → OfLog (request words.now env.now (S.files site)) (S.files site)
-        (λ ask H. CanComplete F.gives (R.tells runner.old) (R.sure runner.old) ask (S.files site)
-        (S.may_leave site) H
-        (counts (S.count site) (R.count runner.old) (O.count out.old))
-        (counts (S.count result.site) (R.count runner.new) (O.count out.new)) result.cause) }
+        (λ ask H. CanComplete F.gives (AllTell R.tells runners.old) (AllSure R.sure runners.old)
+        ask (S.files site) (S.may_leave site) H
+        (counts (S.count site) (map R.count runners.old) (O.count out.old))
+        (counts (S.count result.site) (map R.count runners.new) (O.count out.new)) result.cause) }
+
+    // Of the runners only so many are used as the words say.
+    ensures spare { (options : OptionsValue) → choice words.now ≡ Ok options
+        → drop options.service.jobs runners.new ≡ drop options.service.jobs runners.old }
 {
-    let course = follow::<F, S, R, C, Brand>(alloc, words, env, site, runner, clock);
+    let course = follow::<F, W, S, R, C, G, Brand>(
+        rt, alloc, words, env, site, runners, gate, clock,
+    );
     let Course {
         cause,
         site,

@@ -68,16 +68,25 @@ pub fn shown_outcome(alloc: Global, ended: &Ended<MemSite>) -> Result<String, Al
     format!(in alloc; "{status} {cause}, records {records}")
 }
 
-/// The line of the records, and of how often the site, the runner and the sink have failed.
+/// The line of the records, and of how often the site, the runners and the sink have failed.
 pub fn shown_counts(
     alloc: Global,
     ended: &Ended<MemSite>,
-    runner: &TableRunner<Blank>,
+    runners: &[TableRunner<Blank>],
     sink: &MemSink,
 ) -> Result<String, AllocError> {
     let records = ended.records.len();
-    let (site, runner, sink) = (ended.site.faults(), runner.faults(), sink.faults());
-    format!(in alloc; "records {records}, faults {site} {runner} {sink}\n")
+    let (site, runners, sink) = (ended.site.faults(), faults_of(runners), sink.faults());
+    format!(in alloc; "records {records}, faults {site} {runners} {sink}\n")
+}
+
+// How often the runners have failed in all.
+fn faults_of(runners: &[TableRunner<Blank>]) -> u64 {
+    let mut faults = 0_u64;
+    for runner in runners {
+        faults = faults.saturating_add(runner.faults());
+    }
+    faults
 }
 
 /// The bytes in brackets, or that there are none.

@@ -1,11 +1,11 @@
 //! Whole calls of `makeflow_top` in memory.
 //!
-//! A case is a script over a site, a runner and a sink that begin empty. Its lines are those of
+//! A case is a script over a site, a runner or several, and a sink, which begin empty. Its lines are those of
 //! `scene.rt` and `jobs.rt`, and `run WORD..`, which makes a call with these words. The lines below
 //! it go on with the files that it left, so a case may have several runs.
 //!
 //! A run is answered by the status, the cause and all that was printed; then by the number of
-//! records and how often the site, the runner and the sink failed in all; then by each file that
+//! records and how often the site, the runners and the sink failed in all; then by each file that
 //! the case names, as the run left it. A crash is answered by these files alone. Calls over each
 //! crash or fault are answered by a line for each whose outcome isn't that of the one before it:
 //! the number of the crash or fault, the status, the cause, the number of records, and the files
@@ -29,10 +29,10 @@ fn main(rt: HostRuntime) -> anyhow::Result<()> {
     for case in read_cases(alloc, &text)?.iter() {
         let title = case.title.as_str();
         println!(rt; "== {title}")?;
-        let mut scene = Scene::new(alloc);
+        let mut scene = Scene::new(alloc)?;
         let body = case.body(alloc)?;
         for line in str::from_utf8(&body)?.lines() {
-            let text = scene.answer(alloc, line)?;
+            let text = scene.answer(&rt, alloc, line)?;
             print!(rt; "{text}")?;
         }
     }

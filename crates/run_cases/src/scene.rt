@@ -1,10 +1,12 @@
 //! What a script works on, and its lines.
 //!
 //! `file NAME CONTENT` puts a file, `show NAME` names one that no line puts, and `env NAME VALUE`
-//! adds a variable of the environment. `job COMMAND => OUTCOME` is a row of the runner's table, by
+//! adds a variable of the environment. `runners COUNT` puts so many new runners in the place of the
+//! one that there is before. `job COMMAND => OUTCOME` is a row of the table that each runner has, by
 //! `jobs.rt`. `clock MOMENT` sets the clock, which stands at 7 before. `site fails CALL`, `runner
-//! fails CALL` and `sink fails CALL` say that a call of that object is to fail; they are numbered
-//! from 0, and go on over the runs of a case. CONTENT is spelled with the escapes of a `=~` case.
+//! fails CALL` and `sink fails CALL` say that a call of the site, of the first runner or of the sink
+//! is to fail; they are numbered from 0, and go on over the runs of a case. CONTENT is spelled with
+//! the escapes of a `=~` case.
 //!
 //! `crash CALL CHOICE` puts in the site's place what a crash behind that call of it leaves, or one
 //! now where there was none: at choice 0 each file as it was when it was last synced, at 1 all that
@@ -24,13 +26,16 @@ use master_run::{Ended, makeflow_top};
 use mem_outside::{Blank, FixedClock, MemSink, MemSite, TableRunner};
 use std::alloc::{AllocError, Global};
 use std::mem;
+use std::sync::Wait;
+use std::thread::Threads;
+use worker_pool::OpenGate;
 
-/// A site, a runner, a clock, a sink and an environment, and the files that are shown after each
+/// A site, runners, a clock, a sink and an environment, and the files that are shown after each
 /// run.
 #[derive(Drop)]
 pub struct Scene {
     site: MemSite,
-    runner: TableRunner<Blank>,
+    runners: Vec<TableRunner<Blank>>,
     clock: FixedClock,
     sink: MemSink,
     env: Vec<(String, String)>,
@@ -38,26 +43,31 @@ pub struct Scene {
 }
 
 impl Scene {
-    /// A scene without files, outcomes or variables.
-    pub fn new(alloc: Global) -> Scene {
-        Scene {
+    /// A scene of one runner, without files, outcomes or variables.
+    pub fn new(alloc: Global) -> Result<Scene, AllocError> {
+        Ok(Scene {
             site: MemSite::new(alloc),
-            runner: TableRunner::new(alloc),
+            runners: runners_of(alloc, 1)?,
             clock: FixedClock(7),
             sink: MemSink::new(alloc),
             env: Vec::new(alloc),
             files: Files::new(alloc),
-        }
+        })
     }
 
     /// Does what a line says. Only a run and a crash have an answer, and a line out of form.
-    pub fn answer(&mut self, alloc: Global, line: &str) -> Result<String, AllocError> {
+    pub fn answer<W: Threads + Wait + Sync>(
+        &mut self,
+        rt: &W,
+        alloc: Global,
+        line: &str,
+    ) -> Result<String, AllocError> {
         let (kind, rest) = first(line);
         let answer = match kind {
-            "run" => Some(self.run(alloc, rest)?),
+            "run" => Some(self.run(rt, alloc, rest)?),
             "crash" => self.crash(alloc, rest)?,
-            "each-crash" => self.each_crash(alloc, rest)?,
-            "each-fault" => self.each_fault(alloc, rest)?,
+            "each-crash" => self.each_crash(rt, alloc, rest)?,
+            "each-fault" => self.each_fault(rt, alloc, rest)?,
             _ => self.set_silently(alloc, kind, rest)?,
         };
         match answer {
@@ -85,7 +95,8 @@ impl Scene {
             "file" => self.put_file(alloc, line),
             "show" => self.show(alloc, line),
             "env" => self.add_variable(alloc, line),
-            "job" => put_job(alloc, &mut self.runner, line),
+            "runners" => self.set_runners(alloc, line),
+            "job" => self.put_job(alloc, line),
             "clock" => Ok(self.set_clock(line)),
             _ => self.fail(kind, line),
         }
@@ -124,6 +135,26 @@ impl Scene {
         Ok(true)
     }
 
+    // So many runners, without outcomes.
+    fn set_runners(&mut self, alloc: Global, line: &str) -> Result<bool, AllocError> {
+        match number_of(line) {
+            Some(count) => {
+                self.runners = runners_of(alloc, count)?;
+                Ok(true)
+            }
+            None => Ok(false),
+        }
+    }
+
+    fn put_job(&mut self, alloc: Global, line: &str) -> Result<bool, AllocError> {
+        for runner in self.runners.iter_mut() {
+            if !put_job(alloc, runner, line)? {
+                return Ok(false);
+            }
+        }
+        Ok(true)
+    }
+
     fn set_clock(&mut self, line: &str) -> bool {
         match number_of(line) {
             Some(moment) => {
@@ -144,7 +175,10 @@ impl Scene {
         };
         let noted = match object {
             "site" => self.site.fail_at(call),
-            "runner" => self.runner.fail_at(call),
+            "runner" => match self.runners.first_mut() {
+                Some(runner) => runner.fail_at(call),
+                None => return Ok(false),
+            },
             "sink" => self.sink.fail_at(call),
             _ => return Ok(false),
         };
@@ -155,22 +189,30 @@ impl Scene {
     }
 
     // Makes a call with these words, and goes on with the files that it left.
-    fn run(&mut self, alloc: Global, line: &str) -> Result<String, AllocError> {
+    fn run<W: Threads + Wait + Sync>(
+        &mut self,
+        rt: &W,
+        alloc: Global,
+        line: &str,
+    ) -> Result<String, AllocError> {
         let words = words_of(alloc, line)?;
         let site = mem::replace(&mut self.site, MemSite::new(alloc));
         let before = self.sink.bytes().len();
-        let ended = call(
+        let Some(ended) = call(
+            rt,
             alloc,
             &words,
             &self.env,
             site,
-            &mut self.runner,
+            &mut self.runners,
             &self.clock,
             &mut self.sink,
-        );
+        ) else {
+            return String::from_str(alloc, NO_RUNNER);
+        };
         let printed = self.sink.bytes().get(before..).unwrap_or(&[]);
         let mut text = shown_end(alloc, &ended, printed)?;
-        let counts = shown_counts(alloc, &ended, &self.runner, &self.sink)?;
+        let counts = shown_counts(alloc, &ended, &self.runners, &self.sink)?;
         text.push_str(&counts)?;
         let files = self.files.shown(alloc, &ended.site)?;
         text.push_str(&files)?;
@@ -197,15 +239,30 @@ impl Scene {
     }
 }
 
-// The one call of what the table is about.
-fn call(
+const NO_RUNNER: &str = "no runner\n";
+
+// So many runners, without outcomes.
+fn runners_of(alloc: Global, count: u64) -> Result<Vec<TableRunner<Blank>>, AllocError> {
+    let mut runners = Vec::new(alloc);
+    for _ in 0..count {
+        runners.push(TableRunner::new(alloc))?;
+    }
+    Ok(runners)
+}
+
+// The one call of what the table is about. There has to be a runner.
+fn call<W: Threads + Wait + Sync>(
+    rt: &W,
     alloc: Global,
     words: &[String],
     env: &[(String, String)],
     site: MemSite,
-    runner: &mut TableRunner<Blank>,
+    runners: &mut [TableRunner<Blank>],
     clock: &FixedClock,
     sink: &mut MemSink,
-) -> Ended<MemSite> {
-    makeflow_top(alloc, words, env, site, runner, clock, sink)
+) -> Option<Ended<MemSite>> {
+    if runners.is_empty() {
+        return None;
+    }
+    Some(makeflow_top(rt, alloc, words, env, site, runners, &OpenGate, clock, sink))
 }

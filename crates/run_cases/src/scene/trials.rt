@@ -1,18 +1,21 @@
 //! Calls over each crash of a row of crashes, and over each fault.
-use super::{Scene, call};
+use super::{NO_RUNNER, Scene, call};
 use crate::answers::shown_outcome;
 use crate::steps::Steps;
 use crate::words::{first, number_of, words_of};
 use mem_outside::{MemSink, MemSite};
 use std::alloc::{AllocError, Global};
+use std::sync::Wait;
+use std::thread::Threads;
 
 // No site makes so many calls.
 const NEVER: u64 = u64::MAX;
 
 impl Scene {
     // Makes a call over what each crash leaves.
-    pub(super) fn each_crash(
+    pub(super) fn each_crash<W: Threads + Wait + Sync>(
         &mut self,
+        rt: &W,
         alloc: Global,
         line: &str,
     ) -> Result<Option<String>, AllocError> {
@@ -25,15 +28,16 @@ impl Scene {
         let mut steps = Steps::new(alloc);
         for crash in 0..calls {
             let site = self.image(alloc, crash, choice)?;
-            let outcome = self.outcome(alloc, &words, site)?;
+            let outcome = self.outcome(rt, alloc, &words, site)?;
             steps.add(alloc, crash, outcome)?;
         }
         Ok(Some(steps.into_text()))
     }
 
     // Makes a call with each fault.
-    pub(super) fn each_fault(
+    pub(super) fn each_fault<W: Threads + Wait + Sync>(
         &mut self,
+        rt: &W,
         alloc: Global,
         line: &str,
     ) -> Result<Option<String>, AllocError> {
@@ -48,29 +52,33 @@ impl Scene {
             if site.fail_at(fault).is_err() {
                 return Err(AllocError);
             }
-            let outcome = self.outcome(alloc, &words, site)?;
+            let outcome = self.outcome(rt, alloc, &words, site)?;
             steps.add(alloc, fault, outcome)?;
         }
         Ok(Some(steps.into_text()))
     }
 
     // How a call over another site ends, and which files it leaves otherwise than they were shown.
-    fn outcome(
+    fn outcome<W: Threads + Wait + Sync>(
         &mut self,
+        rt: &W,
         alloc: Global,
         words: &[String],
         site: MemSite,
     ) -> Result<String, AllocError> {
         let mut sink = MemSink::new(alloc);
-        let ended = call(
+        let Some(ended) = call(
+            rt,
             alloc,
             words,
             &self.env,
             site,
-            &mut self.runner,
+            &mut self.runners,
             &self.clock,
             &mut sink,
-        );
+        ) else {
+            return String::from_str(alloc, NO_RUNNER);
+        };
         let mut text = shown_outcome(alloc, &ended)?;
         let changes = self.files.changes(alloc, &ended.site)?;
         text.push_str(&changes)?;

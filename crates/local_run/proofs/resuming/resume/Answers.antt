@@ -1,7 +1,9 @@
 use Rattle.std.proofs.Common.{◌≡◌, ◌∙◌, arith, ◌⊎◌, ⊎_elim, inl, inr, List, [], length, ap, sym, subst}
+use Rattle.std.specs.Prelude.{sum_by}
 use Rattle.flow_types.specs.Serial.{Contents, serial}
 use Rattle.file_store.specs.Outputs.{file_name}
 use Rattle.desk.specs.Kept.{WasKept}
+use Rattle.worker_pool.specs.Crews.{AllTell}
 use Rattle.local_run.specs.Completing.{HasRecordRoom, SerialInputsFit}
 use Rattle.local_run.specs.Collecting.{AreGone, CollectsBy}
 use Rattle.local_run.specs.Course.{TellsJobs}
@@ -30,7 +32,7 @@ returns-in-Ok-clause-contents g c told H spelled resumable tells image left =
     (subst (λ (s : Contents). g.S.Site.images_since c.recover.new.site g.B.Born.born image ⊎ WasKept (SerialFits g.F.Commands.gives s) c.args.plan c.in-Ok.log.name (length c.in-Ok.history) c.run.result.records (IsCutRun c.run.result.how) image) same
     (c.run.ensures.serial told
     (subst (λ (s : Contents). IsStanding g.F.Commands.gives s c.args.plan c.in-Ok.log.name c.in-Ok.history (g.S.Site.may_leave c.recover.new.site)) (sym same) (keeping g.S.Site.may_leave g.S.Site.moment g.S.Site.images_since c.args.plan c.args.name c.in-Ok.log.name c.in-Ok.ensures.named.same_name c.in-Ok.history H (c.in-Ok.ensures.exact told H spelled) (g.S.Site.files c.args.site) c.args.site c.recover.new.site (SerialFits g.F.Commands.gives (read_sources c.args.plan (g.S.Site.files c.args.site))) c.requires.apart c.files_spell_one_list.ensures.one ((g.met.S.Site g.world.𝓛 g.world.𝓜 g.world.𝓡 ((λ s x. x), (λ x. x), (λ x. x), λ x. x)).reads_image told c.args.site c.args.name) (c.in-Ok.ensures.answer told) (c.in-Ok.ensures.stands told).at.each (c.recover.ensures.crash told) resumable))
-    (subst (λ (s : Contents). TellsJobs c.args.plan (g.R.Runner.tells c.args.runner.now) (serial c.args.plan g.F.Commands.gives s)) (sym same) tells) image left))
+    (subst (λ (s : Contents). TellsJobs c.args.plan (AllTell g.R.Runner.tells c.args.runners.now) (serial c.args.plan g.F.Commands.gives s)) (sym same) tells) image left))
 
 pub returns-in-Ok-clause-now : goal.returns-in-Ok-clause-now
 returns-in-Ok-clause-now g c told H spelled resumable whole image now =
@@ -46,7 +48,7 @@ returns-in-Ok-clause-resumable g c told H spelled some image left =
 
 pub returns-in-Ok-clause-causes : goal.returns-in-Ok-clause-causes
 returns-in-Ok-clause-causes g c =
-    causes_since (g.S.Site.count c.args.site) (g.S.Site.count c.recover.new.site) (g.S.Site.count c.run.result.site) (g.R.Runner.count c.args.runner.now) (g.R.Runner.count c.run.new.runner) c.run.result.how
+    causes_since (g.S.Site.count c.args.site) (g.S.Site.count c.recover.new.site) (g.S.Site.count c.run.result.site) (sum_by g.R.Runner.count c.args.runners.now) (sum_by g.R.Runner.count c.run.new.runners) c.run.result.how
     c.recover.ensures.later c.run.ensures.causes
 
 pub returns-in-Ok-clause-grows : goal.returns-in-Ok-clause-grows
@@ -81,7 +83,7 @@ returns-in-Ok-clause-whole g c told H spelled resumable = c.run.ensures.whole to
 
 pub returns-in-Ok-clause-failures : goal.returns-in-Ok-clause-failures
 returns-in-Ok-clause-failures g c closed told H spelled =
-    subst (λ (G : List Record). LogsFailures G c.run.result.records (g.R.Runner.failures c.args.runner.now) (g.R.Runner.failures c.run.new.runner)) (c.in-Ok.ensures.exact told H spelled) (c.run.ensures.failures closed)
+    subst (λ (G : List Record). LogsFailures G c.run.result.records (sum_by g.R.Runner.failures c.args.runners.now) (sum_by g.R.Runner.failures c.run.new.runners)) (c.in-Ok.ensures.exact told H spelled) (c.run.ensures.failures closed)
 
 pub returns-in-Ok-clause-completes : goal.returns-in-Ok-clause-completes
 returns-in-Ok-clause-completes g c told H spelled resumable tells here fit room free sure stood =
@@ -90,7 +92,7 @@ returns-in-Ok-clause-completes g c told H spelled resumable tells here fit room 
     let later = c.recover.ensures.later in
     c.run.ensures.completes told
     (subst (λ (s : Contents). IsStanding g.F.Commands.gives s c.args.plan c.in-Ok.log.name c.in-Ok.history (g.S.Site.may_leave c.recover.new.site)) (sym same) (keeping g.S.Site.may_leave g.S.Site.moment g.S.Site.images_since c.args.plan c.args.name c.in-Ok.log.name c.in-Ok.ensures.named.same_name c.in-Ok.history H (c.in-Ok.ensures.exact told H spelled) (g.S.Site.files c.args.site) c.args.site c.recover.new.site (SerialFits g.F.Commands.gives (read_sources c.args.plan (g.S.Site.files c.args.site))) c.requires.apart c.files_spell_one_list.ensures.one ((g.met.S.Site g.world.𝓛 g.world.𝓜 g.world.𝓡 ((λ s x. x), (λ x. x), (λ x. x), λ x. x)).reads_image told c.args.site c.args.name) (c.in-Ok.ensures.answer told) (c.in-Ok.ensures.stands told).at.each (c.recover.ensures.crash told) resumable))
-    (subst (λ (s : Contents). TellsJobs c.args.plan (g.R.Runner.tells c.args.runner.now) (serial c.args.plan g.F.Commands.gives s)) (sym same) tells) here
+    (subst (λ (s : Contents). TellsJobs c.args.plan (AllTell g.R.Runner.tells c.args.runners.now) (serial c.args.plan g.F.Commands.gives s)) (sym same) tells) here
     (subst (λ (s : Contents). SerialInputsFit c.args.plan g.F.Commands.gives s) (sym same) fit) (subst (HasRecordRoom c.args.plan) (sym these) room)
     (fault_joined c.args.plan c.args.options c.in-Ok.history H (g.S.Site.files c.args.site) (g.S.Site.files c.recover.new.site) these
     (λ f. c.recover.ensures.others told (file_name c.args.plan f) (c.requires.apart f)) ∙ free) sure (omega (arith, later, stood))
@@ -115,7 +117,7 @@ returns-in-Ok-clause-honest g c told H spelled resumable tells =
     (subst (λ (s : Contents). Adds (Unit {0}) g.F.Commands.gives g.F.Commands.may_fail s c.args.plan c.in-Ok.history c.run.result.records) same
     (c.run.ensures.more told
     (subst (λ (s : Contents). IsStanding g.F.Commands.gives s c.args.plan c.in-Ok.log.name c.in-Ok.history (g.S.Site.may_leave c.recover.new.site)) (sym same) (keeping g.S.Site.may_leave g.S.Site.moment g.S.Site.images_since c.args.plan c.args.name c.in-Ok.log.name c.in-Ok.ensures.named.same_name c.in-Ok.history H (c.in-Ok.ensures.exact told H spelled) (g.S.Site.files c.args.site) c.args.site c.recover.new.site (SerialFits g.F.Commands.gives (read_sources c.args.plan (g.S.Site.files c.args.site))) c.requires.apart c.files_spell_one_list.ensures.one ((g.met.S.Site g.world.𝓛 g.world.𝓜 g.world.𝓡 ((λ s x. x), (λ x. x), (λ x. x), λ x. x)).reads_image told c.args.site c.args.name) (c.in-Ok.ensures.answer told) (c.in-Ok.ensures.stands told).at.each (c.recover.ensures.crash told) resumable))
-    (subst (λ (s : Contents). TellsJobs c.args.plan (g.R.Runner.tells c.args.runner.now) (serial c.args.plan g.F.Commands.gives s)) (sym same) tells)))
+    (subst (λ (s : Contents). TellsJobs c.args.plan (AllTell g.R.Runner.tells c.args.runners.now) (serial c.args.plan g.F.Commands.gives s)) (sym same) tells)))
 
 pub returns-in-Err-clause-unchanged : goal.returns-in-Err-clause-unchanged
 returns-in-Err-clause-unchanged g c told damaged m =

@@ -1,4 +1,5 @@
 use Rattle.flow_types.specs.Serial.{serial}
+use Rattle.worker_pool.specs.Crews.{AllTell}
 use Rattle.local_run.specs.Course.{TellsJobs}
 use Rattle.local_run.specs.Runs.{IsKeeping, IsStanding, read_sources}
 use Rattle.local_run.proofs.runs.run.Given as goal
@@ -9,7 +10,7 @@ ghosts-run_by g a = record {
   trust = g.S.Site.tells
       × IsKeeping a.plan a.log.name a.history (g.S.Site.may_leave a.site)
       × IsStanding g.F.Commands.gives (read_sources a.plan (g.S.Site.files a.site)) a.plan a.log.name a.history (g.S.Site.may_leave a.site)
-      × TellsJobs a.plan (g.R.Runner.tells a.runner.now) (serial a.plan g.F.Commands.gives (read_sources a.plan (g.S.Site.files a.site)));
+      × TellsJobs a.plan (AllTell g.R.Runner.tells a.runners.now) (serial a.plan g.F.Commands.gives (read_sources a.plan (g.S.Site.files a.site)));
   sources = read_sources a.plan (g.S.Site.files a.site);
   keen = λ link. Unit {0};
   kept = IsKeeping a.plan a.log.name a.history (g.S.Site.may_leave a.site);

@@ -1,5 +1,5 @@
 use Rattle.std.proofs.Common.{◌≡◌, ◌≢◌, ◌+◌, ◌∙◌, ◌≤◌, ℕ, List, Option, length, refl, subst, sym}
-use Rattle.std.specs.Prelude.{IfOk, None}
+use Rattle.std.specs.Prelude.{sum_by, IfOk, None}
 use Rattle.flow_types.specs.declared.records.Record.{Record}
 use Rattle.run_history.specs.declared.options.Options.{Options}
 use Rattle.run_history.specs.Answers.{before_end, end_over}
@@ -11,6 +11,7 @@ use Rattle.flow_types.specs.Serial.{serial}
 use Rattle.run_history.specs.Storage.{running_rules}
 use Rattle.desk.specs.Kept.{Fits, IsLegal}
 use Rattle.desk.specs.declared.answers.StartFault.{StartFault}
+use Rattle.worker_pool.specs.Crews.{AllTell}
 use Rattle.local_run.specs.Collecting.{AreGone, CollectsBy, RunCollects}
 use Rattle.local_run.specs.Completing.{SerialInputsFit}
 use Rattle.local_run.specs.Course.{IsUnmade, LeavesAlone, TellsJobs}
@@ -39,7 +40,7 @@ run_desk-requires-clause-idle g c κs within = (begun g.S.Site.count c.args.plan
 pub run_desk-requires-clause-base : goal.run_desk-requires-clause-base
 run_desk-requires-clause-base g c κs within trusted =
     let base = c.requires.base trusted in
-    (base.0, base.1, subst (λ (P : Plan). TellsJobs P (g.R.Runner.tells c.args.runner.now) (serial P g.F.Commands.gives g.T.Terms.sources)) (sym (begun g.S.Site.count c.args.plan c.args.options c.args.log.name c.args.history c.now.result g.S.Site.tells (g.S.Site.files c.args.site) c.args.site g.F.Commands.may_fail (serial c.args.plan g.F.Commands.gives g.T.Terms.sources) c.in-Ok.desk c.in-Ok.ensures.reply).plan) base.2)
+    (base.0, base.1, subst (λ (P : Plan). TellsJobs P (AllTell g.R.Runner.tells c.args.runners.now) (serial P g.F.Commands.gives g.T.Terms.sources)) (sym (begun g.S.Site.count c.args.plan c.args.options c.args.log.name c.args.history c.now.result g.S.Site.tells (g.S.Site.files c.args.site) c.args.site g.F.Commands.may_fail (serial c.args.plan g.F.Commands.gives g.T.Terms.sources) c.in-Ok.desk c.in-Ok.ensures.reply).plan) base.2)
 
 pub returns-in-Ok-clause-more : goal.returns-in-Ok-clause-more
 returns-in-Ok-clause-more g c = adds_more (g.S.Site.count c.args.site) g.T.Terms.trust g.F.Commands.gives g.F.Commands.may_fail g.T.Terms.sources c.args.plan c.args.options c.args.log.name c.args.history c.run_desk.result.records c.in-Ok.desk (begun g.S.Site.count c.args.plan c.args.options c.args.log.name c.args.history c.now.result g.S.Site.tells (g.S.Site.files c.args.site) c.args.site g.F.Commands.may_fail (serial c.args.plan g.F.Commands.gives g.T.Terms.sources) c.in-Ok.desk c.in-Ok.ensures.reply) c.run_desk.ensures.more
@@ -119,11 +120,11 @@ returns-in-Err-clause-reads g c told m spared = c.in-Err.ensures.reads told m (s
 
 pub returns-in-Ok-clause-causes : goal.returns-in-Ok-clause-causes
 returns-in-Ok-clause-causes g c =
-    subst (λ (n : ℕ). HasCauses n (g.S.Site.count c.run_desk.result.site) (g.R.Runner.count c.args.runner.now) (g.R.Runner.count c.run_desk.new.runner) c.run_desk.result.how) (begun g.S.Site.count c.args.plan c.args.options c.args.log.name c.args.history c.now.result g.S.Site.tells (g.S.Site.files c.args.site) c.args.site g.F.Commands.may_fail (serial c.args.plan g.F.Commands.gives g.T.Terms.sources) c.in-Ok.desk c.in-Ok.ensures.reply).faults c.run_desk.ensures.causes
+    subst (λ (n : ℕ). HasCauses n (g.S.Site.count c.run_desk.result.site) (sum_by g.R.Runner.count c.args.runners.now) (sum_by g.R.Runner.count c.run_desk.new.runners) c.run_desk.result.how) (begun g.S.Site.count c.args.plan c.args.options c.args.log.name c.args.history c.now.result g.S.Site.tells (g.S.Site.files c.args.site) c.args.site g.F.Commands.may_fail (serial c.args.plan g.F.Commands.gives g.T.Terms.sources) c.in-Ok.desk c.in-Ok.ensures.reply).faults c.run_desk.ensures.causes
 
 pub returns-in-Err-clause-causes : goal.returns-in-Err-clause-causes
 returns-in-Err-clause-causes g c =
-    refused_causes g.S.Site.count c.args.plan c.args.options c.args.history g.S.Site.tells (g.S.Site.files c.args.site) c.args.site c.in-Err.refused.site (g.R.Runner.count c.args.runner.now) (g.R.Runner.count c.args.runner.now)
+    refused_causes g.S.Site.count c.args.plan c.args.options c.args.history g.S.Site.tells (g.S.Site.files c.args.site) c.args.site c.in-Err.refused.site (sum_by g.R.Runner.count c.args.runners.now) (sum_by g.R.Runner.count c.args.runners.now)
     c.in-Err.refused.why c.in-Err.ensures.reply.1
 
 pub run_desk-requires-clause-unset : goal.run_desk-requires-clause-unset

@@ -1,6 +1,6 @@
 use Rattle.std.proofs.Common.{◌≡◌, ◌≤◌, ◌∙◌, ℕ, List, ap, subst, sym}
 use Rattle.run_history.specs.declared.answers.Check.{Check}
-use Rattle.std.specs.Prelude.{◌⊎◌, IfOk, None, OnOk, Result, length}
+use Rattle.std.specs.Prelude.{sum_by, ◌⊎◌, IfOk, None, OnOk, Result, length}
 use Rattle.flow_types.specs.declared.records.Record.{Record}
 use Rattle.run_history.specs.Answers.{before_end, end_over}
 use Rattle.run_history.specs.Links.{records_of}
@@ -8,21 +8,23 @@ use Rattle.outside.specs.Disk.{IsImage}
 use Rattle.flow_types.specs.declared.plan.Plan.{Plan}
 use Rattle.run_history.specs.Storage.{running_rules}
 use Rattle.desk.specs.Kept.{Fits, IsLegal, WasKept}
+use Rattle.worker_pool.specs.Crews.{AllSure}
 use Rattle.local_run.specs.declared.ended.Stopped.{Stopped}
 use Rattle.desk.proofs.Named.{named}
 use Rattle.local_run.specs.Collecting.{IsUntouched}
 use Rattle.local_run.specs.Course.{IsUnmade, LeavesAlone}
 use Rattle.local_run.specs.Ends.{HasFailed, IsApart, IsCompleteEnd, IsRunEnd, IsSureEnd, IsWholeRun, LogsFailures, RunDamage, StartEnds}
-use Rattle.local_run.specs.Runs.{HasCauses, IsCutRun, IsRefusedRun, LosesNone, ended_by}
+use Rattle.local_run.specs.Runs.{HasCauses, IsClosedRun, IsCutRun, IsRefusedRun, LosesNone, ended_by}
 use Rattle.local_run.proofs.Alone.{alone_less}
 use Rattle.local_run.proofs.Collecting.{unmade_untouched}
 use Rattle.local_run.proofs.Modes.{are_gone, collects_by, run_collects}
-use Rattle.local_run.proofs.Done.{damage_ended, if_ended, sure_ended, whole_ended}
+use Rattle.local_run.proofs.Done.{damage_ended, if_ended, whole_ended}
 use Rattle.local_run.proofs.Refused.{not_refused}
 use Rattle.local_run.proofs.Starts.{desk_starts}
 use Rattle.local_run.proofs.Results.{adds_records, causes_run, closed_whole, ends_run, fine_run, is_kept, loses_none, was_kept}
 use Rattle.local_run.proofs.Going.{records_more}
 use Rattle.local_run.proofs.Openings.{opens_on}
+use Rattle.local_run.proofs.RunsServed.{closed_unwanting, surely_ended}
 use Rattle.local_run.proofs.runs.run_desk.Goals as goal
 
 pub returns-clause-more : goal.returns-clause-more
@@ -31,7 +33,7 @@ returns-clause-more g c = adds_records g.T.Terms.trust g.F.Commands.gives g.F.Co
 pub returns-clause-kept : goal.returns-clause-kept
 returns-clause-kept g c told kept image left =
     subst (λ (how : Result Check Stopped). g.T.Terms.before image ⊎ WasKept (Fits g.T.Terms.trust g.F.Commands.gives g.T.Terms.sources) c.args.desk.plan c.args.desk.log c.args.desk.base c.into_parts-site.result.1 (IsCutRun how) image) (sym c.ended_by-how.ensures)
-    (was_kept (Fits g.T.Terms.trust g.F.Commands.gives g.T.Terms.sources) c.args.desk c.work.new.desk c.into_parts-site.result.1 g.T.Terms.trust g.F.Commands.gives g.F.Commands.may_fail g.T.Terms.sources g.S.Site.tells g.S.Site.files g.S.Site.may_leave g.S.Site.moment g.S.Site.images_since (g.T.Terms.before image) (g.R.Runner.count c.args.runner.now) (g.R.Runner.count c.work.new.runner) c.work.result image
+    (was_kept (Fits g.T.Terms.trust g.F.Commands.gives g.T.Terms.sources) c.args.desk c.work.new.desk c.into_parts-site.result.1 g.T.Terms.trust g.F.Commands.gives g.F.Commands.may_fail g.T.Terms.sources g.S.Site.tells g.S.Site.files g.S.Site.may_leave g.S.Site.moment g.S.Site.images_since (g.T.Terms.before image) (sum_by g.R.Runner.count c.args.runners.now) (sum_by g.R.Runner.count c.work.new.runners) c.work.result image
     c.into_parts-site.ensures.records c.work.ensures.goes c.work.ensures.halts c.work.ensures.closed
     (c.works-works.ensures.kept told kept image (subst (λ (s : g.row.S.Denot). g.S.Site.images_since s g.T.Terms.born image) c.into_parts-site.ensures.site left)))
 
@@ -39,7 +41,7 @@ pub returns-clause-now : goal.returns-clause-now
 returns-clause-now g c told kept whole image now =
     is_kept (Fits g.T.Terms.trust g.F.Commands.gives g.T.Terms.sources) c.args.desk c.work.new.desk c.into_parts-site.result.1 g.T.Terms.trust g.F.Commands.gives g.F.Commands.may_fail g.T.Terms.sources g.S.Site.tells g.S.Site.files g.S.Site.may_leave g.S.Site.moment g.S.Site.images_since image c.into_parts-site.ensures.records c.work.ensures.goes
     (c.works-works.ensures.now told kept
-    (fine_run c.args.desk c.work.new.desk (g.R.Runner.count c.args.runner.now) (g.R.Runner.count c.work.new.runner) c.work.result c.work.ensures.halts c.work.ensures.closed (subst (λ (how : Result Check Stopped). IsCutRun how → ⊥) c.ended_by-how.ensures whole))
+    (fine_run c.args.desk c.work.new.desk (sum_by g.R.Runner.count c.args.runners.now) (sum_by g.R.Runner.count c.work.new.runners) c.work.result c.work.ensures.halts c.work.ensures.closed (subst (λ (how : Result Check Stopped). IsCutRun how → ⊥) c.ended_by-how.ensures whole))
     image (subst (λ (s : g.row.S.Denot). IsImage (g.S.Site.may_leave s) image) c.into_parts-site.ensures.site now))
 
 pub returns-clause-legal : goal.returns-clause-legal
@@ -49,14 +51,14 @@ pub returns-clause-idle : goal.returns-clause-idle
 returns-clause-idle g c whole =
     subst (λ (P : Plan). length (running_rules P c.into_parts-site.result.1) ≤ 0) c.work.ensures.goes.plan
     (subst (λ (G : List Record). length (running_rules c.work.new.desk.plan G) ≤ 0) (sym c.into_parts-site.ensures.records)
-    (c.work.ensures.idle (fine_run c.args.desk c.work.new.desk (g.R.Runner.count c.args.runner.now) (g.R.Runner.count c.work.new.runner) c.work.result c.work.ensures.halts c.work.ensures.closed (subst (λ (how : Result Check Stopped). IsCutRun how → ⊥) c.ended_by-how.ensures whole))))
+    (c.work.ensures.idle (fine_run c.args.desk c.work.new.desk (sum_by g.R.Runner.count c.args.runners.now) (sum_by g.R.Runner.count c.work.new.runners) c.work.result c.work.ensures.halts c.work.ensures.closed (subst (λ (how : Result Check Stopped). IsCutRun how → ⊥) c.ended_by-how.ensures whole))))
 
 pub returns-clause-causes : goal.returns-clause-causes
 returns-clause-causes g c =
-    subst (λ (how : Result Check Stopped). HasCauses c.args.desk.faults (g.S.Site.count c.into_parts-site.result.0) (g.R.Runner.count c.args.runner.now) (g.R.Runner.count c.work.new.runner) how) (sym c.ended_by-how.ensures)
-    (subst (λ (s : g.row.S.Denot). HasCauses c.args.desk.faults (g.S.Site.count s) (g.R.Runner.count c.args.runner.now) (g.R.Runner.count c.work.new.runner) (ended_by c.work.result)) (sym c.into_parts-site.ensures.site)
-    (subst (λ (n : ℕ). HasCauses n (g.S.Site.count c.work.new.desk.site) (g.R.Runner.count c.args.runner.now) (g.R.Runner.count c.work.new.runner) (ended_by c.work.result)) c.work.ensures.goes.faults
-    (causes_run c.work.new.desk.faults (g.S.Site.count c.work.new.desk.site) (g.R.Runner.count c.args.runner.now) (g.R.Runner.count c.work.new.runner) c.work.new.desk.trouble c.work.result c.work.ensures.halts c.works-works.ensures.counts)))
+    subst (λ (how : Result Check Stopped). HasCauses c.args.desk.faults (g.S.Site.count c.into_parts-site.result.0) (sum_by g.R.Runner.count c.args.runners.now) (sum_by g.R.Runner.count c.work.new.runners) how) (sym c.ended_by-how.ensures)
+    (subst (λ (s : g.row.S.Denot). HasCauses c.args.desk.faults (g.S.Site.count s) (sum_by g.R.Runner.count c.args.runners.now) (sum_by g.R.Runner.count c.work.new.runners) (ended_by c.work.result)) (sym c.into_parts-site.ensures.site)
+    (subst (λ (n : ℕ). HasCauses n (g.S.Site.count c.work.new.desk.site) (sum_by g.R.Runner.count c.args.runners.now) (sum_by g.R.Runner.count c.work.new.runners) (ended_by c.work.result)) c.work.ensures.goes.faults
+    (causes_run c.work.new.desk.faults (g.S.Site.count c.work.new.desk.site) (sum_by g.R.Runner.count c.args.runners.now) (sum_by g.R.Runner.count c.work.new.runners) c.work.new.desk.trouble c.work.result c.work.ensures.halts c.works-works.ensures.counts)))
 
 pub returns-clause-lost : goal.returns-clause-lost
 returns-clause-lost g c =
@@ -100,18 +102,19 @@ returns-clause-whole g c told kept = subst IsWholeRun (sym c.ended_by-how.ensure
 pub returns-clause-sure : goal.returns-clause-sure
 returns-clause-sure g c sure =
     subst IsSureEnd (sym c.ended_by-how.ensures)
-    (sure_ended c.work.result (g.R.Runner.sure c.args.runner.now) (g.R.Runner.failures c.args.runner.now) (g.R.Runner.failures c.work.new.runner) (c.work.ensures.failed c.requires.fresh c.requires.unset)
-    (c.work.ensures.sure sure).none c.work.ensures.never sure)
+    (surely_ended c.work.result (AllSure g.R.Runner.sure c.args.runners.now) (sum_by g.R.Runner.failures c.args.runners.now) (sum_by g.R.Runner.failures c.work.new.runners) (c.work.ensures.failed c.requires.fresh c.requires.unset)
+    c.work.ensures.none c.work.ensures.never sure)
 
 pub returns-clause-failed : goal.returns-clause-failed
 returns-clause-failed g c =
-    subst (HasFailed (g.R.Runner.failures c.args.runner.now) (g.R.Runner.failures c.work.new.runner)) (sym c.ended_by-how.ensures) (c.work.ensures.failed c.requires.fresh c.requires.unset)
+    subst (HasFailed (sum_by g.R.Runner.failures c.args.runners.now) (sum_by g.R.Runner.failures c.work.new.runners)) (sym c.ended_by-how.ensures) (c.work.ensures.failed c.requires.fresh c.requires.unset)
 
 pub returns-clause-failures : goal.returns-clause-failures
 returns-clause-failures g c closed =
-    subst (λ (G : List Record). LogsFailures (records_of c.args.desk.moves) G (g.R.Runner.failures c.args.runner.now) (g.R.Runner.failures c.work.new.runner)) (sym c.into_parts-site.ensures.records)
-    (c.work.ensures.failures (fine_run c.args.desk c.work.new.desk (g.R.Runner.count c.args.runner.now) (g.R.Runner.count c.work.new.runner) c.work.result c.work.ensures.halts c.work.ensures.closed
-    (subst (λ (how : Result Check Stopped). IsCutRun how → ⊥) c.ended_by-how.ensures (closed_whole c.ended_by-how.result closed))))
+    subst (λ (G : List Record). LogsFailures (records_of c.args.desk.moves) G (sum_by g.R.Runner.failures c.args.runners.now) (sum_by g.R.Runner.failures c.work.new.runners)) (sym c.into_parts-site.ensures.records)
+    (c.work.ensures.failures (fine_run c.args.desk c.work.new.desk (sum_by g.R.Runner.count c.args.runners.now) (sum_by g.R.Runner.count c.work.new.runners) c.work.result c.work.ensures.halts c.work.ensures.closed
+    (subst (λ (how : Result Check Stopped). IsCutRun how → ⊥) c.ended_by-how.ensures (closed_whole c.ended_by-how.result closed)))
+    (closed_unwanting c.work.result (subst IsClosedRun c.ended_by-how.ensures closed)))
 
 pub returns-clause-completes : goal.returns-clause-completes
 returns-clause-completes g c here told kept trusted fit sure few =
@@ -128,7 +131,7 @@ returns-clause-modes g c H began =
 pub returns-clause-gone : goal.returns-clause-gone
 returns-clause-gone g c told whole apart =
     are_gone g.T.Terms.trust g.F.Commands.gives g.F.Commands.may_fail g.T.Terms.sources g.S.Site.tells g.S.Site.files g.S.Site.may_leave g.S.Site.moment g.S.Site.images_since c.args.desk c.work.new.desk c.work.ensures.goes c.into_parts-site.result.1 c.into_parts-site.result.0 told
-    (fine_run c.args.desk c.work.new.desk (g.R.Runner.count c.args.runner.now) (g.R.Runner.count c.work.new.runner) c.work.result c.work.ensures.halts c.work.ensures.closed (subst (λ (how : Result Check Stopped). IsCutRun how → ⊥) c.ended_by-how.ensures whole))
+    (fine_run c.args.desk c.work.new.desk (sum_by g.R.Runner.count c.args.runners.now) (sum_by g.R.Runner.count c.work.new.runners) c.work.result c.work.ensures.halts c.work.ensures.closed (subst (λ (how : Result Check Stopped). IsCutRun how → ⊥) c.ended_by-how.ensures whole))
     apart (named c.args.desk.plan c.requires.valid) c.into_parts-site.ensures.records c.into_parts-site.ensures.site
 
 pub returns-clause-collects : goal.returns-clause-collects

@@ -1,5 +1,6 @@
-use Rattle.std.proofs.Common.{◌≡◌, ◌∙◌, inl, ap, sym, subst, refl, true, false, true≢false}
+use Rattle.std.proofs.Common.{◌≡◌, ◌∙◌, inl, ℕ, [], ap, sym, subst, refl, true, false, true≢false}
 use Rattle.flow_types.specs.Plans.{is_empty}
+use Rattle.flow_types.specs.declared.job.Job.{Job}
 use Rattle.run_history.specs.History.{part}
 use Rattle.local_run.specs.Runs.{read_sources}
 use Rattle.cleaning.specs.Cleanings.{AreEither, clean_fault, made_count}
@@ -8,11 +9,12 @@ use Rattle.command_words.specs.declared.options.Work.TheVariants as works
 use Rattle.report.specs.declared.cause.Cause.{Cause}
 use Rattle.report.specs.declared.cause.Cause.TheVariants as causes
 use Rattle.report.specs.Causes.{is_cut, kind_of}
-use Rattle.master_run.specs.declared.counts.Counts.{Counts}
+use Rattle.master_run.specs.Counts.{Counts}
 use Rattle.master_run.specs.Ends.{GoesOn, counts}
 use Rattle.master_run.specs.Headline.{is_run_end}
 use Rattle.master_run.specs.Runs.{clean_cause}
 use Rattle.master_run.specs.Serves.{Serves}
+use Rattle.master_run.proofs.Counted.{site_rise}
 use Rattle.master_run.proofs.Works.{cared_serves}
 use Rattle.cleaning.specs.Cleanings.{IsCutFor}
 use Rattle.master_run.proofs.Cared.{begins_so, clean_begins, clean_begun, clean_cleans, clean_cut, clean_damaged, clean_either, clean_faults, clean_goes, clean_late, clean_legal, clean_log, clean_of, clean_read, clean_still, clean_uncut, cut_clean, done_goes, ended_either, fails_nothing}
@@ -21,7 +23,7 @@ use Rattle.master_run.proofs.caring.clean_flow.Goals as goal
 pub returns-in-Ok-clause-serves : goal.returns-in-Ok-clause-serves
 returns-in-Ok-clause-serves g c =
     let cause : Cause = causes.Cleaned c.in-Ok.field-0.removed in
-    cared_serves g.S.Site.tells g.S.Site.files g.S.Site.may_leave g.S.Site.moment g.S.Site.images_since g.B.Born.born g.F.Commands.gives g.F.Commands.may_fail (g.R.Runner.tells c.args.runner.now) (g.R.Runner.sure c.args.runner.now) c.args.before (counts (g.S.Site.count c.clean.new.site) (g.R.Runner.count c.args.runner.now) 0) c.args.ask c.args.site c.clean.new.site c.in-Ok.field-0.records cause c.args.moment ⊥ (record {
+    cared_serves g.S.Site.tells g.S.Site.files g.S.Site.may_leave g.S.Site.moment g.S.Site.images_since g.B.Born.born g.F.Commands.gives g.F.Commands.may_fail (λ (job : Job). Unit {0}) (Unit {0}) (counts c.args.before [] 0) (counts (g.S.Site.count c.clean.new.site) [] 0) c.args.ask c.args.site c.clean.new.site c.in-Ok.field-0.records cause c.args.moment ⊥ (record {
       work = λ wrong. absurd (let both : works.Clean ≡ works.Run = sym c.requires.work ∙ wrong in cc);
       later = c.requires.later;
       cuts = λ cut. absurd cut;
@@ -50,32 +52,32 @@ pub returns-in-Err-clause-serves : goal.returns-in-Err-clause-serves
 returns-in-Err-clause-serves g c =
     let why = c.in-Err.field-0.why in
     let given = c.in-Err.field-0.records in
-    let same : c.clean_cause.result ≡ clean_cause c.args.before (counts (g.S.Site.count c.clean.new.site) (g.R.Runner.count c.args.runner.now) 0) why =
-    c.clean_cause.ensures ∙ ap (λ (k : Counts). clean_cause c.args.before k c.in-Err.field-0.why) c.counts_of-after.ensures in
-    subst (λ (cause : Cause). Serves g.S.Site.tells g.S.Site.files g.S.Site.may_leave g.S.Site.moment g.S.Site.images_since g.B.Born.born g.F.Commands.gives g.F.Commands.may_fail (g.R.Runner.tells c.args.runner.now) (g.R.Runner.sure c.args.runner.now) c.args.before (counts (g.S.Site.count c.clean.new.site) (g.R.Runner.count c.args.runner.now) 0) c.args.ask c.args.site c.clean.new.site given cause) (sym same)
-    (cared_serves g.S.Site.tells g.S.Site.files g.S.Site.may_leave g.S.Site.moment g.S.Site.images_since g.B.Born.born g.F.Commands.gives g.F.Commands.may_fail (g.R.Runner.tells c.args.runner.now) (g.R.Runner.sure c.args.runner.now) c.args.before (counts (g.S.Site.count c.clean.new.site) (g.R.Runner.count c.args.runner.now) 0) c.args.ask c.args.site c.clean.new.site given (clean_cause c.args.before (counts (g.S.Site.count c.clean.new.site) (g.R.Runner.count c.args.runner.now) 0) why) c.args.moment (IsCutFor why) (record {
+    let same : c.clean_cause.result ≡ clean_cause (site_rise (counts c.args.before [] 0) (counts (g.S.Site.count c.clean.new.site) [] 0)) why =
+    c.clean_cause.ensures ∙ ap (λ (n : ℕ). clean_cause (record { before = c.args.before; after = n }) c.in-Err.field-0.why) c.faults-after.ensures in
+    subst (λ (cause : Cause). Serves g.S.Site.tells g.S.Site.files g.S.Site.may_leave g.S.Site.moment g.S.Site.images_since g.B.Born.born g.F.Commands.gives g.F.Commands.may_fail (λ (job : Job). Unit {0}) (Unit {0}) (counts c.args.before [] 0) (counts (g.S.Site.count c.clean.new.site) [] 0) c.args.ask c.args.site c.clean.new.site given cause) (sym same)
+    (cared_serves g.S.Site.tells g.S.Site.files g.S.Site.may_leave g.S.Site.moment g.S.Site.images_since g.B.Born.born g.F.Commands.gives g.F.Commands.may_fail (λ (job : Job). Unit {0}) (Unit {0}) (counts c.args.before [] 0) (counts (g.S.Site.count c.clean.new.site) [] 0) c.args.ask c.args.site c.clean.new.site given (clean_cause (site_rise (counts c.args.before [] 0) (counts (g.S.Site.count c.clean.new.site) [] 0)) why) c.args.moment (IsCutFor why) (record {
       work = λ wrong. absurd (let both : works.Clean ≡ works.Run = sym c.requires.work ∙ wrong in cc);
       later = c.requires.later;
-      cuts = clean_cut c.args.before (counts (g.S.Site.count c.clean.new.site) (g.R.Runner.count c.args.runner.now) 0) why;
-      runs_not = clean_still c.args.before (counts (g.S.Site.count c.clean.new.site) (g.R.Runner.count c.args.runner.now) 0) why;
-      late = clean_late c.args.before (counts (g.S.Site.count c.clean.new.site) (g.R.Runner.count c.args.runner.now) 0) why;
-      faults = clean_faults c.args.before (counts (g.S.Site.count c.clean.new.site) (g.R.Runner.count c.args.runner.now) 0) (g.S.Site.count c.args.site) (g.S.Site.count c.clean.new.site) why c.requires.counted refl c.in-Err.ensures.cause;
-      damaged = λ t at told. clean_damaged c.args.before (counts (g.S.Site.count c.clean.new.site) (g.R.Runner.count c.args.runner.now) 0) (g.S.Site.files c.args.site c.args.ask.log) given why at (c.in-Err.ensures.log t) told;
-      read = λ t. clean_of c.args.before (counts (g.S.Site.count c.clean.new.site) (g.R.Runner.count c.args.runner.now) 0) (g.S.Site.files c.args.site c.args.ask.log) given why (c.in-Err.ensures.log t);
-      goes = λ t H spelled. subst (λ (w : Work). GoesOn w c.args.ask H (g.S.Site.files c.args.site) (g.S.Site.files c.clean.new.site) given (clean_cause c.args.before (counts (g.S.Site.count c.clean.new.site) (g.R.Runner.count c.args.runner.now) 0) why)) (sym c.requires.work)
-          (clean_goes c.args.before (counts (g.S.Site.count c.clean.new.site) (g.R.Runner.count c.args.runner.now) 0) c.args.ask H (g.S.Site.files c.args.site) (g.S.Site.files c.clean.new.site) given why (c.in-Err.ensures.ends t H spelled));
-      has_log = λ t H spelled. clean_log c.args.before (counts (g.S.Site.count c.clean.new.site) (g.R.Runner.count c.args.runner.now) 0) c.args.ask.plan H given c.args.moment why (c.in-Err.ensures.ends t H spelled) (c.in-Err.ensures.records t H spelled);
-      legal = λ read. clean_read c.args.before (counts (g.S.Site.count c.clean.new.site) (g.R.Runner.count c.args.runner.now) 0) c.args.ask.plan given why c.in-Err.ensures.legal read;
-      logged = λ t H spelled. clean_legal c.args.before (counts (g.S.Site.count c.clean.new.site) (g.R.Runner.count c.args.runner.now) 0) c.args.ask.plan H given c.args.moment why (c.in-Err.ensures.records t H spelled) c.in-Err.ensures.legal;
-      either = λ t H spelled whole. clean_either H given c.args.moment c.args.before (counts (g.S.Site.count c.clean.new.site) (g.R.Runner.count c.args.runner.now) 0) c.args.ask.plan why (c.in-Err.ensures.ends t H spelled) (c.in-Err.ensures.records t H spelled) whole;
+      cuts = clean_cut (site_rise (counts c.args.before [] 0) (counts (g.S.Site.count c.clean.new.site) [] 0)) why;
+      runs_not = clean_still (site_rise (counts c.args.before [] 0) (counts (g.S.Site.count c.clean.new.site) [] 0)) why;
+      late = clean_late (site_rise (counts c.args.before [] 0) (counts (g.S.Site.count c.clean.new.site) [] 0)) why;
+      faults = clean_faults (counts c.args.before [] 0) (counts (g.S.Site.count c.clean.new.site) [] 0) (g.S.Site.count c.args.site) (g.S.Site.count c.clean.new.site) why c.requires.counted refl c.in-Err.ensures.cause;
+      damaged = λ t at told. clean_damaged (site_rise (counts c.args.before [] 0) (counts (g.S.Site.count c.clean.new.site) [] 0)) (g.S.Site.files c.args.site c.args.ask.log) given why at (c.in-Err.ensures.log t) told;
+      read = λ t. clean_of (site_rise (counts c.args.before [] 0) (counts (g.S.Site.count c.clean.new.site) [] 0)) (g.S.Site.files c.args.site c.args.ask.log) given why (c.in-Err.ensures.log t);
+      goes = λ t H spelled. subst (λ (w : Work). GoesOn w c.args.ask H (g.S.Site.files c.args.site) (g.S.Site.files c.clean.new.site) given (clean_cause (site_rise (counts c.args.before [] 0) (counts (g.S.Site.count c.clean.new.site) [] 0)) why)) (sym c.requires.work)
+          (clean_goes (site_rise (counts c.args.before [] 0) (counts (g.S.Site.count c.clean.new.site) [] 0)) c.args.ask H (g.S.Site.files c.args.site) (g.S.Site.files c.clean.new.site) given why (c.in-Err.ensures.ends t H spelled));
+      has_log = λ t H spelled. clean_log (site_rise (counts c.args.before [] 0) (counts (g.S.Site.count c.clean.new.site) [] 0)) c.args.ask.plan H given c.args.moment why (c.in-Err.ensures.ends t H spelled) (c.in-Err.ensures.records t H spelled);
+      legal = λ read. clean_read (site_rise (counts c.args.before [] 0) (counts (g.S.Site.count c.clean.new.site) [] 0)) c.args.ask.plan given why c.in-Err.ensures.legal read;
+      logged = λ t H spelled. clean_legal (site_rise (counts c.args.before [] 0) (counts (g.S.Site.count c.clean.new.site) [] 0)) c.args.ask.plan H given c.args.moment why (c.in-Err.ensures.records t H spelled) c.in-Err.ensures.legal;
+      either = λ t H spelled whole. clean_either H given c.args.moment (site_rise (counts c.args.before [] 0) (counts (g.S.Site.count c.clean.new.site) [] 0)) c.args.ask.plan why (c.in-Err.ensures.ends t H spelled) (c.in-Err.ensures.records t H spelled) whole;
       begun = λ t H spelled begins. clean_begins H given c.args.moment why (c.in-Err.ensures.records t H spelled);
       moments = c.in-Err.ensures.moments;
       contents = λ t H spelled resumable. c.in-Err.ensures.contents t H spelled g.F.Commands.gives (read_sources c.args.ask.plan (g.S.Site.files c.args.site)) resumable;
       resumable = c.in-Err.ensures.resumable;
-      at_end = λ t H spelled resumable whole image left. c.in-Err.ensures.now t H spelled resumable (clean_uncut c.args.before (counts (g.S.Site.count c.clean.new.site) (g.R.Runner.count c.args.runner.now) 0) why whole) image left;
-      cleaned = λ t H spelled. clean_cleans c.args.before (counts (g.S.Site.count c.clean.new.site) (g.R.Runner.count c.args.runner.now) 0) c.args.ask.plan H (g.S.Site.files c.clean.new.site) why;
-      untouched = λ t refused m. c.in-Err.ensures.reads t (cut_clean c.args.before (counts (g.S.Site.count c.clean.new.site) (g.R.Runner.count c.args.runner.now) 0) why refused)
-          (clean_begun c.files_spell_one_list.ensures.one c.files_spell_one_list.ensures.header c.files_spell_one_list.ensures.whole c.args.ask.plan (g.S.Site.files c.args.site c.args.ask.log) given why c.args.before (counts (g.S.Site.count c.clean.new.site) (g.R.Runner.count c.args.runner.now) 0) refused (c.in-Err.ensures.log t) (λ H spelled. c.in-Err.ensures.ends t H spelled)) m;
+      at_end = λ t H spelled resumable whole image left. c.in-Err.ensures.now t H spelled resumable (clean_uncut (site_rise (counts c.args.before [] 0) (counts (g.S.Site.count c.clean.new.site) [] 0)) why whole) image left;
+      cleaned = λ t H spelled. clean_cleans (site_rise (counts c.args.before [] 0) (counts (g.S.Site.count c.clean.new.site) [] 0)) c.args.ask.plan H (g.S.Site.files c.clean.new.site) why;
+      untouched = λ t refused m. c.in-Err.ensures.reads t (cut_clean (site_rise (counts c.args.before [] 0) (counts (g.S.Site.count c.clean.new.site) [] 0)) why refused)
+          (clean_begun c.files_spell_one_list.ensures.one c.files_spell_one_list.ensures.header c.files_spell_one_list.ensures.whole c.args.ask.plan (g.S.Site.files c.args.site c.args.ask.log) given why (site_rise (counts c.args.before [] 0) (counts (g.S.Site.count c.clean.new.site) [] 0)) refused (c.in-Err.ensures.log t) (λ H spelled. c.in-Err.ensures.ends t H spelled)) m;
       others = λ t. (c.in-Err.ensures.others t).crash;
     }))
 
@@ -86,9 +88,9 @@ returns-in-Ok-clause-fails_none g c t H spelled whole =
 pub returns-in-Err-clause-fails_none : goal.returns-in-Err-clause-fails_none
 returns-in-Err-clause-fails_none g c t H spelled whole =
     fails_nothing H c.in-Err.field-0.records c.args.moment
-    (clean_either H c.in-Err.field-0.records c.args.moment c.args.before c.counts_of-after.result c.args.ask.plan c.in-Err.field-0.why (c.in-Err.ensures.ends t H spelled) (c.in-Err.ensures.records t H spelled)
+    (clean_either H c.in-Err.field-0.records c.args.moment (record { before = c.args.before; after = c.faults-after.result }) c.args.ask.plan c.in-Err.field-0.why (c.in-Err.ensures.ends t H spelled) (c.in-Err.ensures.records t H spelled)
     (λ cut. whole (subst (λ (cause : Cause). is_cut (kind_of cause) ≡ true) (sym c.clean_cause.ensures) cut)))
 
 pub returns-in-Err-clause-runs_not : goal.returns-in-Err-clause-runs_not
 returns-in-Err-clause-runs_not g c =
-    subst (λ (cause : Cause). is_run_end (kind_of cause) ≡ false) (sym c.clean_cause.ensures) (clean_still c.args.before c.counts_of-after.result c.in-Err.field-0.why).0
+    subst (λ (cause : Cause). is_run_end (kind_of cause) ≡ false) (sym c.clean_cause.ensures) (clean_still (record { before = c.args.before; after = c.faults-after.result }) c.in-Err.field-0.why).0

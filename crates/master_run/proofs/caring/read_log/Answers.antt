@@ -1,5 +1,6 @@
-use Rattle.std.proofs.Common.{◌≡◌, ◌≢◌, ◌≤◌, ◌∙◌, inl, List, [], ap, sym, subst, refl, arith, length, true, false, true≢false}
+use Rattle.std.proofs.Common.{◌≡◌, ◌≢◌, ◌≤◌, ◌∙◌, inl, ℕ, List, [], ap, sym, subst, refl, arith, length, true, false, true≢false}
 use Rattle.flow_types.specs.declared.records.Record.{Record}
+use Rattle.flow_types.specs.declared.job.Job.{Job}
 use Rattle.run_history.specs.History.{part}
 use Rattle.outside.proofs.Moments.{weakened}
 use Rattle.desk.specs.Histories.{history_fault}
@@ -11,7 +12,7 @@ use Rattle.command_words.specs.declared.options.Work.TheVariants as works
 use Rattle.report.specs.declared.cause.Cause.{Cause}
 use Rattle.report.specs.declared.cause.Cause.TheVariants as causes
 use Rattle.report.specs.Causes.{is_cut, kind_of}
-use Rattle.master_run.specs.declared.counts.Counts.{Counts}
+use Rattle.master_run.specs.Counts.{Counts}
 use Rattle.master_run.specs.Ends.{GoesOn, counts}
 use Rattle.local_run.specs.Ends.{failed_count}
 use Rattle.master_run.specs.Headline.{is_run_end}
@@ -20,6 +21,7 @@ use Rattle.master_run.specs.Serves.{Serves}
 use Rattle.local_run.specs.Course.{IsUnmade}
 use Rattle.local_run.proofs.Alone.{beside_less}
 use Rattle.master_run.proofs.Moved.{append_nothing}
+use Rattle.master_run.proofs.Counted.{site_rise}
 use Rattle.master_run.proofs.Works.{cared_serves}
 use Rattle.cleaning.specs.Looks.{IsCutFault}
 use Rattle.master_run.proofs.Cared.{cut_look, done_goes, fails_nothing, look_begins, look_begun, look_cleans, look_cut, look_damaged, look_either, look_faults, look_goes, look_late, look_legal, look_log, look_read, look_seen, look_still, look_unread, part_within}
@@ -34,7 +36,7 @@ overflow_cast-result g c =
 pub returns-in-Ok-clause-serves : goal.returns-in-Ok-clause-serves
 returns-in-Ok-clause-serves g c =
     let cause : Cause = causes.Printed (length c.part_of.result.now) in
-    cared_serves g.S.Site.tells g.S.Site.files g.S.Site.may_leave g.S.Site.moment g.S.Site.images_since g.B.Born.born g.F.Commands.gives g.F.Commands.may_fail (g.R.Runner.tells c.args.runner.now) (g.R.Runner.sure c.args.runner.now) c.args.before (counts (g.S.Site.count c.look.new.site) (g.R.Runner.count c.args.runner.now) 0) c.args.ask c.args.site c.look.new.site c.in-Ok.records cause 0 ⊥ (record {
+    cared_serves g.S.Site.tells g.S.Site.files g.S.Site.may_leave g.S.Site.moment g.S.Site.images_since g.B.Born.born g.F.Commands.gives g.F.Commands.may_fail (λ (job : Job). Unit {0}) (Unit {0}) (counts c.args.before [] 0) (counts (g.S.Site.count c.look.new.site) [] 0) c.args.ask c.args.site c.look.new.site c.in-Ok.records cause 0 ⊥ (record {
       work = λ wrong. absurd (let both : works.PrintLog ≡ works.Run = sym c.requires.work ∙ wrong in cc);
       later = c.requires.later;
       cuts = λ cut. absurd cut;
@@ -66,34 +68,34 @@ pub returns-in-Err-clause-serves : goal.returns-in-Err-clause-serves
 returns-in-Err-clause-serves g c =
     let why = c.in-Err.field-0.why in
     let given = c.in-Err.field-0.records in
-    let same : c.look_cause.result ≡ look_cause c.args.before (counts (g.S.Site.count c.look.new.site) (g.R.Runner.count c.args.runner.now) 0) why =
-    c.look_cause.ensures ∙ ap (λ (k : Counts). look_cause c.args.before k c.in-Err.field-0.why) c.counts_of-after.ensures in
-    subst (λ (cause : Cause). Serves g.S.Site.tells g.S.Site.files g.S.Site.may_leave g.S.Site.moment g.S.Site.images_since g.B.Born.born g.F.Commands.gives g.F.Commands.may_fail (g.R.Runner.tells c.args.runner.now) (g.R.Runner.sure c.args.runner.now) c.args.before (counts (g.S.Site.count c.look.new.site) (g.R.Runner.count c.args.runner.now) 0) c.args.ask c.args.site c.look.new.site given cause) (sym same)
-    (cared_serves g.S.Site.tells g.S.Site.files g.S.Site.may_leave g.S.Site.moment g.S.Site.images_since g.B.Born.born g.F.Commands.gives g.F.Commands.may_fail (g.R.Runner.tells c.args.runner.now) (g.R.Runner.sure c.args.runner.now) c.args.before (counts (g.S.Site.count c.look.new.site) (g.R.Runner.count c.args.runner.now) 0) c.args.ask c.args.site c.look.new.site given (look_cause c.args.before (counts (g.S.Site.count c.look.new.site) (g.R.Runner.count c.args.runner.now) 0) why) 0 (IsCutFault why) (record {
+    let same : c.look_cause.result ≡ look_cause (site_rise (counts c.args.before [] 0) (counts (g.S.Site.count c.look.new.site) [] 0)) why =
+    c.look_cause.ensures ∙ ap (λ (n : ℕ). look_cause (record { before = c.args.before; after = n }) c.in-Err.field-0.why) c.faults-after.ensures in
+    subst (λ (cause : Cause). Serves g.S.Site.tells g.S.Site.files g.S.Site.may_leave g.S.Site.moment g.S.Site.images_since g.B.Born.born g.F.Commands.gives g.F.Commands.may_fail (λ (job : Job). Unit {0}) (Unit {0}) (counts c.args.before [] 0) (counts (g.S.Site.count c.look.new.site) [] 0) c.args.ask c.args.site c.look.new.site given cause) (sym same)
+    (cared_serves g.S.Site.tells g.S.Site.files g.S.Site.may_leave g.S.Site.moment g.S.Site.images_since g.B.Born.born g.F.Commands.gives g.F.Commands.may_fail (λ (job : Job). Unit {0}) (Unit {0}) (counts c.args.before [] 0) (counts (g.S.Site.count c.look.new.site) [] 0) c.args.ask c.args.site c.look.new.site given (look_cause (site_rise (counts c.args.before [] 0) (counts (g.S.Site.count c.look.new.site) [] 0)) why) 0 (IsCutFault why) (record {
       work = λ wrong. absurd (let both : works.PrintLog ≡ works.Run = sym c.requires.work ∙ wrong in cc);
       later = c.requires.later;
-      cuts = look_cut c.args.before (counts (g.S.Site.count c.look.new.site) (g.R.Runner.count c.args.runner.now) 0) why;
-      runs_not = look_still c.args.before (counts (g.S.Site.count c.look.new.site) (g.R.Runner.count c.args.runner.now) 0) why;
-      late = look_late c.args.before (counts (g.S.Site.count c.look.new.site) (g.R.Runner.count c.args.runner.now) 0) why;
-      faults = look_faults c.args.before (counts (g.S.Site.count c.look.new.site) (g.R.Runner.count c.args.runner.now) 0) (g.S.Site.count c.args.site) (g.S.Site.count c.look.new.site) why c.requires.counted refl c.in-Err.ensures.cause;
-      damaged = λ t at told. look_damaged c.args.before (counts (g.S.Site.count c.look.new.site) (g.R.Runner.count c.args.runner.now) 0) (g.S.Site.files c.args.site c.args.ask.log) given why at (c.in-Err.ensures.log t) told;
-      read = λ t. look_read c.args.before (counts (g.S.Site.count c.look.new.site) (g.R.Runner.count c.args.runner.now) 0) (g.S.Site.files c.args.site c.args.ask.log) given why (c.in-Err.ensures.log t);
-      goes = λ t H spelled. subst (λ (w : Work). GoesOn w c.args.ask H (g.S.Site.files c.args.site) (g.S.Site.files c.look.new.site) given (look_cause c.args.before (counts (g.S.Site.count c.look.new.site) (g.R.Runner.count c.args.runner.now) 0) why)) (sym c.requires.work)
-          (look_goes c.args.before (counts (g.S.Site.count c.look.new.site) (g.R.Runner.count c.args.runner.now) 0) c.args.ask H (g.S.Site.files c.args.site) (g.S.Site.files c.look.new.site) given why (c.in-Err.ensures.ends t H spelled).0);
-      has_log = λ t H spelled. look_log c.args.before (counts (g.S.Site.count c.look.new.site) (g.R.Runner.count c.args.runner.now) 0) c.args.ask.plan H given why (c.in-Err.ensures.ends t H spelled).0 (c.in-Err.ensures.ends t H spelled).1;
-      legal = λ read. absurd (true≢false (sym read ∙ look_unread c.args.before (counts (g.S.Site.count c.look.new.site) (g.R.Runner.count c.args.runner.now) 0) why));
-      logged = λ t H spelled. look_legal c.args.before (counts (g.S.Site.count c.look.new.site) (g.R.Runner.count c.args.runner.now) 0) c.args.ask.plan H given why (c.in-Err.ensures.ends t H spelled).1;
-      either = λ t H spelled whole. look_either H given 0 c.args.before (counts (g.S.Site.count c.look.new.site) (g.R.Runner.count c.args.runner.now) 0) c.args.ask.plan why (c.in-Err.ensures.ends t H spelled).0 (c.in-Err.ensures.ends t H spelled).1 whole;
+      cuts = look_cut (site_rise (counts c.args.before [] 0) (counts (g.S.Site.count c.look.new.site) [] 0)) why;
+      runs_not = look_still (site_rise (counts c.args.before [] 0) (counts (g.S.Site.count c.look.new.site) [] 0)) why;
+      late = look_late (site_rise (counts c.args.before [] 0) (counts (g.S.Site.count c.look.new.site) [] 0)) why;
+      faults = look_faults (counts c.args.before [] 0) (counts (g.S.Site.count c.look.new.site) [] 0) (g.S.Site.count c.args.site) (g.S.Site.count c.look.new.site) why c.requires.counted refl c.in-Err.ensures.cause;
+      damaged = λ t at told. look_damaged (site_rise (counts c.args.before [] 0) (counts (g.S.Site.count c.look.new.site) [] 0)) (g.S.Site.files c.args.site c.args.ask.log) given why at (c.in-Err.ensures.log t) told;
+      read = λ t. look_read (site_rise (counts c.args.before [] 0) (counts (g.S.Site.count c.look.new.site) [] 0)) (g.S.Site.files c.args.site c.args.ask.log) given why (c.in-Err.ensures.log t);
+      goes = λ t H spelled. subst (λ (w : Work). GoesOn w c.args.ask H (g.S.Site.files c.args.site) (g.S.Site.files c.look.new.site) given (look_cause (site_rise (counts c.args.before [] 0) (counts (g.S.Site.count c.look.new.site) [] 0)) why)) (sym c.requires.work)
+          (look_goes (site_rise (counts c.args.before [] 0) (counts (g.S.Site.count c.look.new.site) [] 0)) c.args.ask H (g.S.Site.files c.args.site) (g.S.Site.files c.look.new.site) given why (c.in-Err.ensures.ends t H spelled).0);
+      has_log = λ t H spelled. look_log (site_rise (counts c.args.before [] 0) (counts (g.S.Site.count c.look.new.site) [] 0)) c.args.ask.plan H given why (c.in-Err.ensures.ends t H spelled).0 (c.in-Err.ensures.ends t H spelled).1;
+      legal = λ read. absurd (true≢false (sym read ∙ look_unread (site_rise (counts c.args.before [] 0) (counts (g.S.Site.count c.look.new.site) [] 0)) why));
+      logged = λ t H spelled. look_legal (site_rise (counts c.args.before [] 0) (counts (g.S.Site.count c.look.new.site) [] 0)) c.args.ask.plan H given why (c.in-Err.ensures.ends t H spelled).1;
+      either = λ t H spelled whole. look_either H given 0 (site_rise (counts c.args.before [] 0) (counts (g.S.Site.count c.look.new.site) [] 0)) c.args.ask.plan why (c.in-Err.ensures.ends t H spelled).0 (c.in-Err.ensures.ends t H spelled).1 whole;
       begun = λ t H spelled begins. look_begins H given 0 why (c.in-Err.ensures.ends t H spelled).1;
       moments = λ t H spelled resumable. weakened g.S.Site.moment g.S.Site.images_since c.args.site c.look.new.site (IsBefore c.args.ask.log (g.S.Site.files c.args.site c.args.ask.log) (g.S.Site.may_leave c.args.site)) (IsMoment Held c.args.ask.plan c.args.ask.log (g.S.Site.files c.args.site) (g.S.Site.may_leave c.args.site) H given (IsCutFault why)) (c.in-Err.ensures.moments t) (λ image before. inl before);
       contents = λ t H spelled resumable. weakened g.S.Site.moment g.S.Site.images_since c.args.site c.look.new.site (IsBefore c.args.ask.log (g.S.Site.files c.args.site c.args.ask.log) (g.S.Site.may_leave c.args.site)) (IsMoment (SerialFits g.F.Commands.gives (read_sources c.args.ask.plan (g.S.Site.files c.args.site))) c.args.ask.plan c.args.ask.log (g.S.Site.files c.args.site) (g.S.Site.may_leave c.args.site) H given (IsCutFault why)) (c.in-Err.ensures.moments t) (λ image before. inl before);
       resumable = c.in-Err.ensures.resumable;
       at_end = λ t H spelled resumable whole image left.
-          let seen = look_seen c.args.before (counts (g.S.Site.count c.look.new.site) (g.R.Runner.count c.args.runner.now) 0) c.args.ask.plan H given why (c.in-Err.ensures.ends t H spelled).0 (c.in-Err.ensures.ends t H spelled).1 whole in
+          let seen = look_seen (site_rise (counts c.args.before [] 0) (counts (g.S.Site.count c.look.new.site) [] 0)) c.args.ask.plan H given why (c.in-Err.ensures.ends t H spelled).0 (c.in-Err.ensures.ends t H spelled).1 whole in
           subst (λ (xs : List Record). Keeps Held c.args.ask.plan c.args.ask.log xs image) (sym seen.1) (c.in-Err.ensures.kept t H spelled resumable seen.0 image left);
-      cleaned = λ t H spelled. look_cleans c.args.before (counts (g.S.Site.count c.look.new.site) (g.R.Runner.count c.args.runner.now) 0) c.args.ask.plan H (g.S.Site.files c.look.new.site) why;
-      untouched = λ t refused m. c.in-Err.ensures.reads t (cut_look c.args.before (counts (g.S.Site.count c.look.new.site) (g.R.Runner.count c.args.runner.now) 0) why refused)
-          (look_begun c.files_spell_one_list.ensures.one c.files_spell_one_list.ensures.header c.files_spell_one_list.ensures.whole c.args.ask.plan (g.S.Site.files c.args.site c.args.ask.log) given why (cut_look c.args.before (counts (g.S.Site.count c.look.new.site) (g.R.Runner.count c.args.runner.now) 0) why refused) (c.in-Err.ensures.log t) (λ H spelled. (c.in-Err.ensures.ends t H spelled).0)) m;
+      cleaned = λ t H spelled. look_cleans (site_rise (counts c.args.before [] 0) (counts (g.S.Site.count c.look.new.site) [] 0)) c.args.ask.plan H (g.S.Site.files c.look.new.site) why;
+      untouched = λ t refused m. c.in-Err.ensures.reads t (cut_look (site_rise (counts c.args.before [] 0) (counts (g.S.Site.count c.look.new.site) [] 0)) why refused)
+          (look_begun c.files_spell_one_list.ensures.one c.files_spell_one_list.ensures.header c.files_spell_one_list.ensures.whole c.args.ask.plan (g.S.Site.files c.args.site c.args.ask.log) given why (cut_look (site_rise (counts c.args.before [] 0) (counts (g.S.Site.count c.look.new.site) [] 0)) why refused) (c.in-Err.ensures.log t) (λ H spelled. (c.in-Err.ensures.ends t H spelled).0)) m;
       others = λ t. beside_less g.S.Site.files g.S.Site.may_leave g.S.Site.moment g.S.Site.images_since (λ m. m ≢ c.args.ask.log) (IsUnmade c.args.ask.plan c.args.ask.log) c.args.site c.look.new.site (λ m other. other.0) (c.in-Err.ensures.others t).crash;
     }))
 
@@ -103,9 +105,9 @@ returns-in-Ok-clause-fails_none g c t H spelled whole = ap failed_count (c.in-Ok
 pub returns-in-Err-clause-fails_none : goal.returns-in-Err-clause-fails_none
 returns-in-Err-clause-fails_none g c t H spelled whole =
     fails_nothing H c.in-Err.field-0.records 0
-    (look_either H c.in-Err.field-0.records 0 c.args.before c.counts_of-after.result c.args.ask.plan c.in-Err.field-0.why (c.in-Err.ensures.ends t H spelled).0 (c.in-Err.ensures.ends t H spelled).1
+    (look_either H c.in-Err.field-0.records 0 (record { before = c.args.before; after = c.faults-after.result }) c.args.ask.plan c.in-Err.field-0.why (c.in-Err.ensures.ends t H spelled).0 (c.in-Err.ensures.ends t H spelled).1
     (λ cut. whole (subst (λ (cause : Cause). is_cut (kind_of cause) ≡ true) (sym c.look_cause.ensures) cut)))
 
 pub returns-in-Err-clause-runs_not : goal.returns-in-Err-clause-runs_not
 returns-in-Err-clause-runs_not g c =
-    subst (λ (cause : Cause). is_run_end (kind_of cause) ≡ false) (sym c.look_cause.ensures) (look_still c.args.before c.counts_of-after.result c.in-Err.field-0.why).0
+    subst (λ (cause : Cause). is_run_end (kind_of cause) ≡ false) (sym c.look_cause.ensures) (look_still (record { before = c.args.before; after = c.faults-after.result }) c.in-Err.field-0.why).0

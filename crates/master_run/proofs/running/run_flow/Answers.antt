@@ -1,121 +1,39 @@
-use Rattle.std.proofs.Common.{◌≡◌, ◌∙◌, inl, List, ap, sym, subst, refl, arith, true, true≢false}
-use Rattle.flow_types.specs.declared.plan.Plan.{Plan}
-use Rattle.flow_types.specs.declared.records.Record.{Record}
-use Rattle.outside.proofs.Moments.{weakened}
-use Rattle.report.specs.declared.cause.Cause.{Cause}
-use Rattle.report.specs.declared.cause.Cause.TheVariants as causes
-use Rattle.report.specs.Causes.{is_cut, kind_of}
-use Rattle.master_run.specs.declared.counts.Counts.{Counts}
+use Rattle.std.proofs.Common.{◌≡◌, ◌+◌, ◌++◌, ◌∙◌, ℕ, List, map, sum_by, sym, ap, subst}
+use Rattle.std.proofs.lemmas.List.{map-append}
+use Rattle.std.proofs.lemmas.List.Sums.{sum_by-append}
+use Rattle.worker_pool.specs.Crews.{AllSure, AllTell}
+use Rattle.worker_pool.proofs.Crews.{crew_left}
 use Rattle.master_run.specs.Ends.{counts}
-use Rattle.master_run.specs.Headline.{FailureEnd, is_run_end}
 use Rattle.master_run.specs.Serves.{Serves}
-use Rattle.local_run.specs.Moments.{IsBefore}
-use Rattle.log_recover.specs.Recovery.{IsRecovering}
-use Rattle.master_run.specs.Runs.{run_cause, unread_cause}
-use Rattle.master_run.proofs.Ran.{closed_run, closed_starts, logged_run, ran_serves, run_faults, some_end}
-use Rattle.master_run.proofs.Refusals.{by_fault}
-use Rattle.master_run.proofs.Unread.{recovering_before, unread_cuts, unread_ends, unread_failed, unread_serves}
+use Rattle.master_run.proofs.Widened.{logged_of_all, none_first, wider_fault, widened}
 use Rattle.master_run.proofs.running.run_flow.Goals as goal
 
-pub returns-in_default-clause-serves : goal.returns-in_default-clause-serves
-returns-in_default-clause-serves g c =
-    subst (λ (xs : List Record). Serves g.S.Site.tells g.S.Site.files g.S.Site.may_leave g.S.Site.moment g.S.Site.images_since g.B.Born.born g.F.Commands.gives g.F.Commands.may_fail (g.R.Runner.tells c.args.runner.now) (g.R.Runner.sure c.args.runner.now) c.args.before (counts (g.S.Site.count c.args.site) (g.R.Runner.count c.args.runner.now) 0) c.args.ask c.args.site c.args.site xs causes.Memory) (sym c.new.ensures)
-    (by_fault g.S.Site.tells g.S.Site.files g.S.Site.may_leave g.S.Site.moment g.S.Site.images_since g.B.Born.born g.F.Commands.gives g.F.Commands.may_fail (g.R.Runner.tells c.args.runner.now) (g.R.Runner.sure c.args.runner.now) c.args.before (counts (g.S.Site.count c.args.site) (g.R.Runner.count c.args.runner.now) 0) c.args.ask c.args.site c.args.site c.requires.later
-    (λ t. record { same = refl; within = λ m file left. left; only = record { later = omega arith; each = λ image left. ((g.met.S.Site g.world.𝓛 g.world.𝓜 g.world.𝓡 ((λ s x. x), (λ x. x), (λ x. x), λ x. x)).only_now t c.args.site image left); before = λ time image le left. inl left } })
-    causes.Memory refl refl refl tt (λ none. refl))
+pub returns-clause-serves : goal.returns-clause-serves
+returns-clause-serves g c =
+    let count = g.R.Runner.count in
+    let front = c.split_at_mut-working.result.0.now in
+    let back = c.split_at_mut-working.result.1.now in
+    let new = c.run_by_all.new.runners in
+    let site = g.S.Site.count c.run_by_all.result.site in
+    let whole : map count c.args.runners.now ≡ map count front ++ map count back = ap (map count) c.split_at_mut-working.ensures.value ∙ map-append count front back in
+    let now : map count (new ++ back) ≡ map count new ++ map count back = map-append count new back in
+    subst (λ (xs : List ℕ). Serves g.S.Site.tells g.S.Site.files g.S.Site.may_leave g.S.Site.moment g.S.Site.images_since g.B.Born.born g.F.Commands.gives g.F.Commands.may_fail (AllTell g.R.Runner.tells c.args.runners.now) (AllSure g.R.Runner.sure c.args.runners.now) (counts c.args.before xs 0) (counts site (map count (new ++ back)) 0) c.args.ask c.args.site c.run_by_all.result.site c.run_by_all.result.records c.run_by_all.result.cause) (sym whole)
+    (subst (λ (xs : List ℕ). Serves g.S.Site.tells g.S.Site.files g.S.Site.may_leave g.S.Site.moment g.S.Site.images_since g.B.Born.born g.F.Commands.gives g.F.Commands.may_fail (AllTell g.R.Runner.tells c.args.runners.now) (AllSure g.R.Runner.sure c.args.runners.now) (counts c.args.before (map count front ++ map count back) 0) (counts site xs 0) c.args.ask c.args.site c.run_by_all.result.site c.run_by_all.result.records c.run_by_all.result.cause) (sym now)
+    (widened g.S.Site.tells g.S.Site.files g.S.Site.may_leave g.S.Site.moment g.S.Site.images_since g.B.Born.born g.F.Commands.gives g.F.Commands.may_fail
+    (AllTell g.R.Runner.tells front) (AllTell g.R.Runner.tells c.args.runners.now) (AllSure g.R.Runner.sure front) (AllSure g.R.Runner.sure c.args.runners.now)
+    (counts c.args.before (map count front) 0) (counts site (map count new) 0) (counts c.args.before (map count front ++ map count back) 0) (counts site (map count new ++ map count back) 0)
+    c.args.ask c.args.site c.run_by_all.result.site c.run_by_all.result.records c.run_by_all.result.cause
+    (λ job all. crew_left (λ r. g.R.Runner.tells r job) c.args.runners.now front back c.split_at_mut-working.ensures.value all)
+    (λ all. crew_left g.R.Runner.sure c.args.runners.now front back c.split_at_mut-working.ensures.value all)
+    (wider_fault c.args.before site 0 0 (map count front) (map count new) (map count back) (map count back) c.run_by_all.result.cause)
+    (none_first c.args.before site (map count front) (map count new) (map count back))
+    c.run_by_all.ensures.serves))
 
-pub returns-in-Ok-resume-clause-serves : goal.returns-in-Ok-resume-clause-serves
-returns-in-Ok-resume-clause-serves g c =
-    let same : c.run_cause.result ≡ run_cause c.args.before (counts (g.S.Site.count c.in-Ok-resume.ended.site) (g.R.Runner.count c.resume.new.runner) 0) c.args.ask.plan c.in-Ok-resume.ended.how =
-    c.run_cause.ensures ∙ ap (λ (k : Counts). run_cause c.args.before k c.in-Ok.copied c.in-Ok-resume.ended.how) c.counts_of-after.ensures ∙ ap (λ (Q : Plan). run_cause c.args.before (counts (g.S.Site.count c.in-Ok-resume.ended.site) (g.R.Runner.count c.resume.new.runner) 0) Q c.in-Ok-resume.ended.how) c.in-Ok.ensures in
-    subst (λ (cause : Cause). Serves g.S.Site.tells g.S.Site.files g.S.Site.may_leave g.S.Site.moment g.S.Site.images_since g.B.Born.born g.F.Commands.gives g.F.Commands.may_fail (g.R.Runner.tells c.args.runner.now) (g.R.Runner.sure c.args.runner.now) c.args.before (counts (g.S.Site.count c.in-Ok-resume.ended.site) (g.R.Runner.count c.resume.new.runner) 0) c.args.ask c.args.site c.in-Ok-resume.ended.site c.in-Ok-resume.ended.records cause) (sym same)
-    (ran_serves g.S.Site.tells g.S.Site.files g.S.Site.may_leave g.S.Site.moment g.S.Site.images_since g.S.Site.count g.B.Born.born g.F.Commands.gives g.F.Commands.may_fail (g.R.Runner.tells c.args.runner.now) (g.R.Runner.sure c.args.runner.now)
-    c.args.before (counts (g.S.Site.count c.in-Ok-resume.ended.site) (g.R.Runner.count c.resume.new.runner) 0) c.args.ask c.args.site c.in-Ok-resume.ended.site c.in-Ok-resume.ended.records c.in-Ok-resume.ended.how (record {
-      work = c.requires.work;
-      le = c.requires.counted;
-      now_site = refl;
-      faults = run_faults c.args.before (counts (g.S.Site.count c.in-Ok-resume.ended.site) (g.R.Runner.count c.resume.new.runner) 0) c.args.ask.plan (g.S.Site.count c.args.site) (g.S.Site.count c.in-Ok-resume.ended.site) (g.R.Runner.count c.args.runner.now) (g.R.Runner.count c.resume.new.runner) c.in-Ok-resume.ended.how c.requires.counted refl c.requires.runner refl c.in-Ok-resume.ensures.causes;
-      log = c.in-Ok-resume.ensures.log;
-      grows = c.in-Ok-resume.ensures.grows;
-      same = c.in-Ok-resume.ensures.same;
-      quiet = c.in-Ok-resume.ensures.quiet;
-      starts = c.in-Ok-resume.ensures.starts;
-      closed = c.in-Ok-resume.ensures.closed c.requires.fits;
-      ends = c.in-Ok-resume.ensures.ends;
-      damage = c.in-Ok-resume.ensures.damage;
-      legal = c.in-Ok-resume.ensures.legal;
-      spent = c.in-Ok-resume.ensures.spent;
-      lost = c.in-Ok-resume.ensures.lost;
-      is_sure = c.in-Ok-resume.ensures.sure;
-      others = c.in-Ok-resume.ensures.others;
-      moments = c.in-Ok-resume.ensures.moments;
-      resumable = c.in-Ok-resume.ensures.resumable;
-      contents = c.in-Ok-resume.ensures.contents;
-      honest = c.in-Ok-resume.ensures.honest;
-      at_end = c.in-Ok-resume.ensures.now;
-      modes = c.in-Ok-resume.ensures.modes;
-      gone = c.in-Ok-resume.ensures.gone;
-      completes = λ t H spelled resumable jobs fit room none is le. c.in-Ok-resume.ensures.completes t H spelled resumable jobs c.requires.fits fit room none is le;
-    }))
-
-pub returns-in-Err-clause-serves : goal.returns-in-Err-clause-serves
-returns-in-Err-clause-serves g c =
-    let same : c.unread_cause.result ≡ unread_cause c.args.before (counts (g.S.Site.count c.in-Err.refused.site) (g.R.Runner.count c.resume.new.runner) 0) c.in-Err.refused.why =
-    c.unread_cause.ensures ∙ ap (λ (k : Counts). unread_cause c.args.before k c.in-Err.refused.why) c.counts_of-after-in-Err.ensures in
-    subst (λ (cause : Cause). Serves g.S.Site.tells g.S.Site.files g.S.Site.may_leave g.S.Site.moment g.S.Site.images_since g.B.Born.born g.F.Commands.gives g.F.Commands.may_fail (g.R.Runner.tells c.args.runner.now) (g.R.Runner.sure c.args.runner.now) c.args.before (counts (g.S.Site.count c.in-Err.refused.site) (g.R.Runner.count c.resume.new.runner) 0) c.args.ask c.args.site c.in-Err.refused.site c.new-in-Err.result cause) (sym same)
-    (subst (λ (xs : List Record). Serves g.S.Site.tells g.S.Site.files g.S.Site.may_leave g.S.Site.moment g.S.Site.images_since g.B.Born.born g.F.Commands.gives g.F.Commands.may_fail (g.R.Runner.tells c.args.runner.now) (g.R.Runner.sure c.args.runner.now) c.args.before (counts (g.S.Site.count c.in-Err.refused.site) (g.R.Runner.count c.resume.new.runner) 0) c.args.ask c.args.site c.in-Err.refused.site xs (unread_cause c.args.before (counts (g.S.Site.count c.in-Err.refused.site) (g.R.Runner.count c.resume.new.runner) 0) c.in-Err.refused.why)) (sym c.new-in-Err.ensures)
-    (unread_serves g.S.Site.tells g.S.Site.files g.S.Site.may_leave g.S.Site.moment g.S.Site.images_since g.B.Born.born g.F.Commands.gives g.F.Commands.may_fail (g.R.Runner.tells c.args.runner.now) (g.R.Runner.sure c.args.runner.now) c.args.before (counts (g.S.Site.count c.in-Err.refused.site) (g.R.Runner.count c.resume.new.runner) 0) c.args.ask c.args.site c.in-Err.refused.site c.requires.later
-    (λ t. weakened g.S.Site.moment g.S.Site.images_since c.args.site c.in-Err.refused.site (IsRecovering c.args.ask.log (g.S.Site.files c.args.site c.args.ask.log) (g.S.Site.may_leave c.args.site)) (IsBefore c.args.ask.log (g.S.Site.files c.args.site c.args.ask.log) (g.S.Site.may_leave c.args.site)) (c.in-Err.ensures.unread t)
-    (λ image is. recovering_before c.args.ask.log (g.S.Site.files c.args.site c.args.ask.log) (g.S.Site.may_leave c.args.site) image is))
-    c.in-Err.ensures.crash c.files_spell_one_list.ensures.header c.files_spell_one_list.ensures.whole c.in-Err.refused.why (λ is. omega (arith, c.requires.counted, c.in-Err.ensures.site is)) c.in-Err.ensures.damaged c.in-Err.ensures.unchanged))
-
-pub returns-in-Err-clause-failures : goal.returns-in-Err-clause-failures
-returns-in-Err-clause-failures g c =
-    subst (λ (cause : Cause). FailureEnd (g.R.Runner.failures c.args.runner.now) (g.R.Runner.failures c.resume.new.runner) (kind_of cause)) (sym c.unread_cause.ensures)
-    (unread_failed c.args.before c.counts_of-after-in-Err.result (g.R.Runner.failures c.args.runner.now) (g.R.Runner.failures c.resume.new.runner) c.in-Err.refused.why (let same : g.R.Runner.failures c.resume.new.runner ≡ g.R.Runner.failures c.args.runner.now = ap g.R.Runner.failures c.in-Err.ensures.unrun in omega (arith, same)))
-
-pub run_cause-requires-clause-ends : goal.run_cause-requires-clause-ends
-run_cause-requires-clause-ends g c =
-    some_end c.args.ask.options.limit c.in-Ok-resume.ended.how (c.in-Ok-resume.ensures.closed c.requires.fits)
-
-pub returns-in_default-clause-failed : goal.returns-in_default-clause-failed
-returns-in_default-clause-failed g c t H spelled whole = absurd (whole refl)
-
-pub returns-in_default-clause-opened : goal.returns-in_default-clause-opened
-returns-in_default-clause-opened g c wrong = absurd (true≢false (sym wrong))
-
-pub returns-in_default-clause-collects : goal.returns-in_default-clause-collects
-returns-in_default-clause-collects g c wrong = absurd (true≢false (sym wrong))
-
-pub returns-in-Ok-resume-clause-failed : goal.returns-in-Ok-resume-clause-failed
-returns-in-Ok-resume-clause-failed g c t H spelled whole =
-    let same : c.run_cause.result ≡ run_cause c.args.before (counts (g.S.Site.count c.in-Ok-resume.ended.site) (g.R.Runner.count c.resume.new.runner) 0) c.args.ask.plan c.in-Ok-resume.ended.how =
-    c.run_cause.ensures ∙ ap (λ (k : Counts). run_cause c.args.before k c.in-Ok.copied c.in-Ok-resume.ended.how) c.counts_of-after.ensures ∙ ap (λ (Q : Plan). run_cause c.args.before (counts (g.S.Site.count c.in-Ok-resume.ended.site) (g.R.Runner.count c.resume.new.runner) 0) Q c.in-Ok-resume.ended.how) c.in-Ok.ensures in
-    logged_run c.args.before (counts (g.S.Site.count c.in-Ok-resume.ended.site) (g.R.Runner.count c.resume.new.runner) 0) c.args.ask.plan H c.in-Ok-resume.ended.records (g.R.Runner.failures c.args.runner.now) (g.R.Runner.failures c.resume.new.runner) c.in-Ok-resume.ended.how
-    (λ closed. c.in-Ok-resume.ensures.failures closed t H spelled) (λ refused. c.in-Ok-resume.ensures.same t H spelled refused) (λ refused. ap g.R.Runner.failures (c.in-Ok-resume.ensures.unused refused))
-    (λ cut. whole (subst (λ (cause : Cause). is_cut (kind_of cause) ≡ true) (sym same) cut))
-
-pub returns-in-Ok-resume-clause-opened : goal.returns-in-Ok-resume-clause-opened
-returns-in-Ok-resume-clause-opened g c ends =
-    let same : c.run_cause.result ≡ run_cause c.args.before (counts (g.S.Site.count c.in-Ok-resume.ended.site) (g.R.Runner.count c.resume.new.runner) 0) c.args.ask.plan c.in-Ok-resume.ended.how =
-    c.run_cause.ensures ∙ ap (λ (k : Counts). run_cause c.args.before k c.in-Ok.copied c.in-Ok-resume.ended.how) c.counts_of-after.ensures ∙ ap (λ (Q : Plan). run_cause c.args.before (counts (g.S.Site.count c.in-Ok-resume.ended.site) (g.R.Runner.count c.resume.new.runner) 0) Q c.in-Ok-resume.ended.how) c.in-Ok.ensures in
-    c.in-Ok-resume.ensures.opened (closed_starts c.in-Ok-resume.ended.how (closed_run c.args.before (counts (g.S.Site.count c.in-Ok-resume.ended.site) (g.R.Runner.count c.resume.new.runner) 0) c.args.ask.plan c.in-Ok-resume.ended.how (subst (λ (cause : Cause). is_run_end (kind_of cause) ≡ true) same ends)))
-
-pub returns-in-Ok-resume-clause-collects : goal.returns-in-Ok-resume-clause-collects
-returns-in-Ok-resume-clause-collects g c ends =
-    let same : c.run_cause.result ≡ run_cause c.args.before (counts (g.S.Site.count c.in-Ok-resume.ended.site) (g.R.Runner.count c.resume.new.runner) 0) c.args.ask.plan c.in-Ok-resume.ended.how =
-    c.run_cause.ensures ∙ ap (λ (k : Counts). run_cause c.args.before k c.in-Ok.copied c.in-Ok-resume.ended.how) c.counts_of-after.ensures ∙ ap (λ (Q : Plan). run_cause c.args.before (counts (g.S.Site.count c.in-Ok-resume.ended.site) (g.R.Runner.count c.resume.new.runner) 0) Q c.in-Ok-resume.ended.how) c.in-Ok.ensures in
-    c.in-Ok-resume.ensures.collects (closed_starts c.in-Ok-resume.ended.how (closed_run c.args.before (counts (g.S.Site.count c.in-Ok-resume.ended.site) (g.R.Runner.count c.resume.new.runner) 0) c.args.ask.plan c.in-Ok-resume.ended.how (subst (λ (cause : Cause). is_run_end (kind_of cause) ≡ true) same ends)))
-
-pub returns-in-Err-clause-failed : goal.returns-in-Err-clause-failed
-returns-in-Err-clause-failed g c t H spelled whole =
-    unread_cuts c.files_spell_one_list.ensures.header c.files_spell_one_list.ensures.whole c.args.before c.counts_of-after-in-Err.result (g.S.Site.files c.args.site c.args.ask.log) H c.in-Err.refused.why spelled (c.in-Err.ensures.damaged t)
-    (λ cut. whole (subst (λ (cause : Cause). is_cut (kind_of cause) ≡ true) (sym c.unread_cause.ensures) cut))
-
-pub returns-in-Err-clause-opened : goal.returns-in-Err-clause-opened
-returns-in-Err-clause-opened g c ends =
-    absurd (true≢false (sym (subst (λ (cause : Cause). is_run_end (kind_of cause) ≡ true) c.unread_cause.ensures ends) ∙ unread_ends c.args.before c.counts_of-after-in-Err.result c.in-Err.refused.why))
-
-pub returns-in-Err-clause-collects : goal.returns-in-Err-clause-collects
-returns-in-Err-clause-collects g c ends =
-    absurd (true≢false (sym (subst (λ (cause : Cause). is_run_end (kind_of cause) ≡ true) c.unread_cause.ensures ends) ∙ unread_ends c.args.before c.counts_of-after-in-Err.result c.in-Err.refused.why))
+pub returns-clause-failed : goal.returns-clause-failed
+returns-clause-failed g c told H spelled whole =
+    let failures = g.R.Runner.failures in
+    let front = c.split_at_mut-working.result.0.now in
+    let back = c.split_at_mut-working.result.1.now in
+    let new = c.run_by_all.new.runners in
+    let was : sum_by failures c.args.runners.now ≡ sum_by failures front + sum_by failures back = ap (λ l. sum_by failures l) c.split_at_mut-working.ensures.value ∙ sum_by-append failures front back in
+    logged_of_all H c.run_by_all.result.records (sum_by failures front) (sum_by failures new) (sum_by failures back) (sum_by failures c.args.runners.now) (sum_by failures (new ++ back)) was (sum_by-append failures new back) (c.run_by_all.ensures.failed told H spelled whole)

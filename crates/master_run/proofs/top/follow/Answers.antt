@@ -1,8 +1,9 @@
-use Rattle.std.proofs.Common.{◌≡◌, ◌∙◌, List, [], Err, Result, ap, sym, subst, arith, true, true≢false}
+use Rattle.std.proofs.Common.{◌≡◌, ◌∙◌, ℕ, List, drop, map, sum_by, [], Err, Result, ap, sym, subst, arith, true, true≢false}
 use Rattle.outside.specs.Files.{Files}
 use Rattle.flow_types.specs.declared.plan.Plan.{Plan}
 use Rattle.flow_types.specs.declared.records.Record.{Record}
 use Rattle.run_history.specs.declared.options.Options.{Options as RunOptions}
+use Rattle.worker_pool.specs.Crews.{AllSure, AllTell}
 use Rattle.local_run.specs.Collecting.{RunCollects}
 use Rattle.local_run.specs.Ends.{OpensBy}
 use Rattle.txn_log.specs.Spells.{Spells}
@@ -11,7 +12,6 @@ use Rattle.report.specs.declared.cause.Cause.{Cause}
 use Rattle.report.specs.Causes.{is_cut, kind_of}
 use Rattle.master_run.specs.declared.ask.Ask.{Ask}
 use Rattle.master_run.specs.declared.asking.Refusal.{Refusal}
-use Rattle.master_run.specs.declared.counts.Counts.{Counts}
 use Rattle.master_run.specs.Asked.{choice, request, run_mode}
 use Rattle.master_run.specs.Ends.{CallEnds, FaultEnd, WordsEnd, counts}
 use Rattle.master_run.specs.Serves.{Serves}
@@ -21,13 +21,13 @@ use Rattle.master_run.proofs.top.follow.Goals as goal
 
 pub returns-in-Ok-clause-ends : goal.returns-in-Ok-clause-ends
 returns-in-Ok-clause-ends g c told =
-    subst (λ (e : Result Ask Cause). CallEnds e (g.S.Site.files c.args.site) (g.S.Site.files c.serve.result.site) c.serve.result.records c.serve.result.cause) (sym (c.in-Ok.ensures.stage told)) ((serves_from g.S.Site.tells g.S.Site.files g.S.Site.may_leave g.S.Site.moment g.S.Site.images_since g.B.Born.born g.F.Commands.gives g.F.Commands.may_fail (g.R.Runner.tells c.args.runner.now) (g.R.Runner.sure c.args.runner.now) (counts (g.S.Site.count c.args.site) (g.R.Runner.count c.args.runner.now) 0) (counts (g.S.Site.count c.serve.result.site) (g.R.Runner.count c.serve.new.runner) 0) c.in-Ok.ask c.args.site c.read_ask.new.site c.serve.result.site c.serve.result.records c.serve.result.cause c.requires.later (λ t. record { same = c.in-Ok.ensures.files t; within = c.in-Ok.ensures.crash t; only = c.in-Ok.ensures.any_moment t })
-    (subst (λ (b : Counts). Serves g.S.Site.tells g.S.Site.files g.S.Site.may_leave g.S.Site.moment g.S.Site.images_since g.B.Born.born g.F.Commands.gives g.F.Commands.may_fail (g.R.Runner.tells c.args.runner.now) (g.R.Runner.sure c.args.runner.now) b (counts (g.S.Site.count c.serve.result.site) (g.R.Runner.count c.serve.new.runner) 0) c.in-Ok.ask c.read_ask.new.site c.serve.result.site c.serve.result.records c.serve.result.cause) c.counts_of-before.ensures c.serve.ensures.serves)).ends told)
+    subst (λ (e : Result Ask Cause). CallEnds e (g.S.Site.files c.args.site) (g.S.Site.files c.serve.result.site) c.serve.result.records c.serve.result.cause) (sym (c.in-Ok.ensures.stage told)) ((serves_from g.S.Site.tells g.S.Site.files g.S.Site.may_leave g.S.Site.moment g.S.Site.images_since g.B.Born.born g.F.Commands.gives g.F.Commands.may_fail (AllTell g.R.Runner.tells c.args.runners.now) (AllSure g.R.Runner.sure c.args.runners.now) (counts (g.S.Site.count c.args.site) (map g.R.Runner.count c.args.runners.now) 0) (counts (g.S.Site.count c.serve.result.site) (map g.R.Runner.count c.serve.new.runners) 0) c.in-Ok.ask c.args.site c.read_ask.new.site c.serve.result.site c.serve.result.records c.serve.result.cause c.requires.later (λ t. record { same = c.in-Ok.ensures.files t; within = c.in-Ok.ensures.crash t; only = c.in-Ok.ensures.any_moment t })
+    (subst (λ (n : ℕ). Serves g.S.Site.tells g.S.Site.files g.S.Site.may_leave g.S.Site.moment g.S.Site.images_since g.B.Born.born g.F.Commands.gives g.F.Commands.may_fail (AllTell g.R.Runner.tells c.args.runners.now) (AllSure g.R.Runner.sure c.args.runners.now) (counts n (map g.R.Runner.count c.args.runners.now) 0) (counts (g.S.Site.count c.serve.result.site) (map g.R.Runner.count c.serve.new.runners) 0) c.in-Ok.ask c.read_ask.new.site c.serve.result.site c.serve.result.records c.serve.result.cause) c.faults-before.ensures c.serve.ensures.serves)).ends told)
 
 pub returns-in-Ok-clause-serves : goal.returns-in-Ok-clause-serves
 returns-in-Ok-clause-serves g c told ask asked =
-    subst (λ (a : Ask). Serves g.S.Site.tells g.S.Site.files g.S.Site.may_leave g.S.Site.moment g.S.Site.images_since g.B.Born.born g.F.Commands.gives g.F.Commands.may_fail (g.R.Runner.tells c.args.runner.now) (g.R.Runner.sure c.args.runner.now) (counts (g.S.Site.count c.args.site) (g.R.Runner.count c.args.runner.now) 0) (counts (g.S.Site.count c.serve.result.site) (g.R.Runner.count c.serve.new.runner) 0) a c.args.site c.serve.result.site c.serve.result.records c.serve.result.cause) (same_ask c.in-Ok.ask ask (sym (c.in-Ok.ensures.stage told) ∙ asked)) (serves_from g.S.Site.tells g.S.Site.files g.S.Site.may_leave g.S.Site.moment g.S.Site.images_since g.B.Born.born g.F.Commands.gives g.F.Commands.may_fail (g.R.Runner.tells c.args.runner.now) (g.R.Runner.sure c.args.runner.now) (counts (g.S.Site.count c.args.site) (g.R.Runner.count c.args.runner.now) 0) (counts (g.S.Site.count c.serve.result.site) (g.R.Runner.count c.serve.new.runner) 0) c.in-Ok.ask c.args.site c.read_ask.new.site c.serve.result.site c.serve.result.records c.serve.result.cause c.requires.later (λ t. record { same = c.in-Ok.ensures.files t; within = c.in-Ok.ensures.crash t; only = c.in-Ok.ensures.any_moment t })
-    (subst (λ (b : Counts). Serves g.S.Site.tells g.S.Site.files g.S.Site.may_leave g.S.Site.moment g.S.Site.images_since g.B.Born.born g.F.Commands.gives g.F.Commands.may_fail (g.R.Runner.tells c.args.runner.now) (g.R.Runner.sure c.args.runner.now) b (counts (g.S.Site.count c.serve.result.site) (g.R.Runner.count c.serve.new.runner) 0) c.in-Ok.ask c.read_ask.new.site c.serve.result.site c.serve.result.records c.serve.result.cause) c.counts_of-before.ensures c.serve.ensures.serves))
+    subst (λ (a : Ask). Serves g.S.Site.tells g.S.Site.files g.S.Site.may_leave g.S.Site.moment g.S.Site.images_since g.B.Born.born g.F.Commands.gives g.F.Commands.may_fail (AllTell g.R.Runner.tells c.args.runners.now) (AllSure g.R.Runner.sure c.args.runners.now) (counts (g.S.Site.count c.args.site) (map g.R.Runner.count c.args.runners.now) 0) (counts (g.S.Site.count c.serve.result.site) (map g.R.Runner.count c.serve.new.runners) 0) a c.args.site c.serve.result.site c.serve.result.records c.serve.result.cause) (same_ask c.in-Ok.ask ask (sym (c.in-Ok.ensures.stage told) ∙ asked)) (serves_from g.S.Site.tells g.S.Site.files g.S.Site.may_leave g.S.Site.moment g.S.Site.images_since g.B.Born.born g.F.Commands.gives g.F.Commands.may_fail (AllTell g.R.Runner.tells c.args.runners.now) (AllSure g.R.Runner.sure c.args.runners.now) (counts (g.S.Site.count c.args.site) (map g.R.Runner.count c.args.runners.now) 0) (counts (g.S.Site.count c.serve.result.site) (map g.R.Runner.count c.serve.new.runners) 0) c.in-Ok.ask c.args.site c.read_ask.new.site c.serve.result.site c.serve.result.records c.serve.result.cause c.requires.later (λ t. record { same = c.in-Ok.ensures.files t; within = c.in-Ok.ensures.crash t; only = c.in-Ok.ensures.any_moment t })
+    (subst (λ (n : ℕ). Serves g.S.Site.tells g.S.Site.files g.S.Site.may_leave g.S.Site.moment g.S.Site.images_since g.B.Born.born g.F.Commands.gives g.F.Commands.may_fail (AllTell g.R.Runner.tells c.args.runners.now) (AllSure g.R.Runner.sure c.args.runners.now) (counts n (map g.R.Runner.count c.args.runners.now) 0) (counts (g.S.Site.count c.serve.result.site) (map g.R.Runner.count c.serve.new.runners) 0) c.in-Ok.ask c.read_ask.new.site c.serve.result.site c.serve.result.records c.serve.result.cause) c.faults-before.ensures c.serve.ensures.serves))
 
 pub returns-in-Ok-clause-words : goal.returns-in-Ok-clause-words
 returns-in-Ok-clause-words g c =
@@ -35,8 +35,8 @@ returns-in-Ok-clause-words g c =
 
 pub returns-in-Ok-clause-faults : goal.returns-in-Ok-clause-faults
 returns-in-Ok-clause-faults g c =
-    (serves_from g.S.Site.tells g.S.Site.files g.S.Site.may_leave g.S.Site.moment g.S.Site.images_since g.B.Born.born g.F.Commands.gives g.F.Commands.may_fail (g.R.Runner.tells c.args.runner.now) (g.R.Runner.sure c.args.runner.now) (counts (g.S.Site.count c.args.site) (g.R.Runner.count c.args.runner.now) 0) (counts (g.S.Site.count c.serve.result.site) (g.R.Runner.count c.serve.new.runner) 0) c.in-Ok.ask c.args.site c.read_ask.new.site c.serve.result.site c.serve.result.records c.serve.result.cause c.requires.later (λ t. record { same = c.in-Ok.ensures.files t; within = c.in-Ok.ensures.crash t; only = c.in-Ok.ensures.any_moment t })
-    (subst (λ (b : Counts). Serves g.S.Site.tells g.S.Site.files g.S.Site.may_leave g.S.Site.moment g.S.Site.images_since g.B.Born.born g.F.Commands.gives g.F.Commands.may_fail (g.R.Runner.tells c.args.runner.now) (g.R.Runner.sure c.args.runner.now) b (counts (g.S.Site.count c.serve.result.site) (g.R.Runner.count c.serve.new.runner) 0) c.in-Ok.ask c.read_ask.new.site c.serve.result.site c.serve.result.records c.serve.result.cause) c.counts_of-before.ensures c.serve.ensures.serves)).faults
+    (serves_from g.S.Site.tells g.S.Site.files g.S.Site.may_leave g.S.Site.moment g.S.Site.images_since g.B.Born.born g.F.Commands.gives g.F.Commands.may_fail (AllTell g.R.Runner.tells c.args.runners.now) (AllSure g.R.Runner.sure c.args.runners.now) (counts (g.S.Site.count c.args.site) (map g.R.Runner.count c.args.runners.now) 0) (counts (g.S.Site.count c.serve.result.site) (map g.R.Runner.count c.serve.new.runners) 0) c.in-Ok.ask c.args.site c.read_ask.new.site c.serve.result.site c.serve.result.records c.serve.result.cause c.requires.later (λ t. record { same = c.in-Ok.ensures.files t; within = c.in-Ok.ensures.crash t; only = c.in-Ok.ensures.any_moment t })
+    (subst (λ (n : ℕ). Serves g.S.Site.tells g.S.Site.files g.S.Site.may_leave g.S.Site.moment g.S.Site.images_since g.B.Born.born g.F.Commands.gives g.F.Commands.may_fail (AllTell g.R.Runner.tells c.args.runners.now) (AllSure g.R.Runner.sure c.args.runners.now) (counts n (map g.R.Runner.count c.args.runners.now) 0) (counts (g.S.Site.count c.serve.result.site) (map g.R.Runner.count c.serve.new.runners) 0) c.in-Ok.ask c.read_ask.new.site c.serve.result.site c.serve.result.records c.serve.result.cause) c.faults-before.ensures c.serve.ensures.serves)).faults
 
 pub returns-in-Ok-clause-legal : goal.returns-in-Ok-clause-legal
 returns-in-Ok-clause-legal g c read =
@@ -48,8 +48,8 @@ returns-in-Ok-clause-planned g c told read =
 
 pub returns-in-Ok-clause-untouched : goal.returns-in-Ok-clause-untouched
 returns-in-Ok-clause-untouched g c told refused =
-    (serves_from g.S.Site.tells g.S.Site.files g.S.Site.may_leave g.S.Site.moment g.S.Site.images_since g.B.Born.born g.F.Commands.gives g.F.Commands.may_fail (g.R.Runner.tells c.args.runner.now) (g.R.Runner.sure c.args.runner.now) (counts (g.S.Site.count c.args.site) (g.R.Runner.count c.args.runner.now) 0) (counts (g.S.Site.count c.serve.result.site) (g.R.Runner.count c.serve.new.runner) 0) c.in-Ok.ask c.args.site c.read_ask.new.site c.serve.result.site c.serve.result.records c.serve.result.cause c.requires.later (λ t. record { same = c.in-Ok.ensures.files t; within = c.in-Ok.ensures.crash t; only = c.in-Ok.ensures.any_moment t })
-    (subst (λ (b : Counts). Serves g.S.Site.tells g.S.Site.files g.S.Site.may_leave g.S.Site.moment g.S.Site.images_since g.B.Born.born g.F.Commands.gives g.F.Commands.may_fail (g.R.Runner.tells c.args.runner.now) (g.R.Runner.sure c.args.runner.now) b (counts (g.S.Site.count c.serve.result.site) (g.R.Runner.count c.serve.new.runner) 0) c.in-Ok.ask c.read_ask.new.site c.serve.result.site c.serve.result.records c.serve.result.cause) c.counts_of-before.ensures c.serve.ensures.serves)).untouched told refused
+    (serves_from g.S.Site.tells g.S.Site.files g.S.Site.may_leave g.S.Site.moment g.S.Site.images_since g.B.Born.born g.F.Commands.gives g.F.Commands.may_fail (AllTell g.R.Runner.tells c.args.runners.now) (AllSure g.R.Runner.sure c.args.runners.now) (counts (g.S.Site.count c.args.site) (map g.R.Runner.count c.args.runners.now) 0) (counts (g.S.Site.count c.serve.result.site) (map g.R.Runner.count c.serve.new.runners) 0) c.in-Ok.ask c.args.site c.read_ask.new.site c.serve.result.site c.serve.result.records c.serve.result.cause c.requires.later (λ t. record { same = c.in-Ok.ensures.files t; within = c.in-Ok.ensures.crash t; only = c.in-Ok.ensures.any_moment t })
+    (subst (λ (n : ℕ). Serves g.S.Site.tells g.S.Site.files g.S.Site.may_leave g.S.Site.moment g.S.Site.images_since g.B.Born.born g.F.Commands.gives g.F.Commands.may_fail (AllTell g.R.Runner.tells c.args.runners.now) (AllSure g.R.Runner.sure c.args.runners.now) (counts n (map g.R.Runner.count c.args.runners.now) 0) (counts (g.S.Site.count c.serve.result.site) (map g.R.Runner.count c.serve.new.runners) 0) c.in-Ok.ask c.read_ask.new.site c.serve.result.site c.serve.result.records c.serve.result.cause) c.faults-before.ensures c.serve.ensures.serves)).untouched told refused
 
 pub returns-in-Ok-clause-closed : goal.returns-in-Ok-clause-closed
 returns-in-Ok-clause-closed g c ends =
@@ -62,37 +62,37 @@ returns-in-Ok-clause-sure g c is =
 pub returns-in-Err-clause-ends : goal.returns-in-Err-clause-ends
 returns-in-Err-clause-ends g c told =
     subst (λ (xs : List Record). CallEnds (request c.args.words.now c.args.env.now (g.S.Site.files c.args.site)) (g.S.Site.files c.args.site) (g.S.Site.files c.read_ask.new.site) xs c.refusal_cause.result) (sym c.new.ensures)
-    (subst (λ (cause : Cause). CallEnds (request c.args.words.now c.args.env.now (g.S.Site.files c.args.site)) (g.S.Site.files c.args.site) (g.S.Site.files c.read_ask.new.site) [] cause) (sym c.refusal_cause.ensures) (refused_ends (request c.args.words.now c.args.env.now (g.S.Site.files c.args.site)) (g.S.Site.files c.args.site) (g.S.Site.files c.read_ask.new.site) c.counts_of-before.result c.counts_of-after.result c.in-Err.refusal (c.in-Err.ensures.stage told) (c.in-Err.ensures.files told)))
+    (subst (λ (cause : Cause). CallEnds (request c.args.words.now c.args.env.now (g.S.Site.files c.args.site)) (g.S.Site.files c.args.site) (g.S.Site.files c.read_ask.new.site) [] cause) (sym c.refusal_cause.ensures) (refused_ends (request c.args.words.now c.args.env.now (g.S.Site.files c.args.site)) (g.S.Site.files c.args.site) (g.S.Site.files c.read_ask.new.site) (record { before = c.faults-before.result; after = c.faults-after.result }) c.in-Err.refusal (c.in-Err.ensures.stage told) (c.in-Err.ensures.files told)))
 
 pub returns-in-Err-clause-serves : goal.returns-in-Err-clause-serves
 returns-in-Err-clause-serves g c told ask asked =
-    subst (λ (xs : List Record). Serves g.S.Site.tells g.S.Site.files g.S.Site.may_leave g.S.Site.moment g.S.Site.images_since g.B.Born.born g.F.Commands.gives g.F.Commands.may_fail (g.R.Runner.tells c.args.runner.now) (g.R.Runner.sure c.args.runner.now) (counts (g.S.Site.count c.args.site) (g.R.Runner.count c.args.runner.now) 0) (counts (g.S.Site.count c.read_ask.new.site) (g.R.Runner.count c.args.runner.now) 0) ask c.args.site c.read_ask.new.site xs c.refusal_cause.result) (sym c.new.ensures)
-    (subst (λ (b : Counts). Serves g.S.Site.tells g.S.Site.files g.S.Site.may_leave g.S.Site.moment g.S.Site.images_since g.B.Born.born g.F.Commands.gives g.F.Commands.may_fail (g.R.Runner.tells c.args.runner.now) (g.R.Runner.sure c.args.runner.now) b (counts (g.S.Site.count c.read_ask.new.site) (g.R.Runner.count c.args.runner.now) 0) ask c.args.site c.read_ask.new.site [] c.refusal_cause.result) c.counts_of-before.ensures
-    (subst (λ (a : Counts). Serves g.S.Site.tells g.S.Site.files g.S.Site.may_leave g.S.Site.moment g.S.Site.images_since g.B.Born.born g.F.Commands.gives g.F.Commands.may_fail (g.R.Runner.tells c.args.runner.now) (g.R.Runner.sure c.args.runner.now) c.counts_of-before.result a ask c.args.site c.read_ask.new.site [] c.refusal_cause.result) c.counts_of-after.ensures
-    (subst (λ (cause : Cause). Serves g.S.Site.tells g.S.Site.files g.S.Site.may_leave g.S.Site.moment g.S.Site.images_since g.B.Born.born g.F.Commands.gives g.F.Commands.may_fail (g.R.Runner.tells c.args.runner.now) (g.R.Runner.sure c.args.runner.now) c.counts_of-before.result c.counts_of-after.result ask c.args.site c.read_ask.new.site [] cause) (sym c.refusal_cause.ensures)
-    (refused_serves g.S.Site.tells g.S.Site.files g.S.Site.may_leave g.S.Site.moment g.S.Site.images_since g.B.Born.born g.F.Commands.gives g.F.Commands.may_fail (g.R.Runner.tells c.args.runner.now) (g.R.Runner.sure c.args.runner.now) c.counts_of-before.result c.counts_of-after.result ask c.args.site c.read_ask.new.site c.requires.later (λ t. record { same = c.in-Err.ensures.files t; within = c.in-Err.ensures.crash t; only = c.in-Err.ensures.any_moment t }) c.in-Err.refusal (request c.args.words.now c.args.env.now (g.S.Site.files c.args.site)) (c.in-Err.ensures.stage told) asked (λ is. omega (arith, ap (λ (k : Counts). k.site) c.counts_of-before.ensures, ap (λ (k : Counts). k.site) c.counts_of-after.ensures, c.in-Err.ensures.trace.rose (ap (λ (r : Refusal). let answer : Result Ask Refusal = Err r in answer) is)))))))
+    subst (λ (xs : List Record). Serves g.S.Site.tells g.S.Site.files g.S.Site.may_leave g.S.Site.moment g.S.Site.images_since g.B.Born.born g.F.Commands.gives g.F.Commands.may_fail (AllTell g.R.Runner.tells c.args.runners.now) (AllSure g.R.Runner.sure c.args.runners.now) (counts (g.S.Site.count c.args.site) (map g.R.Runner.count c.args.runners.now) 0) (counts (g.S.Site.count c.read_ask.new.site) (map g.R.Runner.count c.args.runners.now) 0) ask c.args.site c.read_ask.new.site xs c.refusal_cause.result) (sym c.new.ensures)
+    (subst (λ (n : ℕ). Serves g.S.Site.tells g.S.Site.files g.S.Site.may_leave g.S.Site.moment g.S.Site.images_since g.B.Born.born g.F.Commands.gives g.F.Commands.may_fail (AllTell g.R.Runner.tells c.args.runners.now) (AllSure g.R.Runner.sure c.args.runners.now) (counts n (map g.R.Runner.count c.args.runners.now) 0) (counts (g.S.Site.count c.read_ask.new.site) (map g.R.Runner.count c.args.runners.now) 0) ask c.args.site c.read_ask.new.site [] c.refusal_cause.result) c.faults-before.ensures
+    (subst (λ (n : ℕ). Serves g.S.Site.tells g.S.Site.files g.S.Site.may_leave g.S.Site.moment g.S.Site.images_since g.B.Born.born g.F.Commands.gives g.F.Commands.may_fail (AllTell g.R.Runner.tells c.args.runners.now) (AllSure g.R.Runner.sure c.args.runners.now) (counts c.faults-before.result (map g.R.Runner.count c.args.runners.now) 0) (counts n (map g.R.Runner.count c.args.runners.now) 0) ask c.args.site c.read_ask.new.site [] c.refusal_cause.result) c.faults-after.ensures
+    (subst (λ (cause : Cause). Serves g.S.Site.tells g.S.Site.files g.S.Site.may_leave g.S.Site.moment g.S.Site.images_since g.B.Born.born g.F.Commands.gives g.F.Commands.may_fail (AllTell g.R.Runner.tells c.args.runners.now) (AllSure g.R.Runner.sure c.args.runners.now) (counts c.faults-before.result (map g.R.Runner.count c.args.runners.now) 0) (counts c.faults-after.result (map g.R.Runner.count c.args.runners.now) 0) ask c.args.site c.read_ask.new.site [] cause) (sym c.refusal_cause.ensures)
+    (refused_serves g.S.Site.tells g.S.Site.files g.S.Site.may_leave g.S.Site.moment g.S.Site.images_since g.B.Born.born g.F.Commands.gives g.F.Commands.may_fail (AllTell g.R.Runner.tells c.args.runners.now) (AllSure g.R.Runner.sure c.args.runners.now) (counts c.faults-before.result (map g.R.Runner.count c.args.runners.now) 0) (counts c.faults-after.result (map g.R.Runner.count c.args.runners.now) 0) ask c.args.site c.read_ask.new.site c.requires.later (λ t. record { same = c.in-Err.ensures.files t; within = c.in-Err.ensures.crash t; only = c.in-Err.ensures.any_moment t }) c.in-Err.refusal (request c.args.words.now c.args.env.now (g.S.Site.files c.args.site)) (c.in-Err.ensures.stage told) asked (λ is. omega (arith, c.faults-before.ensures, c.faults-after.ensures, c.in-Err.ensures.trace.rose (ap (λ (r : Refusal). let answer : Result Ask Refusal = Err r in answer) is)))))))
 
 pub returns-in-Err-clause-words : goal.returns-in-Err-clause-words
 returns-in-Err-clause-words g c =
-    subst (λ (cause : Cause). WordsEnd (choice c.args.words.now) cause) (sym c.refusal_cause.ensures) (refused_words (choice c.args.words.now) c.counts_of-before.result c.counts_of-after.result c.in-Err.refusal c.in-Err.ensures.words)
+    subst (λ (cause : Cause). WordsEnd (choice c.args.words.now) cause) (sym c.refusal_cause.ensures) (refused_words (choice c.args.words.now) (record { before = c.faults-before.result; after = c.faults-after.result }) c.in-Err.refusal c.in-Err.ensures.words)
 
 pub returns-in-Err-clause-faults : goal.returns-in-Err-clause-faults
 returns-in-Err-clause-faults g c =
-    subst (λ (k : Counts). FaultEnd k (counts (g.S.Site.count c.read_ask.new.site) (g.R.Runner.count c.args.runner.now) 0) c.refusal_cause.result) c.counts_of-before.ensures
-    (subst (λ (k : Counts). FaultEnd c.counts_of-before.result k c.refusal_cause.result) c.counts_of-after.ensures
-    (subst (λ (cause : Cause). FaultEnd c.counts_of-before.result c.counts_of-after.result cause) (sym c.refusal_cause.ensures) (refused_fault c.counts_of-before.result c.counts_of-after.result c.in-Err.refusal c.in-Err.ensures.kind (λ is. omega (arith, ap (λ (k : Counts). k.site) c.counts_of-before.ensures, ap (λ (k : Counts). k.site) c.counts_of-after.ensures, c.in-Err.ensures.trace.rose (ap (λ (r : Refusal). let answer : Result Ask Refusal = Err r in answer) is))))))
+    subst (λ (n : ℕ). FaultEnd (counts n (map g.R.Runner.count c.args.runners.now) 0) (counts (g.S.Site.count c.read_ask.new.site) (map g.R.Runner.count c.args.runners.now) 0) c.refusal_cause.result) c.faults-before.ensures
+    (subst (λ (n : ℕ). FaultEnd (counts c.faults-before.result (map g.R.Runner.count c.args.runners.now) 0) (counts n (map g.R.Runner.count c.args.runners.now) 0) c.refusal_cause.result) c.faults-after.ensures
+    (subst (λ (cause : Cause). FaultEnd (counts c.faults-before.result (map g.R.Runner.count c.args.runners.now) 0) (counts c.faults-after.result (map g.R.Runner.count c.args.runners.now) 0) cause) (sym c.refusal_cause.ensures) (refused_fault (counts c.faults-before.result (map g.R.Runner.count c.args.runners.now) 0) (counts c.faults-after.result (map g.R.Runner.count c.args.runners.now) 0) c.in-Err.refusal c.in-Err.ensures.kind (λ is. omega (arith, c.faults-before.ensures, c.faults-after.ensures, c.in-Err.ensures.trace.rose (ap (λ (r : Refusal). let answer : Result Ask Refusal = Err r in answer) is))))))
 
 pub returns-in-Err-clause-legal : goal.returns-in-Err-clause-legal
 returns-in-Err-clause-legal g c read =
-    absurd (true≢false (sym (rw c.refusal_cause.ensures at read) ∙ (refused_kind c.counts_of-before.result c.counts_of-after.result c.in-Err.refusal c.in-Err.ensures.kind).unread))
+    absurd (true≢false (sym (rw c.refusal_cause.ensures at read) ∙ (refused_kind (record { before = c.faults-before.result; after = c.faults-after.result }) c.in-Err.refusal c.in-Err.ensures.kind).unread))
 
 pub returns-in-Err-clause-valid : goal.returns-in-Err-clause-valid
 returns-in-Err-clause-valid g c read =
-    absurd (true≢false (sym (rw c.refusal_cause.ensures at read) ∙ (refused_kind c.counts_of-before.result c.counts_of-after.result c.in-Err.refusal c.in-Err.ensures.kind).unread))
+    absurd (true≢false (sym (rw c.refusal_cause.ensures at read) ∙ (refused_kind (record { before = c.faults-before.result; after = c.faults-after.result }) c.in-Err.refusal c.in-Err.ensures.kind).unread))
 
 pub returns-in-Err-clause-planned : goal.returns-in-Err-clause-planned
 returns-in-Err-clause-planned g c told read =
-    absurd (true≢false (sym (rw c.refusal_cause.ensures at read) ∙ (refused_kind c.counts_of-before.result c.counts_of-after.result c.in-Err.refusal c.in-Err.ensures.kind).unread))
+    absurd (true≢false (sym (rw c.refusal_cause.ensures at read) ∙ (refused_kind (record { before = c.faults-before.result; after = c.faults-after.result }) c.in-Err.refusal c.in-Err.ensures.kind).unread))
 
 pub returns-in-Err-clause-untouched : goal.returns-in-Err-clause-untouched
 returns-in-Err-clause-untouched g c told refused =
@@ -100,15 +100,15 @@ returns-in-Err-clause-untouched g c told refused =
 
 pub returns-in-Err-clause-closed : goal.returns-in-Err-clause-closed
 returns-in-Err-clause-closed g c read =
-    absurd (true≢false (sym (rw c.refusal_cause.ensures at read) ∙ (refused_kind c.counts_of-before.result c.counts_of-after.result c.in-Err.refusal c.in-Err.ensures.kind).no_end))
+    absurd (true≢false (sym (rw c.refusal_cause.ensures at read) ∙ (refused_kind (record { before = c.faults-before.result; after = c.faults-after.result }) c.in-Err.refusal c.in-Err.ensures.kind).no_end))
 
 pub returns-in-Err-clause-sure : goal.returns-in-Err-clause-sure
 returns-in-Err-clause-sure g c is =
-    rw c.refusal_cause.ensures ((refused_kind c.counts_of-before.result c.counts_of-after.result c.in-Err.refusal c.in-Err.ensures.kind).sure)
+    rw c.refusal_cause.ensures ((refused_kind (record { before = c.faults-before.result; after = c.faults-after.result }) c.in-Err.refusal c.in-Err.ensures.kind).sure)
 
 pub returns-in-Err-clause-failures : goal.returns-in-Err-clause-failures
 returns-in-Err-clause-failures g c =
-    record { later = omega arith; rose = λ failed. absurd ((refused_kind c.counts_of-before.result c.counts_of-after.result c.in-Err.refusal c.in-Err.ensures.kind).failed (rw c.refusal_cause.ensures at failed)) }
+    record { later = omega arith; rose = λ failed. absurd ((refused_kind (record { before = c.faults-before.result; after = c.faults-after.result }) c.in-Err.refusal c.in-Err.ensures.kind).failed (rw c.refusal_cause.ensures at failed)) }
 
 pub returns-in-Ok-clause-failed : goal.returns-in-Ok-clause-failed
 returns-in-Ok-clause-failed g c told ask asked H spelled whole =
@@ -127,13 +127,17 @@ returns-in-Ok-clause-collects g c options chosen ends =
 
 pub returns-in-Err-clause-failed : goal.returns-in-Err-clause-failed
 returns-in-Err-clause-failed g c told ask asked H spelled whole =
-    refused_cuts (request c.args.words.now c.args.env.now (g.S.Site.files c.args.site)) ask c.counts_of-before.result c.counts_of-after.result c.in-Err.refusal (c.in-Err.ensures.stage told) asked
+    refused_cuts (request c.args.words.now c.args.env.now (g.S.Site.files c.args.site)) ask (record { before = c.faults-before.result; after = c.faults-after.result }) c.in-Err.refusal (c.in-Err.ensures.stage told) asked
     (λ cut. whole (subst (λ (cause : Cause). is_cut (kind_of cause) ≡ true) (sym c.refusal_cause.ensures) cut))
 
 pub returns-in-Err-clause-opened : goal.returns-in-Err-clause-opened
 returns-in-Err-clause-opened g c options chosen read =
-    absurd (true≢false (sym (rw c.refusal_cause.ensures at read) ∙ (refused_kind c.counts_of-before.result c.counts_of-after.result c.in-Err.refusal c.in-Err.ensures.kind).no_end))
+    absurd (true≢false (sym (rw c.refusal_cause.ensures at read) ∙ (refused_kind (record { before = c.faults-before.result; after = c.faults-after.result }) c.in-Err.refusal c.in-Err.ensures.kind).no_end))
 
 pub returns-in-Err-clause-collects : goal.returns-in-Err-clause-collects
 returns-in-Err-clause-collects g c options chosen read =
-    absurd (true≢false (sym (rw c.refusal_cause.ensures at read) ∙ (refused_kind c.counts_of-before.result c.counts_of-after.result c.in-Err.refusal c.in-Err.ensures.kind).no_end))
+    absurd (true≢false (sym (rw c.refusal_cause.ensures at read) ∙ (refused_kind (record { before = c.faults-before.result; after = c.faults-after.result }) c.in-Err.refusal c.in-Err.ensures.kind).no_end))
+
+pub returns-in-Ok-clause-spare : goal.returns-in-Ok-clause-spare
+returns-in-Ok-clause-spare g c options chosen =
+    subst (λ (n : ℕ). drop n c.serve.new.runners ≡ drop n c.args.runners.now) (c.in-Ok.ensures.jobs options chosen) c.serve.ensures.spare

@@ -1,0 +1,78 @@
+-- What a call does by some of the runners, as one by all of them.
+use Rattle.std.proofs.Common.{◌≡◌, ◌≤◌, ◌<◌, ◌+◌, ◌++◌, ◌∙◌, ℕ, List, Some, map, length, refl, sym, ap, subst, arith}
+use Rattle.std.specs.Prelude.{slice_get}
+use Rattle.std.proofs.lemmas.List.{append_cancel_right}
+use Rattle.flow_types.specs.declared.plan.Plan.{Plan}
+use Rattle.flow_types.specs.declared.plan.Rule.{Rule}
+use Rattle.flow_types.specs.declared.job.Job.{Job}
+use Rattle.flow_types.specs.declared.job.Failure.{Failure}
+use Rattle.flow_types.specs.declared.records.Record.{Record}
+use Rattle.flow_types.specs.Serial.{Contents, Function, job_of, serial}
+use Rattle.outside.specs.Disk.{Outcomes}
+use Rattle.outside.specs.Files.{Files}
+use Rattle.local_run.specs.Course.{TellsJobs}
+use Rattle.local_run.specs.Ends.{failed_count}
+use Rattle.local_run.specs.Runs.{read_sources}
+use Rattle.report.specs.declared.cause.Cause.{Cause}
+use Rattle.report.specs.declared.cause.Cause.TheVariants as causes
+use Rattle.report.specs.declared.cause.Kind.{Kind}
+use Rattle.master_run.specs.declared.ask.Ask.{Ask}
+use Rattle.master_run.specs.Counts.{Counts}
+use Rattle.master_run.specs.Ends.{FaultEnd, NoneRose, counts}
+use Rattle.master_run.specs.Headline.{FailureEnd, LogsFailed}
+use Rattle.master_run.specs.Serves.{Serves}
+use Rattle.master_run.proofs.Counted.{stands_before}
+
+-- who tells of more jobs tells of these
+tells_less : (P : Plan) (told wide : Job → Type 0) (contents : Contents) → ((job : Job) → wide job → told job) → TellsJobs P wide contents → TellsJobs P told contents
+tells_less P told wide contents each jobs r row at = each (job_of P row contents) (jobs r row at)
+
+-- a fault of one of the first is one of one of all
+pub wider_fault : (s0 s1 k0 k1 : ℕ) (front0 front1 back0 back1 : List ℕ) (cause : Cause) → FaultEnd (counts s0 front0 k0) (counts s1 front1 k1) cause → FaultEnd (counts s0 (front0 ++ back0) k0) (counts s1 (front1 ++ back1) k1) cause
+wider_fault s0 s1 k0 k1 front0 front1 back0 back1 (causes.SiteFault old new) f = f
+wider_fault s0 s1 k0 k1 front0 front1 back0 back1 (causes.RunnerFault old new) f = (f.0, stands_before front0 back0 f.0 old f.1, stands_before front1 back1 f.0 new f.2, f.3)
+wider_fault s0 s1 k0 k1 front0 front1 back0 back1 (causes.SinkFault old new) f = f
+wider_fault s0 s1 k0 k1 front0 front1 back0 back1 _ f = tt
+
+-- where none of all rose, none of the first did
+pub none_first : (s0 s1 : ℕ) (front0 front1 back : List ℕ) → NoneRose (counts s0 (front0 ++ back) 0) (counts s1 (front1 ++ back) 0) → NoneRose (counts s0 front0 0) (counts s1 front1 0)
+none_first s0 s1 front0 front1 back none = record { site = none.site; runners = append_cancel_right front1 front0 back none.runners; sink = refl }
+
+-- the failures of all, where those of some are known
+pub failures_of_all : (some0 some1 rest all0 all1 : ℕ) (kind : Kind) → all0 ≡ some0 + rest → all1 ≡ some1 + rest → FailureEnd some0 some1 kind → FailureEnd all0 all1 kind
+failures_of_all some0 some1 rest all0 all1 kind was is f = record { later = omega (arith, was, is, f.later); rose = λ failed. omega (arith, was, is, f.rose failed) }
+
+pub logged_of_all : (H all : List Record) (some0 some1 rest all0 all1 : ℕ) → all0 ≡ some0 + rest → all1 ≡ some1 + rest → LogsFailed H all some0 some1 → LogsFailed H all all0 all1
+logged_of_all H all some0 some1 rest all0 all1 was is logs = omega (arith, was, is, logs)
+
+module _ {S : Type 0} (tells : Type 0) (files : S → Files) (may_leave : S → Outcomes) (moment : S → ℕ) (images_since : S → ℕ → Files → Type 0) (born : ℕ)
+    (gives : Function) (may_fail : Job → Failure → Type 0) (told wide_told : Job → Type 0) (sure wide_sure : Type 0) (b a wb wa : Counts) (ask : Ask) (old new : S) (records : List Record) (cause : Cause) where
+  pub widened : ((job : Job) → wide_told job → told job) → (wide_sure → sure) → (FaultEnd b a cause → FaultEnd wb wa cause) → (NoneRose wb wa → NoneRose b a)
+      → Serves tells files may_leave moment images_since born gives may_fail told sure b a ask old new records cause
+      → Serves tells files may_leave moment images_since born gives may_fail wide_told wide_sure wb wa ask old new records cause
+  widened each is fault none s = record {
+    ends = s.ends;
+    late = s.late;
+    faults = fault s.faults;
+    has_log = s.has_log;
+    legal = s.legal;
+    logged = s.logged;
+    closed = s.closed;
+    spent = s.spent;
+    lost = s.lost;
+    moments = s.moments;
+    resumable = s.resumable;
+    now = s.now;
+    untouched = s.untouched;
+    others = s.others;
+    contents = λ t H spelled jobs. s.contents t H spelled (fewer jobs);
+    honest = λ t H spelled resumable jobs. s.honest t H spelled resumable (fewer jobs);
+    modes = s.modes;
+    gone = s.gone;
+    cleaned = s.cleaned;
+    sure_end = λ w. s.sure_end (is w);
+    completes = λ t H spelled work resumable free there fit room w jobs rose. s.completes t H spelled work resumable free there fit room (is w) (fewer jobs) (none rose);
+  }
+    where
+      fewer : TellsJobs ask.plan wide_told (serial ask.plan gives (read_sources ask.plan (files old))) → TellsJobs ask.plan told (serial ask.plan gives (read_sources ask.plan (files old)))
+      fewer jobs = tells_less ask.plan told wide_told (serial ask.plan gives (read_sources ask.plan (files old))) each jobs
