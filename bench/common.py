@@ -33,14 +33,16 @@ FIRST_SOURCE = {"wide": "s", "chain": "c0", "two parents": "s"}
 
 
 def own_seconds(process):
-    """The processor time of a process that has ended, without that of its commands."""
+    """The processor time of a process that has ended, of all its threads, without that of its commands. The first thread's
+    is told to the nanosecond, that of all in ticks."""
+    with open(f"/proc/{process}/stat") as it:
+        ticks = it.read().rpartition(")")[2].split()[11:13]
+    all_threads = sum(int(it) for it in ticks) / os.sysconf("SC_CLK_TCK")
     try:
         with open(f"/proc/{process}/schedstat") as it:
-            return int(it.read().split()[0]) / 1e9
+            return max(int(it.read().split()[0]) / 1e9, all_threads)
     except FileNotFoundError:
-        with open(f"/proc/{process}/stat") as it:
-            ticks = it.read().rpartition(")")[2].split()[11:13]
-        return sum(int(it) for it in ticks) / os.sysconf("SC_CLK_TCK")
+        return all_threads
 
 
 def memory(command, folder):
