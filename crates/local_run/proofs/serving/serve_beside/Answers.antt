@@ -1,4 +1,4 @@
-use Rattle.std.proofs.Common.{◌≡◌, sym, subst, rules}
+use Rattle.std.proofs.Common.{sym, subst, rules}
 use Rattle.std.specs.Prelude.{None}
 use Rattle.flow_types.specs.Plans.{IsValid}
 use Rattle.flow_types.specs.Serial.{serial}

@@ -1,6 +1,5 @@
-use Rattle.std.proofs.Common.{◌≡◌, ap, subst, sym}
+use Rattle.std.proofs.Common.{ap, subst, sym}
 use Rattle.std.specs.Prelude.{sum_by}
-use Rattle.crossbeam_queue.specs.Passes.{view}
 use Rattle.flow_types.specs.Plans.{IsValid}
 use Rattle.worker_pool.specs.declared.hand.Hand.{Hand}
 use Rattle.worker_pool.specs.declared.hand.Tally.{Tally}
