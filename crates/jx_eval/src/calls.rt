@@ -90,6 +90,7 @@ impl<'a> State<'a> {
         };
         let function = Function::of(call.name.as_str());
         let given = looked_at(self.alloc, call.done.as_slice())?;
-        self.answer(applied(self.alloc, function, call.place, &names, given.as_slice()))
+        let given = given.as_slice();
+        self.answer(applied(self.alloc, self.texts, function, call.place, &names, given))
     }
 }

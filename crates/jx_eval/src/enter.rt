@@ -72,7 +72,7 @@ impl<'a> State<'a> {
             Form::Truth(t) => Ok(Step::Value(Operand::own(JxValue::Truth(*t)))),
             Form::Number(z) => Ok(Step::Value(Operand::own(JxValue::Number(*z)))),
             Form::Text(t) => {
-                let copy = t.copy(self.alloc)?;
+                let copy = self.texts.copy(self.alloc, t)?;
                 Ok(Step::Value(Operand::own(JxValue::Text(copy))))
             }
             Form::Name(name) => self.name(scope, place, name),

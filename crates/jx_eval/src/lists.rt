@@ -143,7 +143,7 @@ impl<'a> State<'a> {
         ensures room { IfOk result (λ next. vec_len self.new.frames + weight next
             ≤ vec_len self.old.frames + 1) }
     {
-        match operand.into_turns(self.alloc)? {
+        match operand.into_turns(self.alloc, self.texts)? {
             Some(left) => {
                 let turn = Turn {
                     name: &of.name,
@@ -197,7 +197,7 @@ impl<'a> State<'a> {
         ensures room { IfOk result (λ next. vec_len self.new.frames + weight next
             ≤ vec_len self.old.frames + 1) }
     {
-        let item = operand.into_value(self.alloc)?;
+        let item = operand.into_value(self.alloc, self.texts)?;
         let place = making.place;
         making.done.push(place, item)?;
         self.next_turn(making)

@@ -55,8 +55,8 @@ impl<'a> State<'a> {
             ≤ vec_len self.old.frames + 1) }
     {
         let place = object.place;
-        let key = object.key.copy(self.alloc)?;
-        let value = operand.into_value(self.alloc)?;
+        let key = self.texts.copy(self.alloc, object.key)?;
+        let value = operand.into_value(self.alloc, self.texts)?;
         object.done.put(place, key, value)?;
         self.next_field(place, object.rest, object.done)
     }

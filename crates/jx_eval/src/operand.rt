@@ -7,7 +7,7 @@ ghost use Rattle.jx_eval.specs.Operands.{seen_value, held_value};
 use crate::turns::Turns;
 use flow_types::Memory;
 use jx_syntax::JxValue;
-use jx_values::copied;
+use jx_values::{Texts, copied};
 use std::alloc::Global;
 use std::marker::Model;
 use std::rc::Rc;
@@ -104,16 +104,20 @@ impl<'a> Operand<'a> {
     }
 
     /// The value, which is copied only where it isn't the operand's own.
-    pub(crate) fn into_value(self, alloc: Global) -> Result<JxValue, Memory>
+    pub(crate) fn into_value(self, alloc: Global, texts: &Texts) -> Result<JxValue, Memory>
         ensures { IfOk result (λ v. v ≡ self.entry) }
     {
         match self.held {
             Held::Own(value) => Ok(value),
-            Held::Seen(seen) => copied(alloc, seen.value()),
+            Held::Seen(seen) => copied(alloc, texts, seen.value()),
         }
     }
     /// The items, where the value is a list. Those of a list of the scope aren't copied.
-    pub(crate) fn into_turns(self, alloc: Global) -> Result<Option<Turns<'a>>, Memory>
+    pub(crate) fn into_turns(
+        self,
+        alloc: Global,
+        texts: &Texts,
+    ) -> Result<Option<Turns<'a>>, Memory>
         ensures { IfOk result
             (λ turns. option_map (map plain) turns ≡ items_in (plain self.entry)) }
     {
@@ -121,7 +125,7 @@ impl<'a> Operand<'a> {
             Held::Own(value) => Ok(Turns::own(value)),
             Held::Seen(Seen::Lent(value)) => Ok(Turns::lent(value)),
             Held::Seen(Seen::Shared(value)) => {
-                let copy = copied(alloc, value.as_ref())?;
+                let copy = copied(alloc, texts, value.as_ref())?;
                 Ok(Turns::own(copy))
             }
         }

@@ -80,11 +80,14 @@ impl<'a> State<'a> {
     {
         match o {
             Operator::Add => {
-                let first = left.into_value(self.alloc)?;
-                let second = operand.into_value(self.alloc)?;
-                self.answer(added(place, first, second))
+                let first = left.into_value(self.alloc, self.texts)?;
+                let second = operand.into_value(self.alloc, self.texts)?;
+                self.answer(added(self.texts, place, first, second))
             }
-            _ => self.answer(operated(self.alloc, o, place, left.value(), operand.value())),
+            _ => {
+                let (first, second) = (left.value(), operand.value());
+                self.answer(operated(self.alloc, self.texts, o, place, first, second))
+            }
         }
     }
 
@@ -156,6 +159,6 @@ impl<'a> State<'a> {
         ensures room { IfOk result (λ next. weight next ≤ 1) }
     {
         let (first, last) = (value_in(&start), value_in(&stop));
-        self.answer(sliced(self.alloc, place, of.value(), first, last))
+        self.answer(sliced(self.alloc, self.texts, place, of.value(), first, last))
     }
 }

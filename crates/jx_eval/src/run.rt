@@ -12,7 +12,7 @@ use crate::operand::Operand;
 use crate::state::{State, Step};
 use jx_meaning::{EvalFault, JxScope};
 use jx_syntax::{Expr, JxValue};
-use jx_values::{indexed, signed};
+use jx_values::{Texts, indexed, signed};
 use std::alloc::Global;
 
 impl<'a> State<'a> {
@@ -35,7 +35,7 @@ impl<'a> State<'a> {
             Frame::Truth(place) => self.truth(place, operand),
             Frame::Indexed(place, index) => self.wait(Frame::Index(place, operand), index),
             Frame::Index(place, of) => {
-                self.answer(indexed(self.alloc, place, of.value(), operand.value()))
+                self.answer(indexed(self.alloc, self.texts, place, of.value(), operand.value()))
             }
             Frame::Sliced(place, start, stop) => self.slice_start(place, operand, start, stop),
             Frame::Start(place, of, stop) => self.slice_stop(place, of, Some(operand), stop),
@@ -52,7 +52,7 @@ impl<'a> State<'a> {
 
 /// The value of a node of an expression and the number of nodes begun by then, of which so many
 /// were begun before, or the first fault. A node too many is a fault: no more than 10,000,000 are
-/// begun.
+/// begun. Room for the texts that it makes is taken of `texts`.
 ///
 /// It walks once, by a stack on the heap, so a long or deep expression takes no call depth. A value
 /// of the scope isn't copied to be looked at.
@@ -62,6 +62,7 @@ pub fn eval_counted(
     node: usize,
     scope: &JxScope,
     begun: u32,
+    texts: &Texts,
 ) -> Result<(JxValue, u32), EvalFault>
     requires { node < length expr.now }
     ensures { Gives (λ r. (plain r.0, r.1)) result
@@ -70,6 +71,7 @@ pub fn eval_counted(
     let nodes = expr.nodes();
     let mut state = State {
         alloc,
+        texts,
         frames: Vec::new(alloc),
         local: Vec::new(alloc),
         count: begun,
@@ -81,7 +83,7 @@ pub fn eval_counted(
             Step::Value(operand) => match state.frames.pop() {
                 Some(frame) => state.hand(scope, frame, operand)?,
                 None => {
-                    let value = operand.into_value(alloc)?;
+                    let value = operand.into_value(alloc, texts)?;
                     return Ok((value, state.count));
                 }
             },
@@ -89,10 +91,13 @@ pub fn eval_counted(
     }
 }
 
-/// The value of an expression, or its first fault, with the byte of the node where it shows.
+/// The value of an expression, or its first fault, with the byte of the node where it shows. Where
+/// its texts pass 2 GiB as they are made, memory is wanting.
 pub fn eval(alloc: Global, expr: &Expr, scope: &JxScope) -> Result<JxValue, EvalFault>
     ensures { Gives plain result (value_of (names_of scope.now) (expression_of expr.now)) }
 {
-    let (value, _count) = eval_counted(alloc, expr, expr.nodes().len() - 1, scope, 0)?;
+    let texts = Texts::new();
+    let whole = expr.nodes().len() - 1;
+    let (value, _count) = eval_counted(alloc, expr, whole, scope, 0, &texts)?;
     Ok(value)
 }

@@ -17,6 +17,7 @@ use crate::operand::{Operand, Seen};
 use flow_types::Memory;
 use jx_meaning::{EvalFault, JxScope};
 use jx_syntax::JxValue;
+use jx_values::Texts;
 use std::alloc::Global;
 
 /// The most nodes of one evaluation.
@@ -35,6 +36,8 @@ pub(crate) enum Step<'a> {
 #[derive(Drop)]
 pub(crate) struct State<'a> {
     pub(crate) alloc: Global,
+    /// The room for the texts that are made.
+    pub(crate) texts: &'a Texts,
     /// What waits for operands, the innermost last.
     pub(crate) frames: Vec<Frame<'a>>,
     /// The names that loops bind, the outermost first.

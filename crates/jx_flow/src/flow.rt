@@ -20,6 +20,7 @@ use flow_types::{Memory, RawFlow, Rows, Text};
 use jx_meaning::JxScope;
 use jx_syntax::{Expr, Field, parse};
 use jx_tokens::JxFault;
+use jx_values::Texts;
 use std::alloc::Global;
 
 /// The flow of these rules.
@@ -48,18 +49,19 @@ fn flow_within(
     fields: &[Field],
     scope: &JxScope,
     begun: u32,
+    texts: &Texts,
 ) -> Result<RawFlow, JxFlowFault>
     requires { AreWithin (length expr.now) fields.now }
     ensures { Gives (λ flow. flow) result
         (flow_within (said expr.now fields.now) (names_of scope.now) begun) }
 {
     let mut count = begun;
-    let rules = match worth_of(alloc, expr, fields, "rules", scope, &mut count)? {
+    let rules = match worth_of(alloc, expr, fields, "rules", scope, &mut count, texts)? {
         Some(rules) => rules,
         None => return Err(missing(alloc, None, "rules")),
     };
     let items = items_of(alloc, None, "rules", &rules)?;
-    let general = general_of(alloc, expr, fields, scope, &mut count)?;
+    let general = general_of(alloc, expr, fields, scope, &mut count, texts)?;
     let made = rules_of(alloc, &general, items)?;
     let keep = kept_in(alloc, scope)?;
     Ok(flow_by(alloc, keep, made)?)
@@ -71,8 +73,9 @@ fn flow_of(alloc: Global, expr: &Expr) -> Result<RawFlow, JxFlowFault>
 {
     match literal_at(expr, expr.nodes().len() - 1) {
         Some(fields) => {
-            let (scope, count) = definitions(alloc, expr, fields)?;
-            flow_within(alloc, expr, fields, &scope, count)
+            let texts = Texts::new();
+            let (scope, count) = definitions(alloc, expr, fields, &texts)?;
+            flow_within(alloc, expr, fields, &scope, count, &texts)
         }
         None => Err(bad(alloc, None, "")),
     }

@@ -15,7 +15,7 @@ use crate::variables::variables_of;
 use flow_types::{Memory, Rows, Text};
 use jx_meaning::JxScope;
 use jx_syntax::{Expr, Field, JxValue};
-use jx_values::text_in;
+use jx_values::{Texts, text_in};
 use mf_forms::words;
 use std::alloc::Global;
 
@@ -39,16 +39,17 @@ pub(crate) fn general_of(
     fields: &[Field],
     scope: &JxScope,
     count: &mut u32,
+    texts: &Texts,
 ) -> Result<General, JxFlowFault>
     requires { AreWithin (length expr.now) fields.now }
     ensures { Gives (λ g. g) result
         (general_by (said expr.now fields.now) (names_of scope.now) count.old) }
 {
-    let environment = worth_of(alloc, expr, fields, "environment", scope, count)?;
+    let environment = worth_of(alloc, expr, fields, "environment", scope, count, texts)?;
     let variables = variables_of(alloc, None, environment.as_ref())?;
-    let categories = worth_of(alloc, expr, fields, "categories", scope, count)?;
+    let categories = worth_of(alloc, expr, fields, "categories", scope, count, texts)?;
     let categories = categories_of(alloc, categories.as_ref())?;
-    let category = worth_of(alloc, expr, fields, "default_category", scope, count)?;
+    let category = worth_of(alloc, expr, fields, "default_category", scope, count, texts)?;
     let category = default_of(alloc, category.as_ref())?;
     Ok(General {
         variables,

@@ -13,6 +13,7 @@ use crate::reading::bad;
 use jx_eval::eval_counted;
 use jx_meaning::{EvalFault, JxScope};
 use jx_syntax::{Expr, Field, JxValue};
+use jx_values::Texts;
 use std::alloc::Global;
 
 /// What the expression of a node is worth.
@@ -22,12 +23,13 @@ fn evaluated(
     node: usize,
     scope: &JxScope,
     count: &mut u32,
+    texts: &Texts,
 ) -> Result<JxValue, JxFlowFault>
     requires { node < length expr.now }
     ensures { Gives (λ v. (plain v, count.new)) result
         (counted (evaluate (tree_at expr.now node) (names_of scope.now) count.old)) }
 {
-    match eval_counted(alloc, expr, node, scope, *count) {
+    match eval_counted(alloc, expr, node, scope, *count, texts) {
         Ok((value, begun)) => {
             *count = begun;
             Ok(value)
@@ -47,6 +49,7 @@ pub(crate) fn worth_of(
     key: &str,
     scope: &JxScope,
     count: &mut u32,
+    texts: &Texts,
 ) -> Result<Option<JxValue>, JxFlowFault>
     requires { AreWithin (length expr.now) fields.now }
     ensures { Gives (λ v. (option_map plain v, count.new)) result
@@ -54,7 +57,7 @@ pub(crate) fn worth_of(
 {
     match last_of(fields, key) {
         Some(node) => {
-            let value = evaluated(alloc, expr, node, scope, count)?;
+            let value = evaluated(alloc, expr, node, scope, count, texts)?;
             Ok(Some(value))
         }
         None => Ok(None),
@@ -68,13 +71,14 @@ fn define(
     fields: &[Field],
     scope: &mut JxScope,
     count: &mut u32,
+    texts: &Texts,
 ) -> Result<(), JxFlowFault>
     requires { AreWithin (length expr.now) fields.now }
     ensures { Gives (λ _. (names_of scope.new, count.new)) result
         (defined (said expr.now fields.now) (names_of scope.old) count.old) }
 {
     for field in fields {
-        let value = evaluated(alloc, expr, field.value, scope, count)?;
+        let value = evaluated(alloc, expr, field.value, scope, count, texts)?;
         scope.set(field.key.as_str(), value)?;
     }
     Ok(())
@@ -85,6 +89,7 @@ pub(crate) fn definitions(
     alloc: Global,
     expr: &Expr,
     fields: &[Field],
+    texts: &Texts,
 ) -> Result<(JxScope, u32), JxFlowFault>
     requires { AreWithin (length expr.now) fields.now }
     ensures { Gives (λ p. (names_of p.0, p.1)) result
@@ -95,7 +100,7 @@ pub(crate) fn definitions(
     match last_of(fields, "define") {
         Some(node) => match literal_at(expr, node) {
             Some(names) => {
-                define(alloc, expr, names, &mut scope, &mut count)?;
+                define(alloc, expr, names, &mut scope, &mut count, texts)?;
                 Ok((scope, count))
             }
             None => Err(bad(alloc, None, "define")),

@@ -10,14 +10,13 @@ use crate::measures::len_of;
 use crate::names::Names;
 use crate::ranges::range_of;
 use crate::templates::template_of;
+use crate::texts::Texts;
 use jx_meaning::{EvalFault, Function};
 use jx_syntax::JxValue;
 use std::alloc::Global;
 
-/// What a function comes to with these arguments, where these names have values. The arguments are
-/// read and not taken.
 #[tactic(auto, unfolding(jx_meaning::specs::Operations::applied))]
-pub fn applied<N: Names>(
+fn called<N: Names>(
     alloc: Global,
     function: Option<Function>,
     place: usize,
@@ -35,4 +34,20 @@ pub fn applied<N: Names>(
         Some(Function::Len) => len_of(place, given),
         None => Err(EvalFault::UnknownName(place)),
     }
+}
+
+/// What a function comes to with these arguments, where these names have values. The arguments are
+/// read and not taken.
+pub fn applied<N: Names>(
+    alloc: Global,
+    texts: &Texts,
+    function: Option<Function>,
+    place: usize,
+    names: &N,
+    given: &[&JxValue],
+) -> Result<JxValue, EvalFault>
+    ensures { Gives plain result (applied function place (N.names names.now)
+        (map (λ v. plain v.now) given.now)) }
+{
+    texts.counted(called(alloc, function, place, names, given))
 }

@@ -21,6 +21,7 @@ mod shown;
 mod size;
 mod slices;
 mod templates;
+mod texts;
 
 pub use copy::copied;
 pub use equality::{are_equal, find};
@@ -40,3 +41,4 @@ pub use ranges::range_of;
 pub use size::{Size, size_of};
 pub use slices::sliced;
 pub use templates::template_of;
+pub use texts::Texts;

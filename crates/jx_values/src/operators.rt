@@ -13,6 +13,7 @@ use crate::limits::{MOST_BYTES, may_be_list};
 use crate::numbers::arithmetic;
 use crate::order::compared;
 use crate::size::items_size;
+use crate::texts::Texts;
 use flow_types::{Rows, Text};
 use jx_meaning::EvalFault;
 use jx_syntax::{JxValue, Operator};
@@ -36,11 +37,11 @@ fn calculated(o: Operator, place: usize, a: &JxValue, b: &JxValue) -> Result<JxV
 }
 
 #[tactic(auto, using(crate::proofs::Sums::sums))]
-fn added_to_text(place: usize, x: Text, b: JxValue) -> Result<JxValue, EvalFault>
+fn added_to_text(texts: &Texts, place: usize, x: Text, b: JxValue) -> Result<JxValue, EvalFault>
     ensures { Gives plain result (added place (of.text x) (plain b)) }
 {
     match b {
-        JxValue::Text(y) => joined_texts(place, x, y),
+        JxValue::Text(y) => joined_texts(texts, place, x, y),
         _ => Err(EvalFault::WrongKind(place)),
     }
 }
@@ -55,9 +56,10 @@ fn added_to_list(place: usize, xs: Rows<JxValue>, b: JxValue) -> Result<JxValue,
     }
 }
 
-/// Two texts or two lists, one behind the other, or the sum of two numbers.
+/// Two texts or two lists, one behind the other, or the sum of two numbers. Of two texts the first is
+/// built on, and room is taken for the second.
 #[tactic(auto, using(crate::proofs::Sums::sums))]
-pub fn added(place: usize, a: JxValue, b: JxValue) -> Result<JxValue, EvalFault>
+pub fn added(texts: &Texts, place: usize, a: JxValue, b: JxValue) -> Result<JxValue, EvalFault>
     ensures { Gives plain result (added place (plain a) (plain b)) }
 {
     match a {
@@ -68,19 +70,20 @@ pub fn added(place: usize, a: JxValue, b: JxValue) -> Result<JxValue, EvalFault>
             }
             None => Err(EvalFault::WrongKind(place)),
         },
-        JxValue::Text(x) => added_to_text(place, x, b),
+        JxValue::Text(x) => added_to_text(texts, place, x, b),
         JxValue::List(xs) => added_to_list(place, xs, b),
         _ => Err(EvalFault::WrongKind(place)),
     }
 }
 
-fn joined_texts(place: usize, x: Text, y: Text) -> Result<JxValue, EvalFault>
+fn joined_texts(texts: &Texts, place: usize, x: Text, y: Text) -> Result<JxValue, EvalFault>
     ensures { Gives plain result (limited place (of.text (x ++ y))) }
 {
     let mut bytes = x.into_string();
     if bytes.len() + y.as_str().len() > MOST_BYTES {
         return Err(EvalFault::TooMuch(place));
     }
+    texts.reserve(y.as_str().len())?;
     bytes.push_str(y.as_str())?;
     Ok(JxValue::Text(Text::from_string(bytes)))
 }
@@ -102,6 +105,7 @@ fn joined_lists(place: usize, xs: Rows<JxValue>, ys: Rows<JxValue>) -> Result<Jx
 #[tactic(auto, using(crate::proofs::Calculation::operators), unfolding(jx_meaning::specs::Operations::operated))]
 pub fn operated(
     alloc: Global,
+    texts: &Texts,
     o: Operator,
     place: usize,
     a: &JxValue,
@@ -128,7 +132,12 @@ pub fn operated(
             Some(order) => Ok(JxValue::Truth(order.is_ge())),
             None => Err(EvalFault::WrongKind(place)),
         },
-        Operator::Add => added(place, copied(alloc, a)?, copied(alloc, b)?),
+        Operator::Add => added(
+            texts,
+            place,
+            copied(alloc, texts, a)?,
+            copied(alloc, texts, b)?,
+        ),
         _ => calculated(o, place, a, b),
     }
 }

@@ -10,6 +10,7 @@ ghost use Rattle.jx_meaning.specs.Lists.{indexed};
 use crate::copy::copied;
 use crate::equality::find;
 use crate::kinds::{entries_in, items_in, number_in, text_in};
+use crate::texts::Texts;
 use flow_types::Text;
 use jx_meaning::EvalFault;
 use jx_syntax::JxValue;
@@ -73,13 +74,19 @@ pub fn char_at(text: &str, wanted: usize) -> Option<char>
 }
 
 #[tactic(auto, using(crate::proofs::Places::parts))]
-fn item_at(alloc: Global, place: usize, items: &[JxValue], index: i64) -> Result<JxValue, EvalFault>
+fn item_at(
+    alloc: Global,
+    texts: &Texts,
+    place: usize,
+    items: &[JxValue],
+    index: i64,
+) -> Result<JxValue, EvalFault>
     ensures { Gives plain result (or_no_item place (at_index (map plain items.now) index)) }
 {
     match index_of(items.len(), index) {
         Some(at) => match items.get(at) {
             Some(item) => {
-                let copy = copied(alloc, item)?;
+                let copy = copied(alloc, texts, item)?;
                 Ok(copy)
             }
             None => Err(EvalFault::IndexRange(place)),
@@ -89,7 +96,13 @@ fn item_at(alloc: Global, place: usize, items: &[JxValue], index: i64) -> Result
 }
 
 #[tactic(auto, using(crate::proofs::Places::parts))]
-fn character_at(alloc: Global, place: usize, text: &str, index: i64) -> Result<JxValue, EvalFault>
+fn character_at(
+    alloc: Global,
+    texts: &Texts,
+    place: usize,
+    text: &str,
+    index: i64,
+) -> Result<JxValue, EvalFault>
     ensures { Gives plain result (or_no_item place (char_value (at_index (chars text.now) index))) }
 {
     match index_of(char_count(text), index) {
@@ -97,6 +110,7 @@ fn character_at(alloc: Global, place: usize, text: &str, index: i64) -> Result<J
             Some(c) => {
                 let mut bytes = String::new(alloc);
                 bytes.push(c)?;
+                texts.reserve(bytes.len())?;
                 Ok(JxValue::Text(Text::from_string(bytes)))
             }
             None => Err(EvalFault::IndexRange(place)),
@@ -109,6 +123,7 @@ fn character_at(alloc: Global, place: usize, text: &str, index: i64) -> Result<J
 #[tactic(auto, using(crate::proofs::Places::indices))]
 pub fn indexed(
     alloc: Global,
+    texts: &Texts,
     place: usize,
     value: &JxValue,
     index: &JxValue,
@@ -117,9 +132,9 @@ pub fn indexed(
 {
     match number_in(index) {
         Some(i) => match items_in(value) {
-            Some(items) => item_at(alloc, place, items, i),
+            Some(items) => item_at(alloc, texts, place, items, i),
             None => match text_in(value) {
-                Some(text) => character_at(alloc, place, text, i),
+                Some(text) => character_at(alloc, texts, place, text, i),
                 None => Err(EvalFault::WrongKind(place)),
             },
         },
@@ -127,7 +142,7 @@ pub fn indexed(
             Some(key) => match entries_in(value) {
                 Some(pairs) => match find(pairs, key) {
                     Some(found) => {
-                        let copy = copied(alloc, found)?;
+                        let copy = copied(alloc, texts, found)?;
                         Ok(copy)
                     }
                     None => Err(EvalFault::NoSuchKey(place)),

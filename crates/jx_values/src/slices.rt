@@ -14,6 +14,7 @@ use crate::kinds::{items_in, number_in, text_in};
 use crate::limits::{may_be_list, text_value};
 use crate::parts::{char_count, end_in};
 use crate::size::items_size;
+use crate::texts::Texts;
 use flow_types::{Memory, Rows, Text};
 use jx_meaning::EvalFault;
 use jx_syntax::JxValue;
@@ -50,12 +51,12 @@ fn part_of(items: &[JxValue], from: usize, to: usize) -> &[JxValue]
     part
 }
 
-fn copied_items(alloc: Global, items: &[JxValue]) -> Result<Rows<JxValue>, Memory>
+fn copied_items(alloc: Global, texts: &Texts, items: &[JxValue]) -> Result<Rows<JxValue>, Memory>
     ensures { IfOk result (λ copies. copies ≡ items.now) }
 {
     let mut copies = Rows::new(alloc);
     for item in items {
-        let copy = copied(alloc, item)?;
+        let copy = copied(alloc, texts, item)?;
         if copies.push(copy).is_err() {
             return Err(Memory);
         }
@@ -63,13 +64,18 @@ fn copied_items(alloc: Global, items: &[JxValue]) -> Result<Rows<JxValue>, Memor
     Ok(copies)
 }
 
-fn list_value(alloc: Global, place: usize, part: &[JxValue]) -> Result<JxValue, EvalFault>
+fn list_value(
+    alloc: Global,
+    texts: &Texts,
+    place: usize,
+    part: &[JxValue],
+) -> Result<JxValue, EvalFault>
     ensures { Gives plain result (limited place (of.list (values (map plain part.now)))) }
 {
     if !may_be_list(part.len(), items_size(part).around()) {
         return Err(EvalFault::TooMuch(place));
     }
-    let items = copied_items(alloc, part)?;
+    let items = copied_items(alloc, texts, part)?;
     Ok(JxValue::List(items))
 }
 
@@ -126,6 +132,7 @@ fn number_end(place: usize, end: Option<&JxValue>) -> Result<Option<i64>, EvalFa
 #[tactic(auto, using(crate::proofs::Cuts::slices))]
 pub fn sliced(
     alloc: Global,
+    texts: &Texts,
     place: usize,
     value: &JxValue,
     start: Option<&JxValue>,
@@ -141,7 +148,7 @@ pub fn sliced(
         Some(items) => {
             let from = start_in(items.len(), first);
             let to = stop_in(items.len(), last);
-            list_value(alloc, place, part_of(items, from, to))
+            list_value(alloc, texts, place, part_of(items, from, to))
         }
         None => match text_in(value) {
             Some(text) => {
@@ -149,6 +156,7 @@ pub fn sliced(
                 let from = start_in(len, first);
                 let to = stop_in(len, last);
                 let part = text_part(alloc, text, from, to.saturating_sub(from))?;
+                texts.reserve(part.as_str().len())?;
                 text_value(place, part)
             }
             None => Err(EvalFault::WrongKind(place)),

@@ -4,7 +4,7 @@ use jx_eval::{eval, eval_counted};
 use jx_meaning::{EvalFault, JxScope};
 use jx_syntax::{JxValue, parse, value_text};
 use jx_tokens::JxFault;
-use jx_values::are_equal;
+use jx_values::{Texts, are_equal};
 use std::alloc::{AllocError, Global};
 use thiserror::Error;
 
@@ -102,7 +102,8 @@ pub(crate) fn counted_shown(
     };
     let expr = parse(alloc, text.as_bytes())?;
     let whole = expr.nodes().len() - 1;
-    let (value, count) = eval_counted(alloc, &expr, whole, scope, begun)?;
+    let texts = Texts::new();
+    let (value, count) = eval_counted(alloc, &expr, whole, scope, begun, &texts)?;
     let shown = shown(alloc, &value)?;
     Ok(format!(in alloc; "{shown}, {count} begun\n")?)
 }

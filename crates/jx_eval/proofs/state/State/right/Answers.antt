@@ -9,6 +9,6 @@ returns-in-Add-clause-kept c = λ ts s. rw (c.in-Add.is, ← c.in_ok-first-in-Ad
 pub returns : goal.returns
 unfolding after
 returns c = record {
-  kept = λ ts s. rw (← c.value.ensures, ← c.value-in_default.ensures) (c.answer-in_default.ensures.kept ts s _ c.operated.ensures);
+  kept = λ ts s. rw (← c.value-first.ensures, ← c.value-second.ensures) (c.answer-in_default.ensures.kept ts s _ c.operated.ensures);
   room = c.answer-in_default.ensures.room;
 }
