@@ -66,7 +66,7 @@ UnbuiltCommandLines =
     × (unbuilt (codes "-g" ∷ codes "on_demand" ∷ codes "flow" ∷ []) ≡ Some false)
     × (unbuilt (codes "--storage-limit" ∷ codes "0" ∷ codes "-c" ∷ codes "flow" ∷ []) ≡ Some false)
     × (unbuilt (codes "-T" ∷ codes "wq" ∷ codes "flow" ∷ []) ≡ Some true)
-    × (unbuilt (codes "--generate" ∷ codes "3" ∷ []) ≡ Some true)
+    × (unbuilt (codes "--generate" ∷ codes "3" ∷ []) ≡ Some false)
 
 -- command lines of the worker and the foreman
 abbrev pub PeerCommandLines : Type 0

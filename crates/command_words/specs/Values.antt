@@ -1,13 +1,9 @@
 -- The values of arguments that a parse found.
-use Rattle.std.specs.Prelude.{ℕ, Bool, false, List, Option, Some, None, option_map, codes, is_some}
+use Rattle.std.specs.Prelude.{ℕ, Bool, false, List, Option, Some, None, option_map, codes}
 use Rattle.std.specs.Option.{option_map_or}
 use Rattle.std.specs.Str.{bytes_eq}
 use Rattle.clap.specs.Walk.{Row, Text, first_of}
 use Rattle.command_words.specs.Numbers.{number_in}
-
--- an option is given, with whatever value
-unfoldable pub is_given : List Row → Text → Bool
-is_given rows option = is_some (first_of option rows)
 
 -- an option is given with this value
 unfoldable pub has_value : List Row → Text → Text → Bool

@@ -2,7 +2,7 @@
 ghost use Rattle.std.specs.Prelude.{◌≡◌, ◌≤◌, IfSome, option_map};
 ghost use Rattle.clap.specs.Words.{first_of};
 ghost use Rattle.command_words.specs.Found.{rows_in};
-ghost use Rattle.command_words.specs.Values.{flag, has_value, is_given, number, optional_number};
+ghost use Rattle.command_words.specs.Values.{flag, has_value, number, optional_number};
 
 use crate::numbers::number_in;
 use clap::ArgMatches;
@@ -12,17 +12,6 @@ pub fn value_of<'a>(matches: &ArgMatches<'a>, name: &str) -> Option<&'a str>
     ensures { option_map (λ s. s.now) result ≡ first_of name.now (rows_in matches.now) }
 {
     matches.get_str(name)
-}
-
-/// Whether an option is given.
-#[tactic(auto, unfolding(crate::specs::Values::is_given))]
-pub fn is_given(matches: &ArgMatches<'_>, option: &str) -> bool
-    ensures { result ≡ is_given (rows_in matches.now) option.now }
-{
-    match value_of(matches, option) {
-        Some(_) => true,
-        None => false,
-    }
 }
 
 /// Whether an option is given with this value.

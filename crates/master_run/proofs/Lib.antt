@@ -14,3 +14,4 @@ pub mod Reprinted
 pub mod Refusals
 pub mod Unread
 pub mod Unneeded
+pub mod TableBytes

@@ -5,6 +5,7 @@ use Rattle.flow_types.specs.declared.records.Record.{Record}
 use Rattle.outside.specs.declared.fault.Fault.{Fault}
 use Rattle.outside.specs.declared.fault.Fault.TheVariants as faults
 use Rattle.outside.specs.Sent.{Sends}
+use Rattle.command_words.specs.declared.options.Options.{Options}
 use Rattle.report.specs.declared.cause.Cause.{Cause}
 use Rattle.report.specs.declared.cause.Cause.TheVariants.{SinkFault}
 use Rattle.report.specs.Causes.{is_end, kind_of}
@@ -17,9 +18,9 @@ false_is_true : {A : Type 0} → false ≡ true → A
 false_is_true wrong = absurd (cc)
 
 -- the sink failed
-failed_told : (P : Plan) (H : List Record) (b a : ℕ) (old new : List ℕ) (cause : Cause) (ends : Bool) → is_end (kind_of cause) ≡ ends → b < a → ((n : ℕ) × (new ≡ old ++ take n (text_of P H cause)))
-    → Told P H b a old new cause (if ends then SinkFault b a else cause)
-failed_told P H b a old new cause true is rose part = record {
+failed_told : (C : Result Options Cause) (P : Plan) (H : List Record) (b a : ℕ) (old new : List ℕ) (cause : Cause) (ends : Bool) → is_end (kind_of cause) ≡ ends → b < a → ((n : ℕ) × (new ≡ old ++ take n (text_of C P H cause)))
+    → Told C P H b a old new cause (if ends then SinkFault b a else cause)
+failed_told C P H b a old new cause true is rose part = record {
   told = cause;
   is_own = λ own. refl;
   is_standing = λ printed. true_is_false printed;
@@ -27,7 +28,7 @@ failed_told P H b a old new cause true is rose part = record {
   of_end = λ run_end. false_is_true run_end;
   part = part;
 }
-failed_told P H b a old new cause false is rose part = record {
+failed_told C P H b a old new cause false is rose part = record {
   told = cause;
   is_own = λ own. refl;
   is_standing = λ printed. refl;
@@ -37,9 +38,9 @@ failed_told P H b a old new cause false is rose part = record {
 }
 
 -- what is told once the sink answered
-answered : (P : Plan) (H : List Record) (b a : ℕ) (old new : List ℕ) (cause : Cause) (printed : Result (Unit {0}) Fault) → Sends printed (text_of P H cause) old new → (IsErrOf printed faults.Failed → b < a)
-    → Told P H b a old new cause (printed_cause b a cause printed)
-answered P H b a old new cause (Ok done) sends rose = record {
+answered : (C : Result Options Cause) (P : Plan) (H : List Record) (b a : ℕ) (old new : List ℕ) (cause : Cause) (printed : Result (Unit {0}) Fault) → Sends printed (text_of C P H cause) old new → (IsErrOf printed faults.Failed → b < a)
+    → Told C P H b a old new cause (printed_cause b a cause printed)
+answered C P H b a old new cause (Ok done) sends rose = record {
   told = cause;
   is_own = λ own. refl;
   is_standing = λ printed. refl;
@@ -47,8 +48,8 @@ answered P H b a old new cause (Ok done) sends rose = record {
   of_end = λ run_end. (refl, sends.all);
   part = sends.some;
 }
-answered P H b a old new cause (Err faults.Failed) sends rose = failed_told P H b a old new cause (is_end (kind_of cause)) refl (rose refl) sends.some
-answered P H b a old new cause (Err faults.Memory) sends rose = record {
+answered C P H b a old new cause (Err faults.Failed) sends rose = failed_told C P H b a old new cause (is_end (kind_of cause)) refl (rose refl) sends.some
+answered C P H b a old new cause (Err faults.Memory) sends rose = record {
   told = cause;
   is_own = λ own. refl;
   is_standing = λ printed. true_is_false printed;
@@ -57,8 +58,8 @@ answered P H b a old new cause (Err faults.Memory) sends rose = record {
   part = sends.some;
 }
 
-pub told_printed : (P : Plan) (H : List Record) (b a : ℕ) (line old new : List ℕ) (cause stands : Cause) (printed : Result (Unit {0}) Fault) → line ≡ text_of P H cause → stands ≡ printed_cause b a cause printed
-    → Sends printed line old new → (IsErrOf printed faults.Failed → b < a) → Told P H b a old new cause stands
-told_printed P H b a line old new cause stands printed is_line is sends rose =
-    let whole_line : Sends printed (text_of P H cause) old new = subst (λ (l : List ℕ). Sends printed l old new) is_line sends in
-    subst (λ (s : Cause). Told P H b a old new cause s) (sym is) (answered P H b a old new cause printed whole_line rose)
+pub told_printed : (C : Result Options Cause) (P : Plan) (H : List Record) (b a : ℕ) (line old new : List ℕ) (cause stands : Cause) (printed : Result (Unit {0}) Fault) → line ≡ text_of C P H cause → stands ≡ printed_cause b a cause printed
+    → Sends printed line old new → (IsErrOf printed faults.Failed → b < a) → Told C P H b a old new cause stands
+told_printed C P H b a line old new cause stands printed is_line is sends rose =
+    let whole_line : Sends printed (text_of C P H cause) old new = subst (λ (l : List ℕ). Sends printed l old new) is_line sends in
+    subst (λ (s : Cause). Told C P H b a old new cause s) (sym is) (answered C P H b a old new cause printed whole_line rose)

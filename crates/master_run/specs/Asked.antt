@@ -1,5 +1,5 @@
 -- What words, environment and files ask for, or the first refusal. Each stage is asked once the ones before it let pass.
-use Rattle.std.specs.Prelude.{ℕ, List, map, string_bytes, false, Result, Ok, Err, ok_or}
+use Rattle.std.specs.Prelude.{ℕ, List, map, string_bytes, false, Option, Some, None, Result, Ok, Err, ok_or}
 use Rattle.std.proofs.Common.{String, Global}
 use Rattle.flow_types.specs.declared.flow.RawFlow.{RawFlow}
 use Rattle.flow_types.specs.declared.plan.Plan.{Plan}
@@ -7,6 +7,7 @@ use Rattle.mf_text.specs.declared.fault.MakeFault.{MakeFault}
 use Rattle.mf_rules.specs.Flow.{flow_of, given_pairs}
 use Rattle.jx_flow.specs.declared.fault.JxFlowFault.{JxFlowFault}
 use Rattle.jx_flow.specs.Flow.{flow_of_text}
+use Rattle.flow_gen.specs.Generated.{generated}
 use Rattle.rule_graph.specs.declared.faults.GraphFault.{GraphFault}
 use Rattle.rule_graph.specs.Faults.{plan_of}
 use Rattle.outside.specs.Files.{Files}
@@ -16,13 +17,15 @@ use Rattle.run_history.specs.declared.options.Mode.TheVariants as run_modes
 use Rattle.command_words.specs.declared.options.Mode.{Mode}
 use Rattle.command_words.specs.declared.options.Mode.TheVariants.{Never, RefCount, OnDemand}
 use Rattle.command_words.specs.declared.options.Options.{Options}
+use Rattle.command_words.specs.declared.options.Flow.{Flow}
+use Rattle.command_words.specs.declared.options.Flow.TheVariants.{File, Generated}
 use Rattle.command_words.specs.declared.options.Language.{Language}
 use Rattle.command_words.specs.declared.options.Language.TheVariants as language
 use Rattle.report.specs.declared.cause.FlowFault.TheVariants.{Make, Jx, Graph}
 use Rattle.report.specs.declared.cause.Cause.{Cause}
 use Rattle.report.specs.declared.cause.Cause.TheVariants.{FlowMissing, FlowRefused}
 use Rattle.master_run.specs.declared.ask.Ask.{Ask}
-use Rattle.master_run.specs.Words.{and_then, chosen, flow_name, flow_language}
+use Rattle.master_run.specs.Words.{and_then, chosen, generated_name}
 use Rattle.master_run.specs.LogNames.{with_log_name}
 use Rattle.master_run.specs.Needs.{with_needs}
 
@@ -54,13 +57,26 @@ read_rules name (Err fault) = Err (FlowRefused name (Graph fault))
 abbrev pub flow_plan : Language → List (List ℕ × List ℕ) → List ℕ → List ℕ → Result Plan Cause
 flow_plan language env name text = and_then (read_flow language env name text) (λ flow. read_rules name (plan_of flow))
 
--- the plan, where the log can have its name and no rule needs more than there is by these options
-abbrev pub checked : List ℕ → List ℕ → RunOptions → Plan → Result Plan Cause
+-- the plan of the flow of so many rules that is made up
+abbrev pub generated_rules : ℕ → Result Plan Cause
+generated_rules rules = read_rules generated_name (plan_of (generated rules))
+
+-- the plan, where the log can have its name beside that of the flow file, if there is one, and no rule needs more than there is by these options
+abbrev pub checked : List ℕ → Option (List ℕ) → RunOptions → Plan → Result Plan Cause
 checked log name O P = and_then (with_log_name log name P) (with_needs O)
 
 -- the plan of the flow file of this name, where its log and its needs let it be run
 abbrev pub file_plan : Language → List (List ℕ × List ℕ) → Files → List ℕ → List ℕ → RunOptions → Result Plan Cause
-file_plan language env files name log O = and_then (and_then (flow_text files name) (flow_plan language env name)) (checked log name O)
+file_plan language env files name log O = and_then (and_then (flow_text files name) (flow_plan language env name)) (checked log (Some name) O)
+
+-- the plan of the flow of so many rules that is made up, where its log and its needs let it be run; no file is read
+abbrev pub generated_plan : ℕ → List ℕ → RunOptions → Result Plan Cause
+generated_plan rules log O = and_then (generated_rules rules) (checked log None O)
+
+-- the plan of this flow, where its log and its needs let it be run
+abbrev pub plan_by : Flow → List (List ℕ × List ℕ) → Files → List ℕ → RunOptions → Result Plan Cause
+plan_by (File name language) env files log O = file_plan language env files name log O
+plan_by (Generated rules) env files log O = generated_plan rules log O
 
 -- when a run collects files, by the words
 abbrev pub run_mode : Mode → RunMode
@@ -83,7 +99,7 @@ ask_by options (Err cause) = Err cause
 
 -- what these options ask for
 abbrev pub asked_by : List (List ℕ × List ℕ) → Files → Options → Result Ask Cause
-asked_by env files options = ask_by options (file_plan (flow_language options.flow) env files (flow_name options.flow) options.log (run_options options))
+asked_by env files options = ask_by options (plan_by options.flow env files options.log (run_options options))
 
 -- what words, environment and files ask for
 abbrev pub asked : List (List ℕ) → List (List ℕ × List ℕ) → Files → Result Ask Cause

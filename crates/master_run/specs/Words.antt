@@ -1,10 +1,8 @@
 -- What the words of a command line choose.
-use Rattle.std.specs.Prelude.{ℕ, List, Result, Ok, Err, ok_or, codes, if◌then◌else◌}
+use Rattle.std.specs.Prelude.{ℕ, Bool, true, false, List, Result, Ok, Err, ok_or, codes, if◌then◌else◌}
 use Rattle.command_words.specs.declared.options.Options.{Options}
 use Rattle.command_words.specs.declared.options.Flow.{Flow}
 use Rattle.command_words.specs.declared.options.Flow.TheVariants.{File, Generated}
-use Rattle.command_words.specs.declared.options.Language.{Language}
-use Rattle.command_words.specs.declared.options.Language.TheVariants.{Make}
 use Rattle.command_words.specs.Choices.{options_of}
 use Rattle.report.specs.declared.cause.Cause.{Cause}
 use Rattle.report.specs.declared.cause.Cause.TheVariants.{Usage, Unbuilt}
@@ -22,12 +20,21 @@ built options = if options.unbuilt then Err (Unbuilt 0) else Ok options
 abbrev pub chosen : List (List ℕ) → Result Options Cause
 chosen words = and_then (ok_or (options_of words) Usage) built
 
--- the language of the flow's text; one that is made up has none, and counts as Makeflow text
-abbrev pub flow_language : Flow → Language
-flow_language (File name language) = language
-flow_language (Generated rules) = Make
+-- the name by which one speaks of a flow that is made up
+abbrev pub generated_name : List ℕ
+generated_name = codes "generated"
 
 -- the name of the flow
 abbrev pub flow_name : Flow → List ℕ
 flow_name (File name language) = name
-flow_name (Generated rules) = codes "generated"
+flow_name (Generated rules) = generated_name
+
+-- the flow is made up
+abbrev pub is_generated : Flow → Bool
+is_generated (File name language) = false
+is_generated (Generated rules) = true
+
+-- the words make the flow up
+abbrev pub makes_up : Result Options Cause → Bool
+makes_up (Ok options) = is_generated options.flow
+makes_up (Err cause) = false

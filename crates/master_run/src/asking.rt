@@ -1,20 +1,20 @@
 //! From the words and the flow file to what is asked for.
-ghost use Rattle.std.specs.Prelude.{◌≡◌, ◌≢◌, ◌≤◌, ◌<◌, ℕ, List, IfOk, IsErrOf, Ok, Err};
+ghost use Rattle.std.specs.Prelude.{◌≡◌, ◌≢◌, ◌≤◌, ◌<◌, ℕ, List, IfOk, IsErrOf, Ok};
 ghost use Rattle.command_words.specs.declared.options.Options.{Options as OptionsValue};
 ghost use Rattle.flow_types.specs.Plans.{IsValid};
 ghost use Rattle.mf_rules.specs.Flow.{given_pairs};
 ghost use Rattle.outside.specs.Disk.{IsImage, LeavesOnly, Within};
 ghost use Rattle.file_store.specs.Outputs.{file_name};
 ghost use Rattle.local_run.specs.Ends.{FitsHere};
-ghost use Rattle.master_run.specs.declared.asking.Refusal.{Refusal as RefusalValue};
-ghost use Rattle.master_run.specs.Asked.{checked, choice, file_plan, request, run_mode, run_options};
+ghost use Rattle.master_run.specs.Asked.{checked, choice, file_plan, generated_plan, plan_by};
+ghost use Rattle.master_run.specs.Asked.{request, run_mode, run_options};
 ghost use Rattle.master_run.specs.Needs.{NeedsFit, with_needs};
 ghost use Rattle.master_run.specs.Stages.{Stage, WordsStage, OfFlow, SaysRefusal, SiteTrace};
-ghost use Rattle.master_run.specs.Words.{flow_language, flow_name};
+ghost use Rattle.master_run.specs.Words.{flow_name, generated_name};
 
 use crate::ask::Ask;
 use crate::flow_file::read_file;
-use crate::flow_plan::flow_plan;
+use crate::flow_plan::{flow_plan, generated_rules};
 use crate::log_name::with_log_name;
 use crate::needs::{Excess, least_excess};
 use command_words::{Flow, Language, Options, WordsFault, read_words};
@@ -35,8 +35,8 @@ pub enum Refusal {
     Memory,
 }
 
-// What the words choose, if all of it is built.
-fn chosen(alloc: Global, words: &[String]) -> Result<Options, Refusal>
+/// What the words choose, if all of it is built.
+pub fn chosen(alloc: Global, words: &[String]) -> Result<Options, Refusal>
     ensures stage { Stage (choice words.now) result }
     ensures words { WordsStage (choice words.now) result }
     ensures kind { SaysRefusal result }
@@ -53,28 +53,6 @@ fn chosen(alloc: Global, words: &[String]) -> Result<Options, Refusal>
         }
         Err(WordsFault::Usage) => Err(Refusal::Said(Cause::Usage)),
         Err(WordsFault::Memory) => Err(Refusal::Memory),
-    }
-}
-
-fn language_of_flow(flow: &Flow) -> Language
-    ensures { result ≡ flow_language flow.now }
-{
-    match flow {
-        Flow::File { name: _, language } => *language,
-        Flow::Generated { rules: _ } => Language::Make,
-    }
-}
-
-fn name_of_flow(alloc: Global, flow: Flow) -> Result<Name, Refusal>
-    ensures name { IfOk result (λ name. name ≡ flow_name flow) }
-    ensures memory { (refusal : RefusalValue) → result ≡ Err refusal → refusal ≡ Refusal.Memory }
-{
-    match flow {
-        Flow::File { name, language: _ } => Ok(name),
-        Flow::Generated { rules: _ } => match Name::of(alloc, b"generated") {
-            Ok(name) => Ok(name),
-            Err(_) => Err(Refusal::Memory),
-        },
     }
 }
 
@@ -100,7 +78,7 @@ fn with_needs(plan: Plan, options: &RunOptions) -> Result<Plan, Refusal>
 fn checked(
     alloc: Global,
     log: &Name,
-    flow: Name,
+    flow: Option<Name>,
     options: &RunOptions,
     plan: Plan,
 ) -> Result<Plan, Refusal>
@@ -153,8 +131,57 @@ fn file_plan<S: Site>(
         Err(Fault::Memory) => return Err(Refusal::Memory),
     };
     match flow_plan(alloc, language, name, text, env) {
-        Ok(plan) => checked(alloc, log, flow, options, plan),
+        Ok(plan) => checked(alloc, log, Some(flow), options, plan),
         Err(refusal) => Err(refusal),
+    }
+}
+
+// The plan of the flow of so many rules that is made up, where its log and its needs let it be run.
+fn generated_plan(
+    alloc: Global,
+    rules: u32,
+    log: &Name,
+    options: &RunOptions,
+) -> Result<Plan, Refusal>
+    ensures stage { Stage (generated_plan rules log.now options.now) result }
+    ensures flow { OfFlow generated_name result }
+    ensures kind { SaysRefusal result }
+    ensures valid { IfOk result IsValid }
+    ensures apart { IfOk result (λ plan. (f : ℕ) → file_name plan f ≢ log.now) }
+    ensures fits { IfOk result (NeedsFit options.now.local) }
+    ensures no_site { IsErrOf result Refusal.Site → ⊥ }
+{
+    match generated_rules(alloc, rules) {
+        Ok(plan) => checked(alloc, log, None, options, plan),
+        Err(refusal) => Err(refusal),
+    }
+}
+
+// The plan of this flow, where its log and its needs let it be run.
+fn plan_by<S: Site>(
+    alloc: Global,
+    flow: Flow,
+    log: &Name,
+    options: &RunOptions,
+    env: &[(String, String)],
+    site: &mut S,
+) -> Result<Plan, Refusal>
+    ensures stage { S.tells → Stage
+        (plan_by flow (given_pairs env.now) (S.files site.old) log.now options.now) result }
+    ensures flow { OfFlow (flow_name flow) result }
+    ensures kind { SaysRefusal result }
+    ensures valid { IfOk result IsValid }
+    ensures apart { IfOk result (λ plan. (f : ℕ) → file_name plan f ≢ log.now) }
+    ensures fits { IfOk result (NeedsFit options.now.local) }
+    ensures files { S.tells → S.files site.new ≡ S.files site.old }
+    ensures crash { S.tells → Within (S.may_leave site.old) (S.may_leave site.new) }
+    ensures any_moment { S.tells → LeavesOnly S.moment S.images_since site.old site.new
+        (IsImage (S.may_leave site.old)) }
+    ensures trace { SiteTrace (S.count site.old) (S.count site.new) result }
+{
+    match flow {
+        Flow::File { name, language } => file_plan(alloc, language, name, log, options, env, site),
+        Flow::Generated { rules } => generated_plan(alloc, rules, log, options),
     }
 }
 
@@ -217,12 +244,7 @@ pub fn read_ask<S: Site>(
         service,
         ..
     } = options;
-    let language = language_of_flow(&flow);
-    let name = match name_of_flow(alloc, flow) {
-        Ok(name) => name,
-        Err(refusal) => return Err(refusal),
-    };
-    match file_plan(alloc, language, name, &log, &goes_by, env, site) {
+    match plan_by(alloc, flow, &log, &goes_by, env, site) {
         Ok(plan) => Ok(Ask {
             plan,
             work,

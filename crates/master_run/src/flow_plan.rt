@@ -1,17 +1,19 @@
-//! From the text of a flow to its plan.
+//! From the text of a flow, or from a number of rules, to its plan.
 ghost use Rattle.std.specs.Prelude.{◌≡◌, List, [], IfOk, IsErrOf};
 ghost use Rattle.flow_types.specs.Flows.{FitsLimits};
 ghost use Rattle.flow_types.specs.Plans.{IsValid};
 ghost use Rattle.mf_rules.specs.Flow.{given_pairs};
 ghost use Rattle.rule_graph.specs.Faults as graph;
 ghost use Rattle.command_words.specs.declared.options.Language.TheVariants.{Make, Jx};
-ghost use Rattle.master_run.specs.Asked.{flow_plan, read_rules};
+ghost use Rattle.master_run.specs.Asked.{flow_plan, generated_rules, read_rules};
 ghost use Rattle.master_run.specs.Stages.{Stage, OfFlow, SaysRefusal};
 ghost use Rattle.master_run.specs.Stages.{make_refusal, jx_refusal, graph_refusal};
+ghost use Rattle.master_run.specs.Words.{generated_name};
 
 use crate::asking::Refusal;
 use command_words::Language;
-use flow_types::{Bytes, Name, Plan, RawFlow};
+use flow_gen::generate;
+use flow_types::{Bytes, Memory, Name, Plan, RawFlow};
 use jx_flow::{JxFlowFault, read_jx};
 use mf_rules::read_make;
 use mf_text::MakeFault;
@@ -125,5 +127,32 @@ pub fn flow_plan(
     match language {
         Language::Make => make_plan(alloc, name, text, env),
         Language::Jx => jx_plan(alloc, name, text),
+    }
+}
+
+// The name by which one speaks of a flow that is made up.
+fn generated_name(alloc: Global) -> Result<Name, Memory>
+    ensures { IfOk result (λ name. name ≡ generated_name) }
+{
+    match Name::of(alloc, b"generated") {
+        Ok(name) => Ok(name),
+        Err(_) => Err(Memory),
+    }
+}
+
+/// The plan of the flow of so many rules that is made up.
+pub fn generated_rules(alloc: Global, rules: u32) -> Result<Plan, Refusal>
+    ensures stage { Stage (generated_rules rules) result }
+    ensures flow { OfFlow generated_name result }
+    ensures kind { SaysRefusal result }
+    ensures valid { IfOk result IsValid }
+    ensures no_site { IsErrOf result Refusal.Site → ⊥ }
+{
+    let Ok(name) = generated_name(alloc) else {
+        return Err(Refusal::Memory);
+    };
+    match generate(alloc, rules) {
+        Ok(flow) => rules_plan(alloc, name, flow),
+        Err(Memory) => Err(Refusal::Memory),
     }
 }

@@ -13,6 +13,7 @@ mod needs;
 mod printing;
 mod rises;
 mod running;
+mod stored;
 mod top;
 
 pub use top::{Ended, makeflow_top};

@@ -316,7 +316,7 @@ pub fn makeflow_top<
     // Where the sink tells its bytes, they grew by the text of the cause, whole unless the sink's
     // count rose or memory was wanting, and then by a first part of a text. The end of what was
     // asked for is answered only where its text was printed whole.
-    ensures text { O.tells → Prints
+    ensures text { O.tells → Prints (choice words.now)
         (λ plan. S.tells → IsPlanOf (request words.now env.now (S.files site)) plan)
         result.records (O.count out.old) (O.count out.new) (O.bytes out.old) (O.bytes out.new)
         result.cause }
@@ -354,7 +354,7 @@ pub fn makeflow_top<
         records,
         plan,
     } = course;
-    let cause = tell(alloc, &plan, records.as_slice(), cause, out);
+    let cause = tell(alloc, words, &plan, records.as_slice(), cause, out);
     Ended {
         status: cause.status(),
         cause,

@@ -12,7 +12,6 @@ use Rattle.command_words.specs.declared.options.Work.TheVariants as works
 use Rattle.report.specs.declared.cause.Cause.{Cause}
 use Rattle.report.specs.declared.cause.Cause.TheVariants as causes
 use Rattle.report.specs.Causes.{is_cut, kind_of}
-use Rattle.master_run.specs.Counts.{Counts}
 use Rattle.master_run.specs.Ends.{GoesOn, counts}
 use Rattle.local_run.specs.Ends.{failed_count}
 use Rattle.master_run.specs.Headline.{is_run_end}

@@ -1,4 +1,4 @@
-use Rattle.std.proofs.Common.{◌≡◌, ◌≤◌, ◌<◌, ◌∙◌, inl, ℕ, List, length, map, sum, sum_by, ap, sym, subst, refl, arith, true, true≢false}
+use Rattle.std.proofs.Common.{◌≡◌, ◌<◌, ◌∙◌, inl, ℕ, List, map, sum, sum_by, ap, sym, subst, refl, arith, true, true≢false}
 use Rattle.flow_types.specs.declared.plan.Plan.{Plan}
 use Rattle.flow_types.specs.declared.records.Record.{Record}
 use Rattle.worker_pool.specs.Crews.{AllSure, AllTell}
@@ -6,7 +6,6 @@ use Rattle.outside.proofs.Moments.{weakened}
 use Rattle.report.specs.declared.cause.Cause.{Cause}
 use Rattle.report.specs.declared.cause.Cause.TheVariants as causes
 use Rattle.report.specs.Causes.{is_cut, kind_of}
-use Rattle.master_run.specs.Counts.{Counts}
 use Rattle.std.proofs.lemmas.List.Sums.{sum-map}
 use Rattle.local_run.specs.Runs.{HasCauses}
 use Rattle.master_run.specs.Ends.{OneRose, counts}

@@ -1,4 +1,4 @@
-use Rattle.std.proofs.Common.{◌≡◌, ◌∙◌, ℕ, List, drop, map, sum_by, [], Err, Result, ap, sym, subst, arith, true, true≢false}
+use Rattle.std.proofs.Common.{◌≡◌, ◌∙◌, ℕ, List, drop, map, [], Err, Result, ap, sym, subst, arith, true, true≢false}
 use Rattle.outside.specs.Files.{Files}
 use Rattle.flow_types.specs.declared.plan.Plan.{Plan}
 use Rattle.flow_types.specs.declared.records.Record.{Record}

@@ -8,7 +8,7 @@ use Rattle.report.specs.declared.cause.Kind.{Kind}
 use Rattle.report.specs.declared.cause.Kind.TheVariants as kinds
 use Rattle.report.specs.Causes.{kind_of, was_read}
 use Rattle.master_run.specs.Prints.{Told, is_of_plan}
-use Rattle.master_run.specs.Asked.{request, run_mode, run_options}
+use Rattle.master_run.specs.Asked.{choice, request, run_mode, run_options}
 use Rattle.master_run.specs.Headline.{IsPlanOf, IsWithinLimit, LogsFailed}
 use Rattle.master_run.specs.Serves.{IsCut}
 use Rattle.master_run.proofs.Reading.{entry_before}
@@ -119,14 +119,15 @@ returns-clause-completes g c told ask asked H spelled =
 
 own_read : (kind : Kind) → is_of_plan kind ≡ true → was_read kind ≡ true
 own_read kinds.LogPrinted own = refl
+own_read kinds.Completed own = refl
 own_read kinds.RuleFailed own = refl
 own_read kinds.WrongFile own = refl
 own_read _ own = absurd (true≢false (sym own))
 
 pub returns-clause-text : goal.returns-clause-text
 returns-clause-text g c told =
-    let t : Told c.follow-course.result.plan c.follow-course.result.records (g.O.Sink.count c.args.out.now) (g.O.Sink.count c.tell-cause.new.out) (g.O.Sink.bytes c.args.out.now) (g.O.Sink.bytes c.tell-cause.new.out) c.follow-course.result.cause c.tell-cause.result =
-    subst (λ (xs : List Record). Told c.follow-course.result.plan xs (g.O.Sink.count c.args.out.now) (g.O.Sink.count c.tell-cause.new.out) (g.O.Sink.bytes c.args.out.now) (g.O.Sink.bytes c.tell-cause.new.out) c.follow-course.result.cause c.tell-cause.result) c.as_slice.ensures (c.tell-cause.ensures.told told) in
+    let t : Told (choice c.args.words.now) c.follow-course.result.plan c.follow-course.result.records (g.O.Sink.count c.args.out.now) (g.O.Sink.count c.tell-cause.new.out) (g.O.Sink.bytes c.args.out.now) (g.O.Sink.bytes c.tell-cause.new.out) c.follow-course.result.cause c.tell-cause.result =
+    subst (λ (xs : List Record). Told (choice c.args.words.now) c.follow-course.result.plan xs (g.O.Sink.count c.args.out.now) (g.O.Sink.count c.tell-cause.new.out) (g.O.Sink.bytes c.args.out.now) (g.O.Sink.bytes c.tell-cause.new.out) c.follow-course.result.cause c.tell-cause.result) c.as_slice.ensures (c.tell-cause.ensures.told told) in
     record {
       plan = c.follow-course.result.plan;
       told = t.told;

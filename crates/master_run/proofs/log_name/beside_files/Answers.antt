@@ -3,7 +3,7 @@ use Rattle.std.specs.Option.{option_copied}
 use Rattle.flow_types.specs.declared.plan.FileRow.{FileRow}
 use Rattle.master_run.specs.LogNames.{clash}
 use Rattle.master_run.proofs.Folders.{none_named}
-use Rattle.master_run.proofs.log_name.with_log_name.Goals as goal
+use Rattle.master_run.proofs.log_name.beside_files.Goals as goal
 
 pub returns-clause-apart : goal.returns-clause-apart
 returns-clause-apart c =
