@@ -9,7 +9,8 @@ use Rattle.byte_fields.specs.Reading.{number_at}
 use Rattle.byte_fields.proofs.Fields.{u32_is_field}
 use Rattle.wq_messages.specs.Spelling.{most_body}
 use Rattle.byte_fields.proofs.Fields.{IsBytes-take, IsBytes-drop}
-use Rattle.wq_frames.specs.Frames.{whole, front, front_by, frame}
+use Rattle.message_forms.specs.Streams.{frame}
+use Rattle.wq_frames.specs.Frames.{whole, front, front_by}
 use Rattle.wq_frames.specs.Fronts.{FrontsAreFrames, FramesAreTaken}
 
 parts : (b1 b2 b3 : Bool) (n : ℕ) (behind body rest : List ℕ) → front_by b1 b2 b3 n behind ≡ whole body rest → (b1 ≡ false) × (b2 ≡ false) × (b3 ≡ false) × (take n behind ≡ body) × (drop n behind ≡ rest)

@@ -1,14 +1,10 @@
--- Frames: a length in four bytes, and a body of that length.
-use Rattle.std.proofs.Common.{◌≡◌, ◌+◌, ℕ, Bool, true, false, cond, ltb, List, ◌++◌, length, take, drop, Result, Ok, Err}
-use Rattle.byteorder.specs.Endian.{big_bytes, big_number}
+-- What the bytes of a stream begin with.
+use Rattle.std.proofs.Common.{◌≡◌, ◌+◌, ℕ, Bool, true, false, cond, ltb, List, length, take, drop, Result, Ok, Err}
+use Rattle.byteorder.specs.Endian.{big_number}
 use Rattle.bytes.specs.Filled.{Filled}
 use Rattle.wq_messages.specs.Spelling.{most_body}
 use Rattle.wq_frames.specs.declared.codec.FrameFault.{FrameFault}
 use Rattle.wq_frames.specs.declared.codec.FrameFault.TheVariants.{TooLong, Memory}
-
--- a body with its length
-abbrev pub frame : List ℕ → List ℕ
-frame body = big_bytes 4 (length body) ++ body
 
 -- what stands at the front of a stream
 pub data Front : Type 0 where
@@ -27,7 +23,7 @@ front_by no_length long short n behind =
     (cond long (too_long n)
     (cond short part (whole (take n behind) (drop n behind))))
 
--- what the bytes of a stream begin with
+-- what these bytes begin with
 abbrev pub front : List ℕ → Front
 front bytes =
     front_by (ltb (length bytes) 4) (ltb most_body (big_number 4 bytes))

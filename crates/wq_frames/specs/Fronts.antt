@@ -3,7 +3,8 @@ use Rattle.std.specs.Prelude.{◌≡◌, ◌↔◌, ◌≤◌, ◌<◌, ◌^◌,
 use Rattle.byteorder.specs.Endian.{big_number}
 use Rattle.byte_fields.specs.Laws.{IsBytes}
 use Rattle.wq_messages.specs.Spelling.{most_body}
-use Rattle.wq_frames.specs.Frames.{frame, front, whole, part}
+use Rattle.message_forms.specs.Streams.{frame}
+use Rattle.wq_frames.specs.Frames.{front, whole, part}
 
 -- What is taken off the front is a frame of at most so many bytes.
 abbrev pub FrontsAreFrames : Type 0

@@ -1,11 +1,10 @@
 -- Whole runs of a feeder.
-use Rattle.std.specs.Prelude.{◌≡◌, ◌≤◌, ℕ, List, [], ◌∷◌, ◌++◌, length, flat_map, Ok, true, false, None}
-use Rattle.std.specs.List.{AllByRecursion}
+use Rattle.std.specs.Prelude.{◌≡◌, ℕ, List, [], ◌∷◌, ◌++◌, Ok, true, false, None}
 use Rattle.byte_fields.specs.Laws.{IsBytes}
 use Rattle.flow_types.specs.declared.messages.Message.{Message}
-use Rattle.wq_messages.specs.Spelling.{spelling, most_body, HasSpelling}
 use Rattle.wq_messages.specs.Views.{shown}
-use Rattle.wq_frames.specs.Frames.{frame, BeginsNoFrame}
+use Rattle.message_forms.specs.Streams.{IsStream}
+use Rattle.wq_frames.specs.Frames.{BeginsNoFrame}
 use Rattle.wq_frames.specs.Streams.{Stream, at_rest, fed, AdvancesFrom}
 
 -- what was done with a feeder that has met no fault yet
@@ -38,19 +37,6 @@ given_in [] = []
 given_in (feeds piece ∷ calls) = given_in calls
 given_in (gives m ∷ calls) = m ∷ given_in calls
 given_in (waits ∷ calls) = given_in calls
-
--- a message as it is sent
-abbrev pub sent : Message → List ℕ
-sent m = frame (spelling m)
-
--- It has a spelling that fits a frame.
-abbrev pub IsSent : Message → Type 0
-IsSent m = HasSpelling m × (length (spelling m) ≤ most_body)
-
--- These bytes are the frames of these messages, and this rest.
-pub record IsStream (bytes : List ℕ) (messages : List Message) (rest : List ℕ) : Type 0 where
-  pub parts : bytes ≡ flat_map sent messages ++ rest
-  pub each : AllByRecursion IsSent messages
 
 -- Whatever the pieces, the messages given and the rest are those of the bytes fed.
 abbrev pub RunsAreStreams : Type 0

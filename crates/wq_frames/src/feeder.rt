@@ -1,5 +1,5 @@
 //! A feeder: bytes in, in any pieces, and messages out.
-ghost use Rattle.std.specs.Prelude.{◌≡◌, OnOk, OnErr, IfOk, IsOk, [], true, Err};
+ghost use Rattle.std.specs.Prelude.{◌≡◌, OnOk, OnErr, IfOk, IsOk, [], true, Err, length};
 ghost use Rattle.wq_frames.specs.Heard.{gave_message, Shows};
 ghost use Rattle.wq_messages.specs.Reading.{message_of};
 ghost use Rattle.wq_messages.specs.Views.{HasMessage, shown};
@@ -96,6 +96,13 @@ impl Feeder {
             Ok(()) => Ok(()),
             Err(_) => Err(Memory),
         }
+    }
+
+    /// How many bytes no frame took yet.
+    pub fn left(&self) -> usize
+        ensures { result ≡ length self.now.rest }
+    {
+        self.buffer.len()
     }
 
     // No message comes from now on.
