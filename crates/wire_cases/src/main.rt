@@ -1,16 +1,19 @@
-//! Frames, messages, a cache and a worker by a table of cases, one a line.
+//! Frames, messages, a cache, a worker and a session by a table of cases, one a line.
 //!
 //! `== TITLE` is printed as it stands. `body HEX` tells what a body says and is written as; `stream
 //! HEX | HEX | ..` what a feeder answers after each piece; `changes HEX` tries each other value of
 //! each byte of a stream. `room CAP` begins a cache of so many bytes and a worker with one of as
 //! many; the lines below it are calls of that cache (`put RUN FILE LEN BYTE`, `get`, `touch`,
-//! `holds`, `pin`, `unpin` and `unlink` with RUN FILE), or `hello`, `hears HEX` and `reports ATTEMPT
-//! success HEX ..` (or `status N`, or `none`) of that worker.
+//! `holds`, `pin`, `unpin` and `unlink` with RUN FILE), or of that worker: `hello`, `hears HEX` and
+//! `reports ATTEMPT success HEX ..` (or `status N`, or `none`). `session RUN` begins a session; the
+//! lines below it are its calls: `start HEX` with a task, `peer HEX` with what the peer sends,
+//! `cancel ATTEMPT` and `dropped FILE`.
 #![tactic(auto)]
 
 mod bodies;
 mod changes;
 mod hex_words;
+mod sessions;
 mod streams;
 mod text;
 mod workers;
@@ -18,9 +21,11 @@ mod workers;
 use crate::bodies::shown_body;
 use crate::changes::shown_changes;
 use crate::hex_words::bytes_of;
+use crate::sessions::{cancels, drops, starts, told};
 use crate::streams::shown_stream;
 use crate::text::shown_message;
 use crate::workers::{Room, hears, reports, shown_call};
+use link_session::Session;
 use std::alloc::{AllocError, Global};
 use std::io;
 
@@ -51,6 +56,26 @@ fn of_words(alloc: Global, room: &mut Room, line: &str) -> Result<String, AllocE
     }
 }
 
+fn begin_session(alloc: Global, room: &mut Room, run: &str) -> Result<String, AllocError> {
+    let run = run.parse::<u64>().unwrap_or(0);
+    room.session = Session::new(alloc, run);
+    format!(in alloc; "session {run}")
+}
+
+fn of_session(
+    alloc: Global,
+    session: &mut Session,
+    word: &str,
+    rest: &str,
+) -> Result<String, AllocError> {
+    match word {
+        "start" => starts(alloc, session, rest),
+        "peer" => told(alloc, session, rest),
+        "cancel" => cancels(alloc, session, rest),
+        _ => drops(alloc, session, rest),
+    }
+}
+
 fn begin(alloc: Global, room: &mut Room, cap: &str) -> Result<String, AllocError> {
     let cap = cap.parse::<u64>().unwrap_or(0);
     *room = Room::new(alloc, cap);
@@ -66,6 +91,8 @@ fn answer(alloc: Global, room: &mut Room, line: &str) -> Result<String, AllocErr
         "body" | "changes" => of_bytes(alloc, word, rest),
         "hello" => shown_message(alloc, &room.worker.hello()),
         "hears" => hears(alloc, &mut room.worker, rest),
+        "session" => begin_session(alloc, room, rest),
+        "start" | "peer" | "cancel" | "dropped" => of_session(alloc, &mut room.session, word, rest),
         _ => of_words(alloc, room, line),
     }
 }

@@ -20,7 +20,8 @@ fn shown_amounts(alloc: Global, amounts: Amounts) -> Result<String, AllocError> 
     format!(in alloc; "{cores}/{memory}/{disk}")
 }
 
-fn shown_offer(
+/// What a peer offers, behind a word.
+pub fn shown_offer(
     alloc: Global,
     word: &str,
     total: Amounts,
@@ -98,7 +99,8 @@ pub fn shown_start(alloc: Global, start: &Start) -> Result<String, AllocError> {
     Ok(text)
 }
 
-fn shown_failure(alloc: Global, why: Failure) -> Result<String, AllocError> {
+/// Why an attempt failed.
+pub fn shown_failure(alloc: Global, why: Failure) -> Result<String, AllocError> {
     match why {
         Failure::Status(status) => format!(in alloc; "status {status}"),
         Failure::MissingOutput(index) => format!(in alloc; "missing output {index}"),

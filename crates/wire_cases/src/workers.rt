@@ -2,20 +2,23 @@
 use crate::hex_words::bytes_of;
 use crate::text::{shown_message, shown_start};
 use flow_types::{Amounts, AttemptNo, Bytes, Failure, FileNo, Key, Memory, Outcome, Rows};
+use link_session::Session;
 use std::alloc::{AllocError, Global};
 use worker_cache::{Cache, PutRefused};
 use worker_core::{Acts, WorkerCore};
 use wq_messages::{PeerFault, read_message};
 
-/// The cache and the worker that the lines speak of.
+/// The cache, the worker and the session that the lines speak of.
 #[derive(Drop)]
 pub struct Room {
     pub cache: Cache,
     pub worker: WorkerCore,
+    pub session: Session,
 }
 
 impl Room {
-    /// A cache of so many bytes, and a worker of 4 cores with a cache of as many.
+    /// A cache of so many bytes, a worker of 4 cores with a cache of as many, and a session of run
+    /// 0.
     pub fn new(alloc: Global, cap: u64) -> Room {
         let total = Amounts {
             cores: 4,
@@ -25,6 +28,7 @@ impl Room {
         Room {
             cache: Cache::new(alloc, cap),
             worker: WorkerCore::new(alloc, total, cap),
+            session: Session::new(alloc, 0),
         }
     }
 }

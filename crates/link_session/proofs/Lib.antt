@@ -1,0 +1,4 @@
+mod Contents
+mod Attempts
+mod Closing
+mod Hearing
