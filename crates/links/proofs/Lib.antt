@@ -1,0 +1,2 @@
+pub mod Honesties
+pub mod Asking

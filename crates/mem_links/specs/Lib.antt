@@ -1,0 +1,2 @@
+pub mod MemLinks
+pub mod MemHalls

@@ -1,0 +1,78 @@
+-- Links in memory, by the steps that they take.
+use Rattle.std.specs.Prelude.{◌≡◌, ℕ, ◌+◌, Bool, true, false, List, [], ◌∷◌}
+use Rattle.std.specs.Prelude.{Option, Some, None, Result, Ok, Err}
+use Rattle.outside.specs.declared.fault.Fault.{Fault}
+use Rattle.outside.specs.declared.fault.Fault.TheVariants as faults
+use Rattle.links.specs.declared.passing.Got.{Got}
+use Rattle.links.specs.declared.passing.Got.TheVariants as got
+use Rattle.links.specs.declared.passing.Passed.{Passed}
+use Rattle.links.specs.declared.passing.Passed.TheVariants as passed
+use Rattle.mem_links.specs.declared.mem_link.LinkStep.{LinkStep}
+use Rattle.mem_links.specs.declared.mem_link.LinkStep.TheVariants as steps
+
+-- The steps to come, what passed, the newest first, and the counts.
+pub record LinkState : Type 0 where
+  pub steps : List LinkStep
+  pub history : List Passed
+  pub closed : Bool
+  pub faults : ℕ
+  pub idles : ℕ
+
+-- over which nothing has passed
+abbrev pub new_link : List LinkStep → LinkState
+new_link steps =
+    record { steps = steps; history = []; closed = false; faults = 0; idles = 0 }
+
+-- the first step lets a send fail
+abbrev pub awaits_send : List LinkStep → Bool
+awaits_send (steps.FailSend ∷ rest) = true
+awaits_send _ = false
+
+-- the bytes that the first step gives, if it gives any
+abbrev pub next_given : List LinkStep → Option (List ℕ)
+next_given (steps.Give [] ∷ rest) = None
+next_given (steps.Give (b ∷ bs) ∷ rest) = Some (b ∷ bs)
+next_given _ = None
+
+-- it was idle, or the count of idles is at its last value
+abbrev pub Idles : LinkState → Result Got Fault → LinkState → Type 0
+Idles old (Ok answer) new = (answer ≡ got.Idle) × (new ≡ record old { idles = old.idles + 1 })
+Idles old (Err fault) new = (fault ≡ faults.Memory) × (new ≡ old)
+
+-- the bytes were handed out, or nothing changed
+abbrev pub HandsOut : List ℕ → List LinkStep → LinkState → Result Got Fault → LinkState → Type 0
+HandsOut bytes rest old (Ok answer) new = (answer ≡ got.Piece bytes)
+    × (new ≡ record old { steps = rest; history = passed.Received bytes ∷ old.history; idles = 0 })
+HandsOut bytes rest old (Err fault) new = (fault ≡ faults.Memory) × (new ≡ old)
+
+-- the failure was counted, or the count is at its last value
+abbrev pub Fails : LinkState → Result Got Fault → LinkState → Type 0
+Fails old (Ok answer) new = ⊥
+Fails old (Err faults.Failed) new = new ≡ record old { faults = old.faults + 1 }
+Fails old (Err faults.Memory) new = new ≡ old
+
+-- What a call of recv answers, and leaves.
+abbrev pub Takes : List LinkStep → LinkState → Result Got Fault → LinkState → Type 0
+Takes [] old result new = Idles old result new
+Takes (steps.Give [] ∷ rest) old result new = Idles (record old { steps = rest }) result new
+Takes (steps.Give (b ∷ bs) ∷ rest) old result new = HandsOut (b ∷ bs) rest old result new
+Takes (steps.Idle ∷ rest) old result new = Idles (record old { steps = rest }) result new
+Takes (steps.Close ∷ rest) old result new =
+    (result ≡ Ok got.Closed) × (new ≡ record old { steps = rest; closed = true })
+Takes (steps.Fail ∷ rest) old result new = Fails (record old { steps = rest }) result new
+Takes (steps.FailSend ∷ rest) old result new = Idles old result new
+
+-- the steps behind the first
+abbrev pub behind : List LinkStep → List LinkStep
+behind [] = []
+behind (step ∷ rest) = rest
+
+-- What a call of send answers, and leaves. It fails where a step says so.
+abbrev pub SendsBy : {T : Type 0} → Bool → List ℕ → LinkState → Result T Fault → LinkState → Type 0
+SendsBy true bytes old (Ok x) new = ⊥
+SendsBy true bytes old (Err faults.Failed) new =
+    new ≡ record old { steps = behind old.steps; faults = old.faults + 1 }
+SendsBy true bytes old (Err faults.Memory) new = new ≡ record old { steps = behind old.steps }
+SendsBy false bytes old (Ok x) new =
+    new ≡ record old { history = passed.Sent bytes ∷ old.history; idles = 0 }
+SendsBy false bytes old (Err fault) new = (fault ≡ faults.Memory) × (new ≡ old)
