@@ -1,11 +1,14 @@
-"""What the benches share: flows as texts, and times of a program."""
+"""What the benches share: flows as texts, and times and instructions of a program."""
 import os
+import re
+import shutil
 import subprocess
 import sys
 import time
 
 ROOT = os.path.dirname(os.path.dirname(os.path.abspath(__file__)))
 OURS = f"{ROOT}/bin/makeflow"
+SHOW = f"{ROOT}/bin/makeflow_show"
 
 
 def wide(rules):
@@ -25,6 +28,23 @@ def two_parents(rules):
         a, b = (it - 1) // 2, it // 3
         parents = f"g{a}" if a == b else f"g{a} g{b}"
         lines.append(f"g{it}: {parents}\n\tcat {parents} > g{it}\n")
+    return "".join(lines)
+
+
+def many_inputs(rules, inputs):
+    """Each rule takes in the same files, so many of them, by a variable."""
+    names = " ".join(f"i{it}" for it in range(inputs))
+    return f"IN={names}\n" + "".join(f"o{it}: $(IN)\n\ttrue > o{it}\n" for it in range(rules))
+
+
+def ninja_of(text):
+    """The same rules as a ninja file, in which a variable can't stand for several names."""
+    lines = ["rule run\n  command = $command\n"]
+    rows = text.splitlines()
+    names = rows.pop(0).removeprefix("IN=") if text.startswith("IN=") else ""
+    for head, command in zip(rows[::2], rows[1::2]):
+        made, taken = head.replace("$(IN)", names).split(":")
+        lines.append(f"build {made}: run{taken}\n  command = {command.strip()}\n")
     return "".join(lines)
 
 
@@ -89,6 +109,60 @@ def other(program):
     if not path:
         print(f"{program}: not installed, skipped")
     return path
+
+
+def bare(program, room):
+    """A copy of a program without its debugging data: valgrind can't read that of newer compilers."""
+    copy = f"{room}/{os.path.basename(program)}"
+    if shutil.which("objcopy") and subprocess.run(["objcopy", "--strip-debug", program, copy], capture_output=True).returncode == 0:
+        return copy
+    return shutil.copy(program, copy)
+
+
+def instructions(command, folder):
+    """How many instructions a program itself takes, without those of its commands, by callgrind."""
+    counted = ["valgrind", "--tool=callgrind", "--callgrind-out-file=/dev/null", *command]
+    done = subprocess.run(counted, cwd=folder, stdin=subprocess.DEVNULL, stdout=subprocess.DEVNULL, stderr=subprocess.PIPE)
+    found = re.search(rb"Collected : (\d+)", done.stderr)
+    if done.returncode or not found:
+        raise SystemExit(f"{' '.join(command)}: status {done.returncode}\n{done.stderr.decode()[-2_000:]}")
+    return int(found[1])
+
+
+def readers(show, room):
+    """What reads a flow and starts nothing: of each tool its name, its words and its flow as a text of its own."""
+    yield "makeflow_show", [bare(show, room), "flow", "0"], lambda text: text
+    if path := other("make"):
+        yield "make -n", [path, "-n", "-f", "flow", "all"], lambda text: text + "\nall: " + " ".join(re.findall(r"(?m)^(\S+):", text)) + "\n"
+    if path := other("ninja"):
+        yield "ninja -n", [path, "-n", "-f", "flow"], ninja_of
+
+
+class Counts:
+    """Instructions of the tools that read a flow, where valgrind is installed: what a flow takes more than one of one rule."""
+
+    def __init__(self, show, room):
+        self.room, self.tools = room, []
+        if not shutil.which("valgrind"):
+            print("instructions: valgrind isn't installed, skipped")
+        elif not os.access(show, os.X_OK):
+            print(f"instructions: no program {show}, skipped")
+        else:
+            self.tools = [(name, words, form, self.count(words, form, "s:\n\ttrue\n")) for name, words, form in readers(show, room)]
+
+    def count(self, words, form, text):
+        with open(f"{self.room}/flow", "w") as it:
+            it.write(form(text))
+        return instructions(words, self.room)
+
+    def of(self, text):
+        """Of each tool its name and the instructions of this flow."""
+        return {name: self.count(words, form, text) - least for name, words, form, least in self.tools}
+
+    def sources(self, names):
+        """The files that are there before a flow is read."""
+        for name in names:
+            open(f"{self.room}/{name}", "w").close()
 
 
 def ready():
