@@ -1,0 +1,10 @@
+pub mod Attempts
+pub mod Attending
+pub mod Frames
+pub mod Going
+pub mod HeldContents
+pub mod Hellos
+pub mod Sends
+pub mod Sizes
+pub mod Steps
+pub mod WorkerSteps

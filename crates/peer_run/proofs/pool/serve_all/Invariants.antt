@@ -1,0 +1,11 @@
+use Rattle.worker_pool.specs.Courses.{Heeds}
+use Rattle.worker_pool.specs.Crews.{AllSure}
+use Rattle.peer_run.specs.Ends.{TellAll}
+use Rattle.peer_run.proofs.pool.serve_all.Given as goal
+
+-- an outcome fits as the runners tell, and is a success where all are sure
+abbrev pub ghosts-serve_in : goal.ghosts-serve_in
+ghosts-serve_in g a = record {
+  tickets = a.pass.table_id;
+  fits = Heeds g.F.Commands.gives g.F.Commands.may_fail (λ job. TellAll g.R.Runner.tells a.runners.now) (AllSure g.R.Runner.sure a.runners.now);
+}

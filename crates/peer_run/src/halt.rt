@@ -1,0 +1,16 @@
+//! Why a worker leaves its link.
+
+/// Why a worker leaves its link.
+#[derive(Clone, Copy, Debug, PartialEq, Eq)]
+pub enum Halt {
+    /// Its work is over.
+    Bye,
+    /// The other end has closed the link.
+    Closed,
+    /// The link failed.
+    Link,
+    /// At this byte of all that came begins what is no message to a worker.
+    Bad { at: u64 },
+    /// Want of memory.
+    Memory,
+}

@@ -1,0 +1,16 @@
+//! The programs of peers: a worker over one link.
+#![tactic(auto)]
+
+mod cause;
+mod ear;
+mod halt;
+mod pool;
+mod printing;
+mod top;
+mod voice;
+mod work;
+
+pub use cause::PeerCause;
+pub use halt::Halt;
+pub use top::{PeerEnded, worker_top};
+pub use voice::say;
