@@ -1,0 +1,185 @@
+-- Every event keeps the invariant, and the first world has it.
+use Rattle.std.proofs.Common.{◌≡◌, ◌⊎◌, inl, inr, ℕ, Bool, true, false, cond, List, [], ◌∷◌, Option, Some, None, refl, ap, sym, ◌∙◌, subst}
+use Rattle.std.specs.Prelude.{slice_get, map, is_some, is_none, nat_le, length, ◌==◌, unwrap_or, bytes_eq}
+use Rattle.std.specs.List.{list_all}
+use Rattle.std.specs.Option.{option_map_or}
+use Rattle.std.proofs.lemmas.Bool.{eqb-true, eq-eqb}
+use Rattle.std.proofs.lemmas.List.{length-map}
+use Rattle.flow_types.specs.declared.plan.Plan.{Plan}
+use Rattle.flow_types.specs.declared.numbers.Content.{Content}
+use Rattle.flow_types.specs.declared.job.Outcome.{Outcome}
+use Rattle.flow_types.specs.declared.job.Task.{Task}
+use Rattle.flow_types.specs.declared.records.Record.{Record}
+use Rattle.flow_types.specs.Plans.{IsValid, is_source, maker_of, sources_of, file_numbers, most_bytes}
+use Rattle.flow_types.specs.Serial.{Contents, Function, of_sources, job_of}
+use Rattle.flow_types.proofs.SerialRun.{serial-source}
+use Rattle.link_session.specs.Sessions.{State}
+use Rattle.links.specs.Honesty.{task_job}
+use Rattle.rule_graph.specs.Spelling.{plan_digest}
+use Rattle.run_history.specs.declared.options.Options.{Options}
+use Rattle.run_history.specs.Moves.{join_refusal}
+use Rattle.run_history.specs.States.{row_of, present_with, made_state}
+use Rattle.run_history.specs.Storage.{wanted, size_in}
+use Rattle.run_history.proofs.Bools.{both}
+use Rattle.net_world.specs.declared.events.Joiner.{Joiner}
+use Rattle.net_world.specs.declared.events.WorldEvent.{WorldEvent}
+use Rattle.net_world.specs.declared.events.WorldEvent.TheVariants as events
+use Rattle.net_world.specs.Members.{Stands}
+use Rattle.net_world.specs.Worlds.{World, Machine, records_in, rule_at, joins, claimed_rule, happens, happens_up, happens_down, cut_short, job_run}
+use Rattle.net_world.specs.Reach.{Failures, MayAnswer, Reaches, first_world, opening, source_logged}
+use Rattle.net_world.specs.Laws.{AreSources, IsTrueWorld, EveryWorldIsTrue}
+use Rattle.net_world.proofs.Members.{every_nil, every_one, stands_filter}
+use Rattle.net_world.proofs.WorldSteps.{ran_on_kept}
+use Rattle.net_world.proofs.Deliveries.{delivered_kept}
+use Rattle.net_world.proofs.Claims.{claims_kept}
+use Rattle.net_world.proofs.Collects.{collects_kept}
+use Rattle.net_world.proofs.Ends.{ends_kept}
+use Rattle.net_world.proofs.Links.{joins_kept, loses_link_kept, evicts_kept}
+use Rattle.net_world.proofs.Locals.{runs_local_kept}
+use Rattle.net_world.proofs.Crashes.{stopped_kept, cut_kept, resumes_kept}
+use Rattle.net_world.proofs.Invariant.{Setting, due, IsOurTask, IsRight, IsRightRecord, IsStored, IsRecorded, IsKept}
+
+true_ne_false : true ≡ false → ⊥
+true_ne_false h = cc
+
+join_by : (S : Setting) (w : World) (joiner : Joiner) (b : Bool) → IsKept S w → IsKept S (cond b (joins w joiner) w)
+join_by S w joiner true kept = joins_kept S w joiner kept
+join_by S w joiner false kept = kept
+
+up_kept : (S : Setting) (O : Options) (w : World) (e : WorldEvent) (outcome : Outcome) → IsValid S.plan → MayAnswer S.gives S.may_fail (job_run S.plan w e) outcome → IsKept S w
+    → IsKept S (happens_up S.plan O w e outcome)
+up_kept S O w (events.Join joiner) outcome valid ends kept = join_by S w joiner (is_none (join_refusal O w.moves)) kept
+up_kept S O w (events.Claim link) outcome valid ends kept = claims_kept S O w link.0 (claimed_rule S.plan O w link.0) refl kept
+up_kept S O w (events.RunLocal attempt) outcome valid ends kept = runs_local_kept S w attempt outcome valid kept ends
+up_kept S O w events.Collect outcome valid ends kept = collects_kept S O.mode w (wanted S.plan O.mode (records_in w)) refl kept
+up_kept S O w events.End outcome valid ends kept = ends_kept S O w kept
+up_kept S O w (events.Deliver n) outcome valid ends kept = delivered_kept S w n (slice_get w.bag n) refl valid kept
+up_kept S O w (events.LoseLink link) outcome valid ends kept = loses_link_kept S w link.0 kept
+up_kept S O w (events.Evict p) outcome valid ends kept = evicts_kept S w p kept
+up_kept S O w (events.Run p) outcome valid ends kept = ran_on_kept S w p outcome (slice_get w.peers p) refl ends kept
+up_kept S O w (events.Crash cut) outcome valid ends kept = stopped_kept S (cut_short S.plan O w cut outcome) (cut_kept S O w cut outcome valid ends kept)
+up_kept S O w events.Resume outcome valid ends kept = resumes_kept S O w kept
+
+down_kept : (S : Setting) (O : Options) (w : World) (e : WorldEvent) (outcome : Outcome) → MayAnswer S.gives S.may_fail (job_run S.plan w e) outcome → IsKept S w
+    → IsKept S (happens_down S.plan O w e outcome)
+down_kept S O w (events.Evict p) outcome ends kept = evicts_kept S w p kept
+down_kept S O w (events.Run p) outcome ends kept = ran_on_kept S w p outcome (slice_get w.peers p) refl ends kept
+down_kept S O w events.Resume outcome ends kept = resumes_kept S O w kept
+down_kept S O w (events.Join joiner) outcome ends kept = kept
+down_kept S O w (events.Claim link) outcome ends kept = kept
+down_kept S O w (events.RunLocal attempt) outcome ends kept = kept
+down_kept S O w events.Collect outcome ends kept = kept
+down_kept S O w events.End outcome ends kept = kept
+down_kept S O w (events.Deliver n) outcome ends kept = kept
+down_kept S O w (events.LoseLink link) outcome ends kept = kept
+down_kept S O w (events.Crash cut) outcome ends kept = kept
+
+either_kept : (S : Setting) (O : Options) (w : World) (e : WorldEvent) (outcome : Outcome) (up : Bool) → IsValid S.plan → MayAnswer S.gives S.may_fail (job_run S.plan w e) outcome
+    → IsKept S w → IsKept S (cond up (happens_up S.plan O w e outcome) (happens_down S.plan O w e outcome))
+either_kept S O w e outcome true valid ends kept = up_kept S O w e outcome valid ends kept
+either_kept S O w e outcome false valid ends kept = down_kept S O w e outcome ends kept
+
+-- Every event keeps the invariant.
+happens_kept : (S : Setting) (O : Options) (w : World) (e : WorldEvent) (outcome : Outcome) → IsValid S.plan → MayAnswer S.gives S.may_fail (job_run S.plan w e) outcome → IsKept S w
+    → IsKept S (happens S.plan O w e outcome)
+happens_kept S O w e outcome valid ends kept = either_kept S O w e outcome w.up valid ends kept
+
+-- So does every list of events.
+pub reaches_kept : (S : Setting) (O : Options) (es : List WorldEvent) (w v : World) → IsValid S.plan → IsKept S w → Reaches S.plan O S.gives S.may_fail w es v → IsKept S v
+reaches_kept S O [] w v valid kept reached = subst (IsKept S) (sym reached) kept
+reaches_kept S O (e ∷ es) w v valid kept reached =
+    reaches_kept S O es (happens S.plan O w e reached.0) v valid (happens_kept S O w e reached.0 valid reached.1 kept) reached.2
+
+-- ---- the first world
+
+same_bytes : (bs : List ℕ) → bytes_eq bs bs ≡ true
+same_bytes [] = refl
+same_bytes (b ∷ bs) = both (b == b) (bytes_eq bs bs) (eq-eqb b b refl) (same_bytes bs)
+
+bounded_rows : (P : Plan) (sources : Contents) (fs : List ℕ) → AreSources P sources → ((f : ℕ) → Stands f fs → is_source P f ≡ true)
+    → list_all (λ row. nat_le row.size most_bytes) (map (source_logged sources) fs) ≡ true
+bounded_rows P sources [] are all = refl
+bounded_rows P sources (f ∷ fs) are all =
+    let has = are f (all f (inl refl)) in
+    both _ _ (ap (λ content. nat_le (length (unwrap_or content [])) most_bytes) has.1 ∙ has.2) (bounded_rows P sources fs are (λ g there. all g (inr there)))
+
+first_recorded : (P : Plan) (O : Options) (sources : Contents) → AreSources P sources → IsRecorded P (opening P O sources ∷ [])
+first_recorded P O sources are = record {
+  legal = both _ true (both _ _ (both _ _ (both _ _ (both _ _ refl (same_bytes (plan_digest P)))
+      (eq-eqb _ _ (length-map (sources_of P) (source_logged sources))))
+      (bounded_rows P sources (sources_of P) are (λ f there. (stands_filter (is_source P) (file_numbers P) f there).1))) refl) refl;
+  opened = refl;
+}
+
+source_by : (S : Setting) (f : ℕ) (content : List ℕ) (b : Bool) → is_source S.plan f ≡ b → IsValid S.plan → cond b (S.sources f) None ≡ Some content → due S f ≡ Some content
+source_by S f content true is valid got = serial-source S.plan S.gives S.sources f valid is ∙ got
+source_by S f content false is valid got = absurd (let h : ⊥ = cc in h)
+
+row_stands : (f : ℕ) (keys : List ℕ) (rows : List Content) → is_some (size_in (present_with (row_of f keys rows))) ≡ true → Stands f keys
+row_stands f [] rows there = absurd (true_ne_false (sym there))
+row_stands f (g ∷ keys) [] there = absurd (true_ne_false (sym there))
+row_stands f (g ∷ keys) (row ∷ rows) there = at f g keys row rows (g == f) refl there (row_stands f keys rows)
+  where
+    at : (f g : ℕ) (keys : List ℕ) (row : Content) (rows : List Content) (b : Bool) → (g == f) ≡ b → is_some (size_in (present_with (cond b (Some row) (row_of f keys rows)))) ≡ true
+        → (is_some (size_in (present_with (row_of f keys rows))) ≡ true → Stands f keys) → (f ≡ g) ⊎ Stands f keys
+    at f g keys row rows true same there later = inl (sym (eqb-true g f same))
+    at f g keys row rows false other there later = inr (later there)
+
+first_present : (P : Plan) (O : Options) (sources : Contents) (f : ℕ) (maker : Option ℕ) → AreSources P sources
+    → is_some (size_in (option_map_or (made_state P (opening P O sources ∷ []) f) maker (present_with (row_of f (sources_of P) (map (source_logged sources) (sources_of P)))))) ≡ true
+    → is_some (of_sources P sources f) ≡ true
+first_present P O sources f (Some m) are there = absurd (true_ne_false (sym there))
+first_present P O sources f None are there =
+    let source : is_source P f ≡ true =
+    (stands_filter (is_source P) (file_numbers P) f (row_stands f (sources_of P) (map (source_logged sources) (sources_of P)) there)).1 in
+    ap (λ b. is_some (cond b (sources f) None)) source ∙ ap is_some (are f source).1
+
+first_stored : (S : Setting) (O : Options) → IsValid S.plan → AreSources S.plan S.sources → IsStored S (opening S.plan O S.sources ∷ []) (of_sources S.plan S.sources)
+first_stored S O valid are = record {
+  sound = λ f content got. source_by S f content (is_source S.plan f) refl valid got;
+  present = λ f there. first_present S.plan O S.sources f (maker_of S.plan f) are there;
+}
+
+no_peer : (p : ℕ) (machine : Machine) → (let none : List Machine = [] in slice_get none p ≡ Some machine) → ⊥
+no_peer p machine h = cc
+
+-- The first world has the invariant.
+pub first_kept : (S : Setting) (O : Options) (fresh : State) → IsValid S.plan → AreSources S.plan S.sources → IsKept S (first_world S.plan O S.sources fresh)
+first_kept S O fresh valid are = record {
+  recorded = first_recorded S.plan O S.sources are;
+  stored = first_stored S O valid are;
+  sent = every_nil (IsRight S (records_in (first_world S.plan O S.sources fresh)) []);
+  peers = λ p machine at. absurd (no_peer p machine at);
+  closed = every_one (IsRightRecord (records_in (first_world S.plan O S.sources fresh)) []) (opening S.plan O S.sources) tt;
+}
+
+-- ---- what the invariant says
+
+-- tasks of one attempt have one job
+one_job : (S : Setting) (H : List Record) (t u : Task) (contents : Contents) → IsOurTask S H t → IsOurTask S H u → t.attempt.0 ≡ u.attempt.0 → task_job t contents ≡ task_job u contents
+one_job S H t u contents ours theirs same =
+    let first : rule_at H t.attempt.0 ≡ Some ours.0.number = ours.0.started in
+    let second : rule_at H u.attempt.0 ≡ Some theirs.0.number = theirs.0.started in
+    let number : ours.0.number ≡ theirs.0.number = cc in
+    let here : slice_get S.plan.rules ours.0.number ≡ Some ours.0.rule = ours.0.in_plan in
+    let there : slice_get S.plan.rules theirs.0.number ≡ Some theirs.0.rule = theirs.0.in_plan in
+    let rule : ours.0.rule ≡ theirs.0.rule = cc in
+    ap (λ t. task_job t contents) ours.1 ∙ ap (λ rule. job_of S.plan rule contents) rule ∙ sym (ap (λ t. task_job t contents) theirs.1)
+
+-- What the invariant says of a world.
+pub kept_true : (S : Setting) (w : World) → IsKept S w → IsTrueWorld S.plan S.gives S.sources w
+kept_true S w kept = record {
+  legal = kept.recorded.legal;
+  contents = λ f there. by f (w.contents f) refl (kept.stored.present f there);
+  dones = λ m r attempt outs there. kept.closed _ there;
+  jobs = λ t u from to at by here there same contents. one_job S (records_in w) t u contents (kept.sent _ here) (kept.sent _ there) same;
+}
+  where
+    by : (f : ℕ) (found : Option (List ℕ)) → w.contents f ≡ found → is_some found ≡ true → (content : List ℕ) × (w.contents f ≡ Some content) × (due S f ≡ Some content)
+    by f None at there = absurd (true_ne_false (sym there))
+    by f (Some content) at there = (content, at, kept.stored.sound f content at)
+
+pub every_world : (gives : Function) (may_fail : Failures) → EveryWorldIsTrue gives may_fail
+every_world gives may_fail P O sources fresh es w valid are reached =
+    let S : Setting = record { plan = P; gives = gives; may_fail = may_fail; sources = sources } in
+    kept_true S w (reaches_kept S O es (first_world P O sources fresh) w valid (first_kept S O fresh valid are) reached)

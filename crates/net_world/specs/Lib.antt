@@ -1,0 +1,5 @@
+pub mod Members
+pub mod Worlds
+pub mod Reach
+pub mod Laws
+pub mod Examples

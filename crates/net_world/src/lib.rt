@@ -1,0 +1,14 @@
+//! The world of all machines: a master, its workers and every message that was ever sent, whatever
+//! is dispatched, lost, repeated, late, evicted, crashed or resumed.
+#![tactic(auto)]
+
+mod events;
+mod examples;
+mod laws;
+
+pub use events::{Cut, Joiner, Party, Sent, WorldEvent};
+pub use examples::{
+    collection_comes_first, job_delivered_twice, lost_link_runs_again, missing_input_is_put_again,
+    old_done_is_stale, start_that_was_not_sent,
+};
+pub use laws::every_world_is_true;
