@@ -55,7 +55,7 @@ job_grows S bag bag' p s within right = record { task = right.task; numbered = r
 
 pub peer_grows : (S : Setting) (bag bag' : List Sent) (p : ℕ) (machine : Machine) → Within bag bag' → IsRightPeer S bag p machine → IsRightPeer S bag' p machine
 peer_grows S bag bag' p machine within right =
-    record { held = right.held; jobs = λ s there. job_grows S bag bag' p s within (right.jobs s there) }
+    record { held = right.held; jobs = λ s there. job_grows S bag bag' p s within (right.jobs s there); same = right.same }
 
 pub record_grows : (H H' : List Record) (bag bag' : List Sent) (x : Record) → Within H H' → Within bag bag' → IsRightRecord H bag x → IsRightRecord H' bag' x
 record_grows H H' bag bag' (records.Done moment rule attempt outs) more within (inl here) = inl (here.0, (here.1.0, more _ here.1.1))

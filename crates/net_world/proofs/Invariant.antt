@@ -26,7 +26,7 @@ use Rattle.net_world.specs.declared.events.Sent.{Sent}
 use Rattle.net_world.specs.Members.{Stands, Every}
 use Rattle.net_world.specs.Worlds.{World, Machine, rule_at, task_with, records_in}
 use Rattle.net_world.specs.Reach.{Failures, MayEnd}
-use Rattle.net_world.specs.Laws.{IsCarried, IsLocal, WentOut, task_sent}
+use Rattle.net_world.specs.Laws.{IsCarried, IsLocal, RunsItsJobs, WentOut, task_sent}
 
 -- the plan, what its commands do, and the sources, on which all contents hang
 pub record Setting : Type 1 where
@@ -83,10 +83,11 @@ pub record IsRightJob (S : Setting) (bag : List Sent) (p : ℕ) (s : Start) : Ty
   pub stands : Stands (task_sent Master (Peer p) task) bag
   pub job_is : s.job ≡ task_job task (due S)
 
--- what a peer holds is due, and its jobs are right
+-- what a peer holds is due, its jobs are right, and they are those of the attempts that run
 pub record IsRightPeer (S : Setting) (bag : List Sent) (p : ℕ) (machine : Machine) : Type 0 where
   pub held : AllRows (IsDue S) machine.worker.cache.rows
   pub jobs : Every (IsRightJob S bag p) machine.jobs
+  pub same : RunsItsJobs machine
 
 -- a Done has a cause
 abbrev pub IsRightRecord : List Record → List Sent → Record → Type 0

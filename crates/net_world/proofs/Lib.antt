@@ -3,6 +3,7 @@ pub mod Invariant
 pub mod Rows
 pub mod Grows
 pub mod PeerSteps
+pub mod PeerJobs
 pub mod WorldSteps
 pub mod Moves
 pub mod Records

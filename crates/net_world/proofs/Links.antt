@@ -43,7 +43,7 @@ goes_kept S w p None at kept = kept
 goes_kept S w p (Some machine) at kept =
     let new : Machine = record machine { gone = true } in
     let was : IsRightPeer S w.bag p machine = kept.peers p machine at in
-    peers_kept S w (slice_set w.peers p new) kept (peer_set S w p new kept (record { held = was.held; jobs = was.jobs }))
+    peers_kept S w (slice_set w.peers p new) kept (peer_set S w p new kept (record { held = was.held; jobs = was.jobs; same = was.same }))
 
 parts_kept : (S : Setting) (w : World) (connection : Option Connection) → IsKept S w → IsKept S (parts S.plan w connection)
 parts_kept S w None kept = kept
@@ -86,5 +86,5 @@ joins_kept S w (joiners.Worker total cache) kept =
     let machine : Machine = new_machine worker in
     connected_kept S (with_peers w (w.peers ++ (machine ∷ []))) (length w.peers) worker
     (peers_kept S w (w.peers ++ (machine ∷ [])) kept
-    (pushed_right S w machine (λ p. record { held = tt; jobs = every_nil (IsRightJob S w.bag p) }) kept))
+    (pushed_right S w machine (λ p. record { held = tt; jobs = every_nil (IsRightJob S w.bag p); same = refl }) kept))
 joins_kept S w (joiners.Again p) kept = again_kept S w p (find (at_peer p) w.connections) (slice_get w.peers p) kept

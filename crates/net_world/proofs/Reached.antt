@@ -7,7 +7,9 @@ use Rattle.std.proofs.lemmas.Bool.{eqb-true, eq-eqb}
 use Rattle.std.proofs.lemmas.List.{length-map}
 use Rattle.flow_types.specs.declared.plan.Plan.{Plan}
 use Rattle.flow_types.specs.declared.numbers.Content.{Content}
+use Rattle.flow_types.specs.declared.job.Job.{Job}
 use Rattle.flow_types.specs.declared.job.Outcome.{Outcome}
+use Rattle.flow_types.specs.declared.job.Outcome.TheVariants as outcomes
 use Rattle.flow_types.specs.declared.job.Task.{Task}
 use Rattle.flow_types.specs.declared.records.Record.{Record}
 use Rattle.flow_types.specs.Plans.{IsValid, is_source, maker_of, sources_of, file_numbers, most_bytes}
@@ -27,7 +29,7 @@ use Rattle.net_world.specs.declared.events.WorldEvent.TheVariants as events
 use Rattle.net_world.specs.Members.{Stands}
 use Rattle.net_world.specs.Worlds.{World, Machine, records_in, rule_at, joins, claimed_rule, happens, happens_up, happens_down, cut_short, job_run}
 use Rattle.net_world.specs.Reach.{Failures, MayAnswer, Reaches, first_world, opening, source_logged}
-use Rattle.net_world.specs.Laws.{AreSources, IsTrueWorld, EveryWorldIsTrue}
+use Rattle.net_world.specs.Laws.{AreSources, IsTrueWorld, EveryWorldIsTrue, EveryPeerRunsItsJobs, EventsCompose, EventsLeadOn}
 use Rattle.net_world.proofs.Members.{every_nil, every_one, stands_filter}
 use Rattle.net_world.proofs.WorldSteps.{ran_on_kept}
 use Rattle.net_world.proofs.Deliveries.{delivered_kept}
@@ -183,3 +185,27 @@ pub every_world : (gives : Function) (may_fail : Failures) → EveryWorldIsTrue 
 every_world gives may_fail P O sources fresh es w valid are reached =
     let S : Setting = record { plan = P; gives = gives; may_fail = may_fail; sources = sources } in
     kept_true S w (reaches_kept S O es (first_world P O sources fresh) w valid (first_kept S O fresh valid are) reached)
+
+-- In every world each peer has the jobs of the attempts that its worker runs.
+pub every_peer : (gives : Function) (may_fail : Failures) → EveryPeerRunsItsJobs gives may_fail
+every_peer gives may_fail P O sources fresh es w p machine valid are reached at =
+    let S : Setting = record { plan = P; gives = gives; may_fail = may_fail; sources = sources } in
+    let right = (reaches_kept S O es (first_world P O sources fresh) w valid (first_kept S O fresh valid are) reached).peers p machine at in
+    right.same
+
+not_run : (gives : Function) (may_fail : Failures) (job : Option Job) → MayAnswer gives may_fail job outcomes.NotRun
+not_run gives may_fail None = tt
+not_run gives may_fail (Some job) = λ run. absurd run
+
+-- Each list of events leads on.
+pub lead_on : (gives : Function) (may_fail : Failures) → EventsLeadOn gives may_fail
+lead_on gives may_fail P O w [] = (w, refl)
+lead_on gives may_fail P O w (e ∷ es) =
+    let rest = lead_on gives may_fail P O (happens P O w e outcomes.NotRun) es in
+    (rest.0, (outcomes.NotRun, not_run gives may_fail (job_run P w e), rest.1))
+
+-- Lists of events compose.
+pub compose : (gives : Function) (may_fail : Failures) → EventsCompose gives may_fail
+compose gives may_fail P O u v w [] more first then = subst (λ x. Reaches P O gives may_fail x more w) first then
+compose gives may_fail P O u v w (e ∷ es) more first then =
+    (first.0, first.1, compose gives may_fail P O (happens P O u e first.0) v w es more first.2 then)

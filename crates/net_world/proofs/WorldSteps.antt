@@ -1,6 +1,6 @@
 -- What keeps the invariant: more messages, a peer's step, other links, one more move.
 use Rattle.std.proofs.Common.{◌≡◌, ◌⊎◌, inl, inr, ℕ, Bool, true, false, cond, List, [], ◌∷◌, ◌++◌, Option, Some, None, refl, ap, sym, ◌∙◌, subst}
-use Rattle.std.specs.Prelude.{slice_get, slice_set, map, filter}
+use Rattle.std.specs.Prelude.{slice_get, slice_set, map}
 use Rattle.std.specs.Option.{option_map}
 use Rattle.flow_types.specs.declared.job.Job.{Job}
 use Rattle.flow_types.specs.declared.job.Outcome.{Outcome}
@@ -16,11 +16,12 @@ use Rattle.worker_core.specs.Workers.{Acted, hears, reports}
 use Rattle.net_world.specs.declared.events.Party.TheVariants.{Master, Peer}
 use Rattle.net_world.specs.declared.events.Sent.{Sent}
 use Rattle.net_world.specs.Members.{Stands, Every}
-use Rattle.net_world.specs.Worlds.{World, Machine, Connection, records_in, moved, with_connections, with_files, with_peers, sent_more, acted, to_peer, up_from, down_to, ran, ran_on, least_job, is_other, next_job, rule_at}
+use Rattle.net_world.specs.Worlds.{World, Machine, Connection, records_in, moved, with_connections, with_files, with_peers, sent_more, acted, to_peer, up_from, down_to, ran, ran_on, least_job, without_job, next_job, rule_at}
 use Rattle.net_world.specs.Reach.{MayEnd, MayAnswer}
 use Rattle.net_world.specs.Laws.{task_sent}
-use Rattle.net_world.proofs.Members.{stands_left, every_append, every_filter, get_set}
+use Rattle.net_world.proofs.Members.{stands_left, every_append, get_set}
 use Rattle.net_world.proofs.Grows.{Keeps, Within, every_right_grows, peer_grows, record_grows}
+use Rattle.net_world.proofs.PeerJobs.{Agrees, every_without, hears_agrees, reports_agrees}
 use Rattle.net_world.proofs.PeerSteps.{IsFed, hears_fed, reports_fed, least_stands}
 use Rattle.net_world.proofs.Invariant.{Setting, due, IsOurTask, IsRightMessage, IsRight, IsRightJob, IsRightPeer, IsRightRecord, IsRecorded, IsStored, IsKept}
 
@@ -58,10 +59,10 @@ peer_set S w p new kept right q machine at = by_place (get_set w.peers p new mac
 
 -- a peer's step, with these of its jobs
 pub acted_kept : (S : Setting) (w : World) (p : ℕ) (machine : Machine) (jobs : List Start) (did : Acted) → IsKept S w → Every (IsRightJob S w.bag p) jobs
-    → IsFed S (records_in w) w.bag p did → IsKept S (acted w p machine jobs did)
-acted_kept S w p machine jobs did kept old is =
+    → IsFed S (records_in w) w.bag p did → Agrees jobs did → IsKept S (acted w p machine jobs did)
+acted_kept S w p machine jobs did kept old is agrees =
     let new : Machine = record { worker = did.worker; jobs = jobs ++ did.acts.start; gone = cond did.acts.bye true machine.gone } in
-    let right : IsRightPeer S w.bag p new = record { held = is.held; jobs = every_append (IsRightJob S w.bag p) jobs did.acts.start old is.start } in
+    let right : IsRightPeer S w.bag p new = record { held = is.held; jobs = every_append (IsRightJob S w.bag p) jobs did.acts.start old is.start; same = agrees } in
     let world : World = with_peers w (slice_set w.peers p new) in
     let placed : IsKept S world = peers_kept S w (slice_set w.peers p new) kept (peer_set S w p new kept right) in
     sent_kept S world (map (up_from p) did.acts.send) placed is.send
@@ -74,6 +75,7 @@ to_peer_kept S w p m (Some c) None at right stands kept = kept
 to_peer_kept S w p m (Some c) (Some machine) at right stands kept =
     let was : IsRightPeer S w.bag p machine = kept.peers p machine at in
     acted_kept S w p machine machine.jobs (hears machine.worker m) kept was.jobs (hears_fed S (records_in w) w.bag p machine.worker m right stands was.held)
+    (hears_agrees machine.jobs machine.worker m was.same)
 
 -- the Done of a job that a right peer runs is right
 done_right : (S : Setting) (w : World) (p : ℕ) (s : Start) (outcome : Outcome) → IsKept S w → IsRightJob S w.bag p s
@@ -96,9 +98,10 @@ ran_kept S w p machine outcome None at least ends kept = kept
 ran_kept S w p machine outcome (Some s) at least ends kept =
     let was : IsRightPeer S w.bag p machine = kept.peers p machine at in
     let right : IsRightJob S w.bag p s = was.jobs s (least_stands machine.jobs s least) in
-    acted_kept S w p machine (filter (is_other s.attempt) machine.jobs) (reports machine.worker s.attempt outcome) kept
-    (every_filter (IsRightJob S w.bag p) (is_other s.attempt) machine.jobs was.jobs)
+    acted_kept S w p machine (without_job s.attempt machine.jobs) (reports machine.worker s.attempt outcome) kept
+    (every_without (IsRightJob S w.bag p) s.attempt machine.jobs was.jobs)
     (reports_fed S (records_in w) w.bag p machine.worker s.attempt outcome (done_right S w p s outcome kept right (ends s refl)) was.held)
+    (reports_agrees machine.jobs machine.worker s.attempt outcome was.same)
 
 -- the job of a start, where there is one
 abbrev next_job_of : Option Start → Option Job

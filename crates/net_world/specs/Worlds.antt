@@ -1,5 +1,5 @@
 -- The world of a master and its workers, and what each event makes of it.
-use Rattle.std.specs.Prelude.{ℕ, Bool, true, false, not, ◌&&◌, ◌-◌, List, [], ◌∷◌, ◌++◌, length, ◌==◌, Option, Some, None, Result, Ok, Err, nat_le, if◌then◌else◌, map, filter, filter_map, find, fold, slice_get, slice_set, is_none}
+use Rattle.std.specs.Prelude.{ℕ, Bool, true, false, not, ◌&&◌, ◌-◌, List, [], ◌∷◌, ◌++◌, length, ◌==◌, Option, Some, None, Result, Ok, Err, nat_le, if◌then◌else◌, map, filter, filter_map, find, fold, position, remove, slice_get, slice_set, is_none}
 use Rattle.std.specs.Option.{option_map, option_map_or}
 use Rattle.sha2.specs.Sha256.{sha256}
 use Rattle.flow_types.specs.declared.plan.Plan.{Plan}
@@ -365,15 +365,19 @@ abbrev pub least_job : List Start → Option Start
 least_job [] = None
 least_job (s ∷ jobs) = Some (lesser s (least_job jobs))
 
--- it is another attempt's
-abbrev pub is_other : AttemptNo → Start → Bool
-is_other attempt s = not (s.attempt.0 == attempt.0)
+-- it is the job of an attempt
+abbrev pub is_job_of : AttemptNo → Start → Bool
+is_job_of attempt s = s.attempt.0 == attempt.0
+
+-- the jobs without that of an attempt
+abbrev pub without_job : AttemptNo → List Start → List Start
+without_job attempt jobs = option_map_or (remove jobs) (position (is_job_of attempt) jobs) jobs
 
 -- a job of a peer ends so, and is reported
 abbrev pub ran : World → ℕ → Machine → Outcome → Option Start → World
 ran w p machine outcome None = w
 ran w p machine outcome (Some s) =
-    acted w p machine (filter (is_other s.attempt) machine.jobs)
+    acted w p machine (without_job s.attempt machine.jobs)
     (reports machine.worker s.attempt outcome)
 
 -- the least job of a peer that isn't gone ends so
