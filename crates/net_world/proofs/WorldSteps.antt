@@ -16,7 +16,7 @@ use Rattle.worker_core.specs.Workers.{Acted, hears, reports}
 use Rattle.net_world.specs.declared.events.Party.TheVariants.{Master, Peer}
 use Rattle.net_world.specs.declared.events.Sent.{Sent}
 use Rattle.net_world.specs.Members.{Stands, Every}
-use Rattle.net_world.specs.Worlds.{World, Machine, Connection, records_in, moved, with_connections, with_files, with_peers, sent_more, acted, to_peer, up_from, down_to, ran, ran_on, least_job, without_job, next_job, rule_at}
+use Rattle.net_world.specs.Worlds.{World, Machine, Connection, records_in, moved, with_connections, with_files, with_peers, sent_more, stepped, acted, to_peer, up_from, down_to, ran, ran_on, least_job, without_job, next_job, rule_at}
 use Rattle.net_world.specs.Reach.{MayEnd, MayAnswer}
 use Rattle.net_world.specs.Laws.{task_sent}
 use Rattle.net_world.proofs.Members.{stands_left, every_append, get_set}
@@ -61,7 +61,7 @@ peer_set S w p new kept right q machine at = by_place (get_set w.peers p new mac
 pub acted_kept : (S : Setting) (w : World) (p : ℕ) (machine : Machine) (jobs : List Start) (did : Acted) → IsKept S w → Every (IsRightJob S w.bag p) jobs
     → IsFed S (records_in w) w.bag p did → Agrees jobs did → IsKept S (acted w p machine jobs did)
 acted_kept S w p machine jobs did kept old is agrees =
-    let new : Machine = record { worker = did.worker; jobs = jobs ++ did.acts.start; gone = cond did.acts.bye true machine.gone } in
+    let new : Machine = stepped machine jobs did in
     let right : IsRightPeer S w.bag p new = record { held = is.held; jobs = every_append (IsRightJob S w.bag p) jobs did.acts.start old is.start; same = agrees } in
     let world : World = with_peers w (slice_set w.peers p new) in
     let placed : IsKept S world = peers_kept S w (slice_set w.peers p new) kept (peer_set S w p new kept right) in

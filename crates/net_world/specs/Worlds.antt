@@ -1,5 +1,5 @@
 -- The world of a master and its workers, and what each event makes of it.
-use Rattle.std.specs.Prelude.{ℕ, Bool, true, false, not, ◌&&◌, ◌-◌, List, [], ◌∷◌, ◌++◌, length, ◌==◌, Option, Some, None, Result, Ok, Err, nat_le, if◌then◌else◌, map, filter, filter_map, find, fold, position, remove, slice_get, slice_set, is_none}
+use Rattle.std.specs.Prelude.{ℕ, Bool, true, false, not, ◌&&◌, ◌||◌, ◌-◌, List, [], ◌∷◌, ◌++◌, length, ◌==◌, Option, Some, None, Result, Ok, Err, nat_le, if◌then◌else◌, map, filter, filter_map, find, fold, position, remove, slice_get, slice_set, is_none}
 use Rattle.std.specs.Option.{option_map, option_map_or}
 use Rattle.sha2.specs.Sha256.{sha256}
 use Rattle.flow_types.specs.declared.plan.Plan.{Plan}
@@ -336,16 +336,18 @@ ends P O w = ends_as w (logged_end P O w.moves None)
 
 -- ---- peers
 
--- A peer in place of another, with these jobs and after this step, and what it sends. One that was
--- told Bye is gone.
+-- A peer after a step of its worker, with these of its jobs. One that was told Bye is gone.
+abbrev pub stepped : Machine → List Start → Acted → Machine
+stepped machine jobs did = record {
+  worker = did.worker;
+  jobs = jobs ++ did.acts.start;
+  gone = did.acts.bye || machine.gone;
+}
+
+-- a peer steps, and sends what it has to
 abbrev pub acted : World → ℕ → Machine → List Start → Acted → World
 acted w p machine jobs did =
-    sent_more
-    (with_peers w (slice_set w.peers p (record {
-      worker = did.worker;
-      jobs = jobs ++ did.acts.start;
-      gone = if did.acts.bye then true else machine.gone;
-    })))
+    sent_more (with_peers w (slice_set w.peers p (stepped machine jobs did)))
     (map (up_from p) did.acts.send)
 
 -- a message comes to a peer that has a session

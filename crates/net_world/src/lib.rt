@@ -5,6 +5,7 @@
 mod events;
 mod examples;
 mod laws;
+mod peer;
 
 pub use events::{Cut, Joiner, Party, Sent, WorldEvent};
 pub use examples::{
@@ -12,3 +13,4 @@ pub use examples::{
     old_done_is_stale, start_that_was_not_sent,
 };
 pub use laws::{events_lead_on, every_peer_runs_its_jobs, every_world_is_true};
+pub use peer::Peer;
