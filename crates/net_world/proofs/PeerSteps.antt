@@ -1,6 +1,6 @@
 -- A peer's steps keep what holds of it, and send what is right.
-use Rattle.std.proofs.Common.{◌≡◌, inl, inr, ℕ, Bool, true, false, cond, List, [], ◌∷◌, length, Option, Some, None, map, refl, ap, sym, ◌∙◌, subst}
-use Rattle.std.specs.Prelude.{slice_get, is_some, nat_le, unwrap_or}
+use Rattle.std.proofs.Common.{◌≡◌, ℕ, Bool, true, false, cond, List, [], ◌∷◌, length, Option, Some, None, map, refl, ap, sym, ◌∙◌, subst}
+use Rattle.std.specs.Prelude.{slice_get, is_some, unwrap_or}
 use Rattle.std.specs.Option.{option_map_or}
 use Rattle.std.proofs.lemmas.Bool.{and_parts}
 use Rattle.flow_types.specs.declared.plan.Port.{Port}
@@ -22,9 +22,9 @@ use Rattle.worker_core.specs.Workers.{Worker, Acted, key_of, holds_all, content_
 use Rattle.net_world.specs.declared.events.Party.TheVariants.{Master, Peer}
 use Rattle.net_world.specs.declared.events.Sent.{Sent}
 use Rattle.net_world.specs.Members.{Stands, Every}
-use Rattle.net_world.specs.Worlds.{lesser, least_job, up_from}
+use Rattle.net_world.specs.Worlds.{is_least, least_job, up_from}
 use Rattle.net_world.specs.Laws.{task_sent}
-use Rattle.net_world.proofs.Members.{every_nil, every_one}
+use Rattle.net_world.proofs.Members.{every_nil, every_one, found_stands}
 use Rattle.net_world.proofs.Rows.{all_got, place_held, all_put, all_unlinked, all_pinned_all, all_unpinned_all, all_touched_all}
 use Rattle.net_world.proofs.Invariant.{Setting, due, IsDue, AllRows, IsRight, IsRightMessage, IsRightJob}
 
@@ -155,14 +155,4 @@ reports_fed S H bag p w attempt outcome is all = placed_fed S H bag p w attempt 
 
 -- The job that is run next is one of the peer's.
 pub least_stands : (jobs : List Start) (s : Start) → least_job jobs ≡ Some s → Stands s jobs
-least_stands [] s is = absurd (let h : ⊥ = cc in h)
-least_stands (x ∷ jobs) s is = least_by x jobs s (least_job jobs) refl (λ y. least_stands jobs y) (let same : lesser x (least_job jobs) ≡ s = cc in same)
-  where
-    pick : (x y : Start) (jobs : List Start) (s : Start) (b : Bool) → cond b x y ≡ s → Stands y jobs → Stands s (x ∷ jobs)
-    pick x y jobs s true is there = inl (sym is)
-    pick x y jobs s false is there = inr (subst (λ z. Stands z jobs) is there)
-
-    least_by : (x : Start) (jobs : List Start) (s : Start) (least : Option Start) → least_job jobs ≡ least → ((y : Start) → least_job jobs ≡ Some y → Stands y jobs)
-        → lesser x least ≡ s → Stands s (x ∷ jobs)
-    least_by x jobs s None at rest is = inl (sym is)
-    least_by x jobs s (Some y) at rest is = pick x y jobs s (nat_le x.attempt.0 y.attempt.0) is (rest y at)
+least_stands jobs s is = (found_stands (is_least jobs) jobs s is).0

@@ -1,5 +1,6 @@
 -- The world of a master and its workers, and what each event makes of it.
 use Rattle.std.specs.Prelude.{ℕ, Bool, true, false, not, ◌&&◌, ◌||◌, ◌-◌, List, [], ◌∷◌, ◌++◌, length, ◌==◌, Option, Some, None, Result, Ok, Err, nat_le, if◌then◌else◌, map, filter, filter_map, find, fold, position, remove, slice_get, slice_set, is_none}
+use Rattle.std.specs.List.{list_all}
 use Rattle.std.specs.Option.{option_map, option_map_or}
 use Rattle.sha2.specs.Sha256.{sha256}
 use Rattle.flow_types.specs.declared.plan.Plan.{Plan}
@@ -357,15 +358,13 @@ to_peer w p message (Some c) None = w
 to_peer w p message (Some c) (Some machine) =
     acted w p machine machine.jobs (hears machine.worker message)
 
--- the lesser of two attempts
-abbrev pub lesser : Start → Option Start → Start
-lesser s None = s
-lesser s (Some other) = if nat_le s.attempt.0 other.attempt.0 then s else other
+-- no job has an attempt below this one
+abbrev pub is_least : List Start → Start → Bool
+is_least jobs s = list_all (λ other. nat_le s.attempt.0 other.attempt.0) jobs
 
 -- the job of the least attempt
 abbrev pub least_job : List Start → Option Start
-least_job [] = None
-least_job (s ∷ jobs) = Some (lesser s (least_job jobs))
+least_job jobs = find (is_least jobs) jobs
 
 -- it is the job of an attempt
 abbrev pub is_job_of : AttemptNo → Start → Bool

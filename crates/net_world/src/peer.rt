@@ -1,7 +1,8 @@
 //! A peer of a world, as it runs.
-ghost use Rattle.std.specs.Prelude.{◌≡◌, ◌<◌, ◌||◌, ◌++◌, length, position, IfOk, IfSome, OnOk};
+ghost use Rattle.std.specs.Prelude.{◌≡◌, ◌<◌, ◌||◌, ◌++◌, length, nat_le, position, IfOk, IfSome, OnOk};
+ghost use Rattle.std.specs.List.{list_all};
 ghost use Rattle.worker_core.specs.Workers.{hears, reports};
-ghost use Rattle.net_world.specs.Worlds.{is_job_of, new_machine, new_worker, stepped, without_job};
+ghost use Rattle.net_world.specs.Worlds.{is_job_of, is_least, new_machine, new_worker, stepped, without_job};
 
 use flow_types::{Amounts, AttemptNo, Memory, Message, Outcome, Rows, Start};
 use std::alloc::Global;
@@ -101,4 +102,19 @@ fn forget(jobs: &mut Vec<Start>, attempt: AttemptNo)
     if let Some(at) = find(jobs.as_slice(), attempt) {
         let _ended = jobs.remove(at);
     }
+}
+
+// Whether no job has an attempt below this one.
+fn is_below_none(jobs: &[Start], attempt: AttemptNo) -> bool
+    ensures { result ≡ list_all (λ other. nat_le attempt.0 other.attempt.0) jobs.now }
+{
+    jobs.iter().all(|other| attempt.0 <= other.attempt.0)
+}
+
+// Where the job of the least attempt stands.
+fn least(jobs: &[Start]) -> Option<usize>
+    ensures place { result ≡ position (is_least jobs.now) jobs.now }
+    ensures within { IfSome result (λ at. at < length jobs.now) }
+{
+    jobs.iter().position(|s| is_below_none(jobs, s.attempt))
 }
