@@ -18,4 +18,5 @@ pub mod Links
 pub mod Locals
 pub mod Crashes
 pub mod Unchanged
+pub mod Places
 pub mod Reached

@@ -1,5 +1,6 @@
 pub mod Members
 pub mod Worlds
 pub mod Reach
+pub mod Runs
 pub mod Laws
 pub mod Examples

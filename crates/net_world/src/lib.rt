@@ -4,6 +4,7 @@
 
 mod events;
 mod examples;
+mod fault;
 mod laws;
 mod peer;
 
@@ -12,5 +13,6 @@ pub use examples::{
     collection_comes_first, job_delivered_twice, lost_link_runs_again, missing_input_is_put_again,
     old_done_is_stale, start_that_was_not_sent,
 };
+pub use fault::WorldFault;
 pub use laws::{events_lead_on, every_peer_runs_its_jobs, every_world_is_true};
 pub use peer::Peer;

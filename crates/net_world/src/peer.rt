@@ -1,10 +1,16 @@
 //! A peer of a world, as it runs.
-ghost use Rattle.std.specs.Prelude.{◌≡◌, ◌<◌, ◌||◌, ◌++◌, length, nat_le, position, IfOk, IfSome, OnOk};
+ghost use Rattle.std.specs.Prelude.{◌≡◌, ◌<◌, ◌||◌, ◌++◌, length, nat_le, position, slice_get, IfOk, IfSome, OnOk};
 ghost use Rattle.std.specs.List.{list_all};
 ghost use Rattle.worker_core.specs.Workers.{hears, reports};
-ghost use Rattle.net_world.specs.Worlds.{is_job_of, is_least, new_machine, new_worker, stepped, without_job};
+ghost use Rattle.net_world.specs.Worlds.{is_job_of, is_least, least_job, new_machine, new_worker, stepped, without_job};
+ghost use Rattle.net_world.specs.Reach.{MayEnd};
+ghost use Rattle.net_world.specs.Runs.{RunsNext};
+ghost use Rattle.flow_types.specs.declared.job.Job.{Job as JobValue};
+ghost use Rattle.std.specs.Option.{option_copied};
 
-use flow_types::{Amounts, AttemptNo, Memory, Message, Outcome, Rows, Start};
+use crate::WorldFault;
+use flow_types::{Amounts, AttemptNo, Job, Memory, Message, Outcome, Rows, Start};
+use outside::{Commands, Fault, Runner};
 use std::alloc::Global;
 use std::marker::Model;
 use worker_core::{Acts, WorkerCore};
@@ -70,6 +76,27 @@ impl Peer {
         self.takes(acts)
     }
 
+    /// Runs the job of the least attempt, where there is one, and reports how it ended; answers what
+    /// is to be sent.
+    pub fn run<F: Commands, R: Runner<F>>(
+        &mut self,
+        runner: &mut R,
+    ) -> Result<Rows<Message>, WorldFault>
+        ensures { IfOk result (λ sent. ((job : JobValue) → R.tells runner.old job)
+            → RunsNext (MayEnd F.gives F.may_fail) self.old (least_job self.old.jobs) sent
+            self.new) }
+    {
+        let Some(start) = next(self.jobs.as_slice()) else {
+            return Ok(Rows::new(self.alloc));
+        };
+        let attempt = start.attempt;
+        let outcome = run_job(self.alloc, &start.job, runner)?;
+        match self.report(attempt, outcome) {
+            Ok(sent) => Ok(sent),
+            Err(_) => Err(WorldFault::Memory),
+        }
+    }
+
     // What a step of the worker starts is a job from now on; answers what it sends.
     fn takes(&mut self, acts: Acts) -> Result<Rows<Message>, Memory>
         ensures sent { IfOk result (λ sent. sent ≡ acts.send) }
@@ -117,4 +144,38 @@ fn least(jobs: &[Start]) -> Option<usize>
     ensures within { IfSome result (λ at. at < length jobs.now) }
 {
     jobs.iter().position(|s| is_below_none(jobs, s.attempt))
+}
+
+// The job of the least attempt.
+#[tactic(auto, using(crate::proofs::Places::place_found, crate::proofs::Places::none_found))]
+fn next(jobs: &[Start]) -> Option<&Start>
+    ensures { option_copied result ≡ least_job jobs.now }
+{
+    match least(jobs) {
+        Some(at) => at_place(jobs, at),
+        None => None,
+    }
+}
+
+// The job at a place.
+fn at_place(jobs: &[Start], at: usize) -> Option<&Start>
+    ensures { option_copied result ≡ slice_get jobs.now at }
+{
+    jobs.get(at)
+}
+
+// Runs a job.
+fn run_job<F: Commands, R: Runner<F>>(
+    alloc: Global,
+    job: &Job,
+    runner: &mut R,
+) -> Result<Outcome, WorldFault>
+    ensures { IfOk result (λ outcome. R.tells runner.old job.now
+        → MayEnd F.gives F.may_fail job.now outcome) }
+{
+    match runner.run(alloc, job) {
+        Ok(outcome) => Ok(outcome),
+        Err(Fault::Failed) => Err(WorldFault::Runner),
+        Err(Fault::Memory) => Err(WorldFault::Memory),
+    }
 }
