@@ -66,7 +66,8 @@ pub record IsTrueWorld (P : Plan) (gives : Function) (sources : Contents) (w : W
   -- The tasks of one attempt number have one job, over whatever contents.
   pub jobs : (t u : Task) (from to at by : Party)
       → Stands (task_sent from to t) w.bag → Stands (task_sent at by u) w.bag
-      → t.attempt.0 ≡ u.attempt.0 → (contents : Contents) → task_job t contents ≡ task_job u contents
+      → t.attempt.0 ≡ u.attempt.0
+      → (contents : Contents) → task_job t contents ≡ task_job u contents
 
 -- the attempts of these jobs
 abbrev pub attempts_of : List Start → List AttemptNo

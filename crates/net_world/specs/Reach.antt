@@ -22,12 +22,15 @@ use Rattle.net_world.specs.Worlds.{World, happens, job_run, row_for}
 abbrev pub Failures : Type 1
 Failures = Job → Failure → Type 0
 
--- A job may end so: it wasn't run, or its outcome has the shape that was asked for and is what the
--- commands give, or a failure with which the job may end.
+-- A job ran and ended so: its outcome has the shape that was asked for, and is what the commands
+-- give, or a failure with which the job may end.
+abbrev pub EndsSo : Function → Failures → Job → Outcome → Type 0
+EndsSo gives may_fail job outcome =
+    IsShaped job outcome × IsHonest (given_by gives job) (may_fail job) outcome
+
+-- A job may end so: it wasn't run, or it ran and ended so.
 abbrev pub MayEnd : Function → Failures → Job → Outcome → Type 0
-MayEnd gives may_fail job outcome =
-    HasRun outcome
-    → IsShaped job outcome × IsHonest (given_by gives job) (may_fail job) outcome
+MayEnd gives may_fail job outcome = HasRun outcome → EndsSo gives may_fail job outcome
 
 -- the same where there is a job
 abbrev pub MayAnswer : Function → Failures → Option Job → Outcome → Type 0

@@ -9,7 +9,8 @@ use Rattle.net_world.specs.Worlds.{Machine, stepped, without_job}
 
 -- Without a job nothing is done. Else the job ended as it may, the peer reported that, and the rest
 -- are its jobs from then on.
-abbrev pub RunsNext : (Job → Outcome → Type 0) → Machine → Option Start → List Message → Machine → Type 0
+abbrev pub RunsNext : (Job → Outcome → Type 0)
+    → Machine → Option Start → List Message → Machine → Type 0
 RunsNext may_end old None sent new = (sent ≡ []) × (new ≡ old)
 RunsNext may_end old (Some s) sent new =
     (outcome : Outcome) × may_end s.job outcome

@@ -13,7 +13,8 @@ pub fn job_delivered_twice()
     ensures ran { (fresh : State) → length (begun fresh one_rule remote run_once).bag ≡ 3 }
     ensures once { (fresh : State) → history (begun fresh one_rule remote delivered)
         ≡ codes "opened" ∷ starts 0 1 ∷ done 0 ∷ [] }
-    ensures twice { (fresh : State) → begun fresh one_rule remote delivered_twice ≡ begun fresh one_rule remote delivered }
+    ensures twice { (fresh : State) → begun fresh one_rule remote delivered_twice
+        ≡ begun fresh one_rule remote delivered }
 {}
 
 /// A task that comes before its input: it is told as missing and put once more, and the attempt
@@ -51,6 +52,7 @@ pub fn collection_comes_first()
     ensures done { (fresh : State) → history (begun fresh chain collecting two_done) ≡ two_logged }
     ensures waits { (fresh : State) → begun fresh chain collecting (two_done ++ claim 0 ∷ [])
         ≡ begun fresh chain collecting two_done }
-    ensures goes { (fresh : State) → history (begun fresh chain collecting (two_done ++ events.Collect ∷ claim 0 ∷ []))
+    ensures goes { (fresh : State)
+        → history (begun fresh chain collecting (two_done ++ events.Collect ∷ claim 0 ∷ []))
         ≡ two_logged ++ drops 0 ∷ starts 2 0 ∷ [] }
 {}

@@ -1,9 +1,11 @@
 //! A peer of a world, as it runs.
-ghost use Rattle.std.specs.Prelude.{◌≡◌, ◌<◌, ◌||◌, ◌++◌, length, nat_le, position, slice_get, IfOk, IfSome, OnOk};
+ghost use Rattle.std.specs.Prelude.{◌≡◌, ◌<◌, ◌||◌, ◌++◌, length, nat_le, position};
+ghost use Rattle.std.specs.Prelude.{slice_get, IfOk, IfSome, IsErrOf, OnOk};
 ghost use Rattle.std.specs.List.{list_all};
 ghost use Rattle.worker_core.specs.Workers.{hears, reports};
-ghost use Rattle.net_world.specs.Worlds.{is_job_of, is_least, least_job, new_machine, new_worker, stepped, without_job};
-ghost use Rattle.net_world.specs.Reach.{MayEnd};
+ghost use Rattle.net_world.specs.Worlds.{is_job_of, is_least, least_job, new_machine};
+ghost use Rattle.net_world.specs.Worlds.{new_worker, stepped, without_job};
+ghost use Rattle.net_world.specs.Reach.{EndsSo};
 ghost use Rattle.net_world.specs.Runs.{RunsNext};
 ghost use Rattle.flow_types.specs.declared.job.Job.{Job as JobValue};
 ghost use Rattle.std.specs.Option.{option_copied};
@@ -60,8 +62,8 @@ impl Peer {
         }
     }
 
-    /// The job of an attempt has ended so; answers what is to be sent. Where there is no memory, some
-    /// of it may be done.
+    /// The job of an attempt has ended so; answers what is to be sent. Where there is no memory,
+    /// some of it may be done.
     pub fn report(&mut self, attempt: AttemptNo, outcome: Outcome) -> Result<Rows<Message>, Memory>
         ensures sent { IfOk result (λ sent. sent
             ≡ (reports self.old.worker attempt outcome).acts.send) }
@@ -76,15 +78,17 @@ impl Peer {
         self.takes(acts)
     }
 
-    /// Runs the job of the least attempt, where there is one, and reports how it ended; answers what
-    /// is to be sent.
+    /// Runs the job of the least attempt, where there is one, and reports how it ended; answers
+    /// what is to be sent.
     pub fn run<F: Commands, R: Runner<F>>(
         &mut self,
         runner: &mut R,
     ) -> Result<Rows<Message>, WorldFault>
-        ensures { IfOk result (λ sent. ((job : JobValue) → R.tells runner.old job)
-            → RunsNext (MayEnd F.gives F.may_fail) self.old (least_job self.old.jobs) sent
+        ensures ran { IfOk result (λ sent. ((job : JobValue) → R.tells runner.old job)
+            → RunsNext (EndsSo F.gives F.may_fail) self.old (least_job self.old.jobs) sent
             self.new) }
+        ensures cause { IsErrOf result WorldFault.Runner
+            → R.count runner.old < R.count runner.new }
     {
         let Some(start) = next(self.jobs.as_slice()) else {
             return Ok(Rows::new(self.alloc));
@@ -170,8 +174,9 @@ fn run_job<F: Commands, R: Runner<F>>(
     job: &Job,
     runner: &mut R,
 ) -> Result<Outcome, WorldFault>
-    ensures { IfOk result (λ outcome. R.tells runner.old job.now
-        → MayEnd F.gives F.may_fail job.now outcome) }
+    ensures end { IfOk result (λ outcome. R.tells runner.old job.now
+        → EndsSo F.gives F.may_fail job.now outcome) }
+    ensures cause { IsErrOf result WorldFault.Runner → R.count runner.old < R.count runner.new }
 {
     match runner.run(alloc, job) {
         Ok(outcome) => Ok(outcome),
