@@ -74,6 +74,13 @@ impl Session {
         }
     }
 
+    /// The run.
+    pub fn run(&self) -> u64
+        ensures { result ≡ self.now.run }
+    {
+        self.run
+    }
+
     /// Whether the attempt is open.
     pub fn has(&self, attempt: AttemptNo) -> bool
         ensures { result ≡ is_open attempt self.now.attempts }
