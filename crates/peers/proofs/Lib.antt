@@ -1,0 +1,9 @@
+pub mod Opens
+pub mod Frames
+pub mod Fits
+pub mod Serving
+pub mod Hearing
+pub mod Sending
+pub mod Calm
+pub mod Providing
+pub mod Owing

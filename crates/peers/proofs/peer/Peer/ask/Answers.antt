@@ -1,0 +1,26 @@
+use Rattle.std.proofs.Common.{Some, None}
+use Rattle.peers.proofs.Sending.{says_again, says_task}
+use Rattle.peers.proofs.Serving.{same_peer}
+use Rattle.peers.proofs.peer.Peer.ask.Goals as goal
+
+pub returns-clause-serves : goal.returns-clause-serves
+returns-clause-serves g c = λ said heard tells serves.
+    let gives = g.F.Commands.gives in
+    let may_fail = g.F.Commands.may_fail in
+    let history = g.L.Link.history in
+    let way = c.self.inside.way in
+    let feed = c.self.inside.feeder in
+    let session = c.self.inside.session in
+    let s = same_peer gives may_fail history c.args.self.now (record { way = way; feed = feed; session = session }) said heard (Some c.args.task) c.self.view_is serves in
+    says_task gives may_fail c.say.result (history way) (history c.say.new.way) feed session said heard c.args.task (c.say.ensures.sends tells) s
+
+pub returns-clause-again : goal.returns-clause-again
+returns-clause-again g c = λ said heard tells serves ours.
+    let gives = g.F.Commands.gives in
+    let may_fail = g.F.Commands.may_fail in
+    let history = g.L.Link.history in
+    let way = c.self.inside.way in
+    let feed = c.self.inside.feeder in
+    let session = c.self.inside.session in
+    let s = same_peer gives may_fail history c.args.self.now (record { way = way; feed = feed; session = session }) said heard None c.self.view_is serves in
+    says_again gives may_fail c.say.result (history way) (history c.say.new.way) feed session said heard c.args.task (c.say.ensures.sends tells) ours s

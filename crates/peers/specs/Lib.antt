@@ -1,0 +1,5 @@
+pub mod States
+pub mod Serves
+pub mod Sends
+pub mod Hears
+pub mod Provides
