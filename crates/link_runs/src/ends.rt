@@ -1,5 +1,5 @@
 //! The two ends of a link.
-ghost use Rattle.std.specs.Prelude.{IfOk};
+ghost use Rattle.std.specs.Prelude.{◌≡◌, IfOk};
 
 use links::{Came, Dial, Got, Hall, Link};
 use mem_outside::Blank;
@@ -7,8 +7,11 @@ use std::alloc::Global;
 use std::process;
 use std::test::Fail;
 
-// How many ports a hall tries, and how many pieces a message may come in.
+// How many ports a hall tries, how often one looks for what is to come, and how many pieces a
+// message may come in.
 const PORTS: u16 = 100;
+
+const LOOKS: u32 = 5_000;
 
 const PIECES: u32 = 100_000;
 
@@ -34,6 +37,18 @@ pub fn open<H: Hall<Blank>>(hall: &mut H, first: u16) -> Result<u16, Fail>
     Err(Fail::new("no port is free"))
 }
 
+/// Whether somebody comes to a hall, within some seconds.
+pub fn somebody_comes<H: Hall<Blank>>(hall: &mut H) -> bool
+    ensures { hall.new ≡ hall.old }
+{
+    for _ in 0..LOOKS {
+        if hall.ready() {
+            return true;
+        }
+    }
+    false
+}
+
 /// A new link: the end that dialled, and the one that the hall gave.
 pub fn meet<H: Hall<Blank>, D: Dial<Blank>>(
     alloc: Global,
@@ -45,6 +60,7 @@ pub fn meet<H: Hall<Blank>, D: Dial<Blank>>(
     ensures { H.listens hall.new }
 {
     let dialled = dial.dial(alloc, "127.0.0.1", port)?;
+    somebody_comes(hall);
     match hall.wait(alloc)? {
         Came::Link(given) => Ok((dialled, given)),
         Came::Idle => Err(Fail::new("nobody came")),

@@ -11,10 +11,8 @@ use std::thread::{self, Threads};
 // A message that no piece and no buffer of a socket holds.
 const LONG: u32 = 8_000_000;
 
-// How often each end may be idle in a row: some seconds.
-const GIVEN_IDLES: u64 = 5;
-
-const DIALLED_IDLES: u64 = 500;
+// How often an end may be idle in a row: some seconds.
+const IDLES: u64 = 500;
 
 fn long_message(alloc: Global) -> Result<Vec<u8>, AllocError> {
     let mut bytes = Vec::new(alloc);
@@ -29,14 +27,13 @@ fn comes_whole<R: AllocGlobal + Threads>(
     rt: &R,
     from: &mut TcpLink,
     to: &mut TcpLink,
-    most_idles: u64,
     bytes: &[u8],
 ) -> bool {
     let alloc = rt.alloc();
     let (sent, heard) = thread::join(
         rt,
         || Link::<Blank>::send(from, bytes).is_ok(),
-        || hear(alloc, to, bytes.len(), most_idles),
+        || hear(alloc, to, bytes.len(), IDLES),
     );
     match heard {
         Some(heard) => sent && heard.as_slice() == bytes,
@@ -52,16 +49,8 @@ fn a_long_message_comes_whole_either_way(rt: HostRuntime) -> Result<(), Fail> {
     let port = open(&mut hall, first_port(&rt, 0))?;
     let (mut dialled, mut given) = meet(alloc, &mut hall, &mut dial, port)?;
     let bytes = long_message(alloc)?;
-    assert!(rt; comes_whole(&rt, &mut dialled, &mut given, GIVEN_IDLES, bytes.as_slice()));
-    assert!(rt;
-        comes_whole(
-            &rt,
-            &mut given,
-            &mut dialled,
-            DIALLED_IDLES,
-            bytes.as_slice()
-        )
-    );
+    assert!(rt; comes_whole(&rt, &mut dialled, &mut given, bytes.as_slice()));
+    assert!(rt; comes_whole(&rt, &mut given, &mut dialled, bytes.as_slice()));
     assert_eq!(rt; Link::<Blank>::faults(&dialled), 0);
     assert_eq!(rt; Link::<Blank>::faults(&given), 0);
     Ok(())

@@ -1,41 +1,84 @@
-//! How long each call waits.
-use crate::ends::{first_port, meet, open};
-use links::{Came, Got, Hall, Link};
+//! What is there is seen, and nobody waits long for what isn't.
+use crate::ends::{first_port, meet, open, somebody_comes};
+use links::{Came, Dial, Got, Hall, Link};
 use mem_outside::Blank;
 use real_links::{TcpDial, TcpHall, TcpLink};
 use std::rt::HostRuntime;
 use std::test::Fail;
-use std::time::Instant;
+use std::thread;
+use std::time::{Duration, Instant};
 
-// Milliseconds. The machine may be busy.
-const SECOND: u128 = 900;
+// How often one looks at a link, and the milliseconds between.
+const LOOKS: u32 = 500;
 
-const LONG: u128 = 5_000;
+const PAUSE_MILLIS: u64 = 10;
 
-fn idle_millis(rt: &HostRuntime, link: &mut TcpLink) -> Result<u128, Fail> {
-    let start = Instant::now(rt)?;
-    match Link::<Blank>::recv(link, rt.alloc())? {
-        Got::Idle => Ok(start.elapsed(rt)?.as_millis()),
-        Got::Piece(_) | Got::Closed => Err(Fail::new("it isn't idle")),
+// Milliseconds within which a call answers. The machine may be busy.
+const SOON: u128 = 900;
+
+// Whether something comes over a link, within some seconds.
+fn something_comes(rt: &HostRuntime, link: &mut TcpLink) -> bool {
+    for _ in 0..LOOKS {
+        if Link::<Blank>::ready(link) {
+            return true;
+        }
+        thread::sleep(rt, Duration::from_millis(PAUSE_MILLIS));
     }
+    false
+}
+
+// Whether a link is idle, and soon.
+fn is_idle_soon(rt: &HostRuntime, link: &mut TcpLink) -> Result<bool, Fail> {
+    let start = Instant::now(rt)?;
+    let got = Link::<Blank>::recv(link, rt.alloc())?;
+    let waited = start.elapsed(rt)?.as_millis();
+    Ok(matches!(got, Got::Idle) && waited < SOON)
 }
 
 #[test]
-fn a_hall_and_its_links_are_idle_after_a_second(rt: HostRuntime) -> Result<(), Fail> {
+fn a_hall_is_ready_once_somebody_has_come(rt: HostRuntime) -> Result<(), Fail> {
     let alloc = rt.alloc();
     let mut hall = TcpHall::new(&rt, alloc);
     let mut dial = TcpDial::new(&rt);
     let port = open(&mut hall, first_port(&rt, 3))?;
+    assert!(rt; !Hall::<Blank>::ready(&mut hall));
     let start = Instant::now(&rt)?;
     let came = Hall::<Blank>::wait(&mut hall, alloc)?;
-    let waited = start.elapsed(&rt)?.as_millis();
     assert!(rt; matches!(came, Came::Idle));
-    assert!(rt; SECOND < waited && waited < LONG);
+    assert!(rt; start.elapsed(&rt)?.as_millis() < SOON);
     assert_eq!(rt; Hall::<Blank>::idles(&hall), 1);
+    let _dialled = Dial::<Blank>::dial(&mut dial, alloc, "127.0.0.1", port)?;
+    assert!(rt; somebody_comes(&mut hall));
+    assert!(rt; Hall::<Blank>::ready(&mut hall));
+    let came = Hall::<Blank>::wait(&mut hall, alloc)?;
+    assert!(rt; matches!(came, Came::Link(_)));
+    assert!(rt; !Hall::<Blank>::ready(&mut hall));
+    assert_eq!(rt; Hall::<Blank>::idles(&hall), 1);
+    assert_eq!(rt; Hall::<Blank>::faults(&hall), 0);
+    Ok(())
+}
+
+#[test]
+fn a_link_is_ready_once_something_has_come(rt: HostRuntime) -> Result<(), Fail> {
+    let alloc = rt.alloc();
+    let mut hall = TcpHall::new(&rt, alloc);
+    let mut dial = TcpDial::new(&rt);
+    let port = open(&mut hall, first_port(&rt, 4))?;
     let (mut dialled, mut given) = meet(alloc, &mut hall, &mut dial, port)?;
-    let waited = idle_millis(&rt, &mut given)?;
-    assert!(rt; SECOND < waited && waited < LONG);
-    assert_eq!(rt; Link::<Blank>::idles(&given), 1);
-    assert!(rt; idle_millis(&rt, &mut dialled)? < SECOND);
+    assert!(rt; !Link::<Blank>::ready(&mut given));
+    assert!(rt; is_idle_soon(&rt, &mut given)?);
+    assert!(rt; is_idle_soon(&rt, &mut dialled)?);
+    Link::<Blank>::send(&mut dialled, b"abc")?;
+    assert!(rt; something_comes(&rt, &mut given));
+    assert!(rt; Link::<Blank>::ready(&mut given));
+    match Link::<Blank>::recv(&mut given, alloc)? {
+        Got::Piece(bytes) => assert_eq!(rt; bytes.as_slice(), b"abc".as_slice()),
+        Got::Idle | Got::Closed => return Err(Fail::new("no piece")),
+    }
+    assert!(rt; !Link::<Blank>::ready(&mut given));
+    drop(dialled);
+    assert!(rt; something_comes(&rt, &mut given));
+    assert!(rt; matches!(Link::<Blank>::recv(&mut given, alloc)?, Got::Closed));
+    assert!(rt; Link::<Blank>::ready(&mut given));
     Ok(())
 }

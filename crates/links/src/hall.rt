@@ -58,7 +58,7 @@ pub trait Hall<F: Commands>: Send + Drop {
             → staffed self.old amounts → staffed self.new amounts }
         ensures cause { HasCause (count self.old) (count self.new) result };
 
-    /// Waits a while for a peer.
+    /// The next peer, or that nobody came.
     fn wait(&mut self, alloc: Global) -> Result<Came<Self::Way>, Fault>
         requires { listens self.old }
         ensures listens { listens self.new }
@@ -77,6 +77,10 @@ pub trait Hall<F: Commands>: Send + Drop {
             × IfLink result (λ way. Self.Way.sure way × Self.Way.offers way amounts
             × (given self.new ≤ 32)) }
         ensures cause { HasCause (count self.old) (count self.new) result };
+
+    /// Whether a call of `wait` would answer at once with more than that nobody came.
+    fn ready(&mut self) -> bool
+        ensures { self.new ≡ self.old };
 
     /// Ends the link's connection and keeps the link, with its number if it has one. Where there is
     /// no memory it is lost.

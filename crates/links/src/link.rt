@@ -49,7 +49,7 @@ pub trait Link<F: Commands>: Send + Drop {
         ensures offers { (amounts : Amounts) → offers self.old amounts → offers self.new amounts }
         ensures cause { HasCause (count self.old) (count self.new) result };
 
-    /// Waits a while for bytes.
+    /// The bytes that are there. Where none are, it waits a while for some.
     fn recv(&mut self, alloc: Global) -> Result<Got, Fault>
         ensures history { tells → Receives result (history self.old) (history self.new) }
         ensures full { IfOk result IsFull }
@@ -61,6 +61,10 @@ pub trait Link<F: Commands>: Send + Drop {
             × IsSureAnswer (sent_in (history self.old)) (received_in (history self.old)) result }
         ensures offers { (amounts : Amounts) → offers self.old amounts → offers self.new amounts }
         ensures cause { HasCause (count self.old) (count self.new) result };
+
+    /// Whether a call of `recv` would answer at once: bytes are there, or the end or a failure is.
+    fn ready(&mut self) -> bool
+        ensures { self.new ≡ self.old };
 
     /// The count of failures.
     fn faults(&self) -> u64

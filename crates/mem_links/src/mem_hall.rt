@@ -128,6 +128,13 @@ impl<F: Commands> Hall<F> for MemHall {
         }
     }
 
+    fn ready(&mut self) -> bool
+        ensures answer { result ≡ true }
+        ensures hall { self.new ≡ self.old }
+    {
+        true
+    }
+
     fn back(&mut self, _alloc: Global, link: Option<LinkNo>, way: MemLink) -> Result<(), Memory>
         ensures { KeepsLink link way self.old result self.new }
     {

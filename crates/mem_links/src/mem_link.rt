@@ -1,5 +1,5 @@
 //! A link in memory, by a list of its answers.
-ghost use Rattle.std.specs.Prelude.{◌≡◌, [], IfOk, is_ok, if◌then◌else◌};
+ghost use Rattle.std.specs.Prelude.{◌≡◌, [], true, IfOk, is_ok, if◌then◌else◌};
 ghost use Rattle.std.specs.Option.{option_copied};
 ghost use Rattle.outside.specs.Causes.{HasCause};
 ghost use Rattle.links.specs.Passings.{sent_in, Transmits, Receives, IsFull};
@@ -152,6 +152,13 @@ impl<F: Commands> Link<F> for MemLink {
             Some(LinkStep::Fail) => Err(failed(&mut self.faults)),
             _ => self.idle(),
         }
+    }
+
+    fn ready(&mut self) -> bool
+        ensures answer { result ≡ true }
+        ensures link { self.new ≡ self.old }
+    {
+        true
     }
 
     fn faults(&self) -> u64

@@ -12,9 +12,6 @@ use std::time::Duration;
 // How long each address of a host may take to answer.
 const CONNECT_SECONDS: u64 = 1;
 
-// How long a read of a dialled link waits. A peer has reports to send meanwhile, so it is short.
-const READ_MILLIS: u64 = 10;
-
 /// Connects to hosts by their names or addresses.
 #[derive(Drop)]
 pub struct TcpDial<'a, R> {
@@ -49,7 +46,7 @@ impl<'a, F: Commands, R: Net<Stream = TcpStream> + Sync> Dial<F> for TcpDial<'a,
 fn linked<R: Net<Stream = TcpStream>>(rt: &R, host: &str, port: u16) -> io::Result<TcpLink>
     ensures { IfOk result (λ link. link ≡ (false, (0, 0))) }
 {
-    TcpLink::over(connect(rt, host, port)?, Duration::from_millis(READ_MILLIS))
+    TcpLink::over(connect(rt, host, port)?)
 }
 
 // Tries each address of the host in turn.

@@ -1,5 +1,5 @@
 //! A hall over a listening socket.
-ghost use Rattle.std.specs.Prelude.{◌≡◌, [], false, IfOk, IfSome, IsSome};
+ghost use Rattle.std.specs.Prelude.{◌≡◌, [], true, false, IfOk, IfSome};
 
 use crate::tcp_link::TcpLink;
 use flow_types::{LinkNo, Memory};
@@ -7,28 +7,42 @@ use links::{Came, Hall};
 use outside::{Commands, Fault, failed};
 use std::alloc::Global;
 use std::io::{self, ErrorKind};
+use std::marker::Model;
 use std::net::{Net, TcpListener, TcpStream};
 use std::rt::Clock;
 use std::thread;
 use std::time::Duration;
 
-// An idle answer is so many looks, each after so many milliseconds: a second together.
-const LOOKS: u32 = 20;
+// How long a look sleeps that finds nobody.
+const PAUSE_MILLIS: u64 = 1;
 
-const PAUSE_MILLIS: u64 = 50;
-
-// How long a read of a link waits.
-const READ_SECONDS: u64 = 1;
-
-/// Where peers come. It looks for one twenty times a second.
+/// Where peers come. It waits for none of them. Contracts see whether it listens, the links that
+/// were handed back, and its counts.
 #[derive(Drop)]
 pub struct TcpHall<'a, R: Net<Listener = TcpListener, Stream = TcpStream> + Clock> {
     rt: &'a R,
     listener: Option<TcpListener>,
+    // Who has come and wasn't given yet.
+    came: Option<TcpStream>,
     got: Vec<(Option<LinkNo>, TcpLink)>,
     given: u64,
     faults: u64,
     idles: u64,
+}
+
+impl<'a, R: Net<Listener = TcpListener, Stream = TcpStream> + Clock> Model for TcpHall<'a, R> {
+    ghost use Rattle.std.specs.Prelude.{is_some};
+    ghost use Rattle.real_links.specs.Halls.{HallState};
+
+    ghost Value = { HallState };
+
+    ghost view = { λ h. record {
+      listens = is_some h.listener;
+      got = h.got.items;
+      given = h.given;
+      faults = h.faults;
+      idles = h.idles;
+    } };
 }
 
 impl<'a, R: Net<Listener = TcpListener, Stream = TcpStream> + Clock> TcpHall<'a, R> {
@@ -37,10 +51,26 @@ impl<'a, R: Net<Listener = TcpListener, Stream = TcpStream> + Clock> TcpHall<'a,
         TcpHall {
             rt,
             listener: None,
+            came: None,
             got: Vec::new(alloc),
             given: 0,
             faults: 0,
             idles: 0,
+        }
+    }
+
+    // The next peer: who came already, or who is there now.
+    fn next(&mut self) -> io::Result<Option<TcpLink>>
+        ensures hall { self.new ≡ self.old }
+        ensures fresh { IfOk result (λ link. IfSome link (λ l. l ≡ (false, (0, 0)))) }
+    {
+        let came = match self.came.take() {
+            Some(stream) => Some(stream),
+            None => accepted(self.listener.as_ref())?,
+        };
+        match came {
+            Some(stream) => Ok(Some(TcpLink::over(stream)?)),
+            None => Ok(None),
         }
     }
 }
@@ -52,11 +82,11 @@ where
 {
     type Way = TcpLink;
 
-    ghost listens = { λ hall. IsSome hall.listener };
+    ghost listens = { λ hall. hall.listens ≡ true };
 
     ghost given = { λ hall. hall.given };
 
-    ghost got = { λ hall. hall.got.items };
+    ghost got = { λ hall. hall.got };
 
     ghost honest = { λ hall. ⊥ };
 
@@ -86,10 +116,7 @@ where
         if self.given == u64::MAX || self.idles == u64::MAX {
             return Err(Fault::Memory);
         }
-        let Some(listener) = self.listener.as_ref() else {
-            return Err(failed(&mut self.faults));
-        };
-        match look(self.rt, listener) {
+        match self.next() {
             Ok(Some(link)) => {
                 self.given += 1;
                 Ok(Came::Link(link))
@@ -99,6 +126,23 @@ where
                 Ok(Came::Idle)
             }
             Err(_) => Err(failed(&mut self.faults)),
+        }
+    }
+
+    fn ready(&mut self) -> bool {
+        if self.came.is_some() {
+            return true;
+        }
+        match accepted(self.listener.as_ref()) {
+            Ok(None) => {
+                thread::sleep(self.rt, Duration::from_millis(PAUSE_MILLIS));
+                false
+            }
+            Ok(came) => {
+                self.came = came;
+                true
+            }
+            Err(_) => true,
         }
     }
 
@@ -134,22 +178,16 @@ where
     Ok(listener)
 }
 
-// The next peer, if one comes within a second.
-fn look<R: Clock>(rt: &R, listener: &TcpListener) -> io::Result<Option<TcpLink>>
-    ensures { IfOk result (λ link. IfSome link (λ l. l ≡ (false, (0, 0)))) }
-{
-    for _ in 0..LOOKS {
-        match listener.accept() {
-            Ok((stream, _)) => {
-                return Ok(Some(TcpLink::over(stream, Duration::from_secs(READ_SECONDS))?));
-            }
-            Err(e) if has_nobody(e.kind()) => {
-                thread::sleep(rt, Duration::from_millis(PAUSE_MILLIS));
-            }
-            Err(e) => return Err(e),
-        }
+// Who is there, if anybody. Where nobody listens there is nobody.
+fn accepted(listener: Option<&TcpListener>) -> io::Result<Option<TcpStream>> {
+    let Some(listener) = listener else {
+        return Ok(None);
+    };
+    match listener.accept() {
+        Ok((stream, _)) => Ok(Some(stream)),
+        Err(e) if has_nobody(e.kind()) => Ok(None),
+        Err(e) => Err(e),
     }
-    Ok(None)
 }
 
 // Nobody has come, or who came is gone again.

@@ -13,6 +13,9 @@ use std::time::Duration;
 // The most bytes of a piece.
 const PIECE: usize = 65_536;
 
+// How long a read waits. Who holds the link has other things to do meanwhile, so it is short.
+const READ_MILLIS: u64 = 10;
+
 // How long a write waits for a peer that takes no byte.
 const WRITE_SECONDS: u64 = 1;
 
@@ -34,11 +37,11 @@ impl Model for TcpLink {
 }
 
 impl TcpLink {
-    // A link over this socket, whose reads wait so long.
-    pub(crate) fn over(stream: TcpStream, wait: Duration) -> io::Result<TcpLink>
+    // A link over this socket.
+    pub(crate) fn over(stream: TcpStream) -> io::Result<TcpLink>
         ensures { IfOk result (λ link. link ≡ (false, (0, 0))) }
     {
-        stream.set_read_timeout(Some(wait))?;
+        stream.set_read_timeout(Some(Duration::from_millis(READ_MILLIS)))?;
         stream.set_write_timeout(Some(Duration::from_secs(WRITE_SECONDS)))?;
         stream.set_nodelay(true)?;
         Ok(TcpLink {
@@ -126,6 +129,13 @@ impl<F: Commands> Link<F> for TcpLink {
         }
     }
 
+    fn ready(&mut self) -> bool {
+        match self.stream.as_ref() {
+            Some(stream) => has_something(stream),
+            None => true,
+        }
+    }
+
     fn faults(&self) -> u64 {
         self.faults
     }
@@ -136,6 +146,23 @@ impl<F: Commands> Link<F> for TcpLink {
 
     fn closed(&self) -> bool {
         self.closed
+    }
+}
+
+// Whether a read would answer at once: a byte is there, the end or a failure. It waits for none of
+// them.
+fn has_something(stream: &TcpStream) -> bool {
+    if stream.set_nonblocking(true).is_err() {
+        return true;
+    }
+    let mut byte = [0u8; 1];
+    let peeked = stream.peek(byte.as_mut_slice());
+    if stream.set_nonblocking(false).is_err() {
+        return true;
+    }
+    match peeked {
+        Ok(_) => true,
+        Err(e) => !has_waited(e.kind()),
     }
 }
 
