@@ -1,8 +1,12 @@
 -- Halls and dials in memory, by the steps that they take.
-use Rattle.std.specs.Prelude.{◌≡◌, ℕ, ◌+◌, Bool, false, List, [], ◌∷◌, ◌++◌}
+use Rattle.std.specs.Prelude.{◌≡◌, ◌≤◌, ℕ, ◌+◌, Bool, false, List, [], ◌∷◌, ◌++◌}
 use Rattle.std.specs.Prelude.{Option, Result, Ok, Err}
 use Rattle.flow_types.specs.declared.lists.Memory.{Memory}
+use Rattle.flow_types.specs.declared.job.Failure.{Failure}
+use Rattle.flow_types.specs.declared.job.Job.{Job}
+use Rattle.flow_types.specs.declared.numbers.Amounts.{Amounts}
 use Rattle.flow_types.specs.declared.numbers.LinkNo.{LinkNo}
+use Rattle.flow_types.specs.Serial.{Function}
 use Rattle.outside.specs.declared.fault.Fault.{Fault}
 use Rattle.outside.specs.declared.fault.Fault.TheVariants as faults
 use Rattle.links.specs.declared.passing.Came.{Came}
@@ -11,7 +15,8 @@ use Rattle.mem_links.specs.declared.mem_hall.HallStep.{HallStep}
 use Rattle.mem_links.specs.declared.mem_hall.HallStep.TheVariants as steps
 use Rattle.mem_links.specs.declared.mem_dial.DialStep.{DialStep}
 use Rattle.mem_links.specs.declared.mem_dial.DialStep.TheVariants as dials
-use Rattle.mem_links.specs.MemLinks.{LinkState, new_link}
+use Rattle.mem_links.specs.MemLinks.{LinkState, fresh_link}
+use Rattle.mem_links.specs.Serving.{IsSureLink, OffersLink}
 
 -- The answers to come, the links that were handed back, and the counts.
 pub record HallState : Type 0 where
@@ -29,7 +34,7 @@ new_hall steps =
 
 -- nothing has passed over the link
 abbrev pub IsUnused : LinkState → Type 0
-IsUnused link = link ≡ new_link link.steps
+IsUnused link = link ≡ fresh_link link.steps link.server
 
 -- nothing has passed over any link of these steps
 abbrev pub AreFresh : List HallStep → Type 0
@@ -67,6 +72,40 @@ WaitsBy [] old result new = GivesNone [] old result new
 WaitsBy (steps.Link link ∷ rest) old result new = GivesLink link rest old result new
 WaitsBy (steps.Idle ∷ rest) old result new = GivesNone rest old result new
 WaitsBy (steps.Fail ∷ rest) old result new = FailsWait rest old result new
+
+-- each link of these steps has this
+abbrev pub EachLink : (LinkState → Type 0) → List HallStep → Type 0
+EachLink fact [] = Unit {0}
+EachLink fact (steps.Link link ∷ rest) = fact link × EachLink fact rest
+EachLink fact (steps.Idle ∷ rest) = EachLink fact rest
+EachLink fact (steps.Fail ∷ rest) = EachLink fact rest
+
+-- how many links stand in these steps
+abbrev pub links_in : List HallStep → ℕ
+links_in [] = 0
+links_in (steps.Link link ∷ rest) = 1 + links_in rest
+links_in (steps.Idle ∷ rest) = links_in rest
+links_in (steps.Fail ∷ rest) = links_in rest
+
+-- a link comes first
+abbrev pub BeginsWithLink : List HallStep → Type 0
+BeginsWithLink [] = ⊥
+BeginsWithLink (steps.Link link ∷ rest) = Unit {0}
+BeginsWithLink (steps.Idle ∷ rest) = ⊥
+BeginsWithLink (steps.Fail ∷ rest) = ⊥
+
+-- The links to come are sure and offer at least these amounts, and with those given are at most 32.
+pub record IsStaffed (gives : Function) (may_fail : Job → Failure → Type 0) (least : Amounts)
+    (hall : HallState) : Type 0 where
+  pub serve : EachLink (λ link. IsSureLink gives may_fail link × OffersLink least link) hall.steps
+  pub few : hall.given + links_in hall.steps ≤ 32
+
+-- The same, where no link was given yet and one comes first.
+pub record IsManned (gives : Function) (may_fail : Job → Failure → Type 0) (least : Amounts)
+    (hall : HallState) : Type 0 where
+  pub staffed : IsStaffed gives may_fail least hall
+  pub none_given : hall.given ≡ 0
+  pub first : BeginsWithLink hall.steps
 
 -- What a call of back leaves: the link is kept, or nothing changed.
 abbrev pub KeepsLink : Option LinkNo → LinkState → HallState → Result Unit Memory

@@ -1,6 +1,7 @@
 -- Links in memory, by the steps that they take.
-use Rattle.std.specs.Prelude.{◌≡◌, ℕ, ◌+◌, Bool, true, false, List, [], ◌∷◌}
+use Rattle.std.specs.Prelude.{◌≡◌, ℕ, ◌+◌, Bool, true, false, List, [], ◌∷◌, ◌++◌}
 use Rattle.std.specs.Prelude.{Option, Some, None, Result, Ok, Err}
+use Rattle.flow_types.specs.declared.numbers.Amounts.{Amounts}
 use Rattle.outside.specs.declared.fault.Fault.{Fault}
 use Rattle.outside.specs.declared.fault.Fault.TheVariants as faults
 use Rattle.links.specs.declared.passing.Got.{Got}
@@ -9,19 +10,36 @@ use Rattle.links.specs.declared.passing.Passed.{Passed}
 use Rattle.links.specs.declared.passing.Passed.TheVariants as passed
 use Rattle.mem_links.specs.declared.mem_link.LinkStep.{LinkStep}
 use Rattle.mem_links.specs.declared.mem_link.LinkStep.TheVariants as steps
+use Rattle.mem_links.specs.Servers.{Hears, ServerState, given, hello, new_server}
 
--- The steps to come, what passed, the newest first, and the counts.
+-- The steps to come, what passed, the newest first, the counts, and what it serves, if it does.
 pub record LinkState : Type 0 where
   pub steps : List LinkStep
   pub history : List Passed
   pub closed : Bool
   pub faults : ℕ
   pub idles : ℕ
+  pub server : Option ServerState
 
 -- over which nothing has passed
+abbrev pub fresh_link : List LinkStep → Option ServerState → LinkState
+fresh_link steps server = record {
+  steps = steps;
+  history = [];
+  closed = false;
+  faults = 0;
+  idles = 0;
+  server = server;
+}
+
+-- a link of these steps alone, over which nothing has passed
 abbrev pub new_link : List LinkStep → LinkState
-new_link steps =
-    record { steps = steps; history = []; closed = false; faults = 0; idles = 0 }
+new_link steps = fresh_link steps None
+
+-- a link that serves, and over which nothing has passed: its hello is to be given
+abbrev pub serving_link : Amounts → ℕ → LinkState
+serving_link total cache =
+    fresh_link (given (hello total cache ∷ [])) (Some (new_server total cache))
 
 -- the first step lets a send fail
 abbrev pub awaits_send : List LinkStep → Bool
@@ -67,12 +85,24 @@ abbrev pub behind : List LinkStep → List LinkStep
 behind [] = []
 behind (step ∷ rest) = rest
 
+-- The bytes were sent. A server hears them, and what it gives for them stands behind the steps.
+abbrev pub Sends : Option ServerState → List ℕ → LinkState → LinkState → Type 0
+Sends None bytes old new =
+    new ≡ record old { history = passed.Sent bytes ∷ old.history; idles = 0 }
+Sends (Some server) bytes old new = (after : ServerState) × (gives : List LinkStep)
+    × Hears server bytes after gives
+    × (new ≡ record old {
+      steps = old.steps ++ gives;
+      history = passed.Sent bytes ∷ old.history;
+      idles = 0;
+      server = Some after;
+    })
+
 -- What a call of send answers, and leaves. It fails where a step says so.
 abbrev pub SendsBy : {T : Type 0} → Bool → List ℕ → LinkState → Result T Fault → LinkState → Type 0
 SendsBy true bytes old (Ok x) new = ⊥
 SendsBy true bytes old (Err faults.Failed) new =
     new ≡ record old { steps = behind old.steps; faults = old.faults + 1 }
 SendsBy true bytes old (Err faults.Memory) new = new ≡ record old { steps = behind old.steps }
-SendsBy false bytes old (Ok x) new =
-    new ≡ record old { history = passed.Sent bytes ∷ old.history; idles = 0 }
+SendsBy false bytes old (Ok x) new = Sends old.server bytes old new
 SendsBy false bytes old (Err fault) new = (fault ≡ faults.Memory) × (new ≡ old)

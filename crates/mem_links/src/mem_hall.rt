@@ -3,6 +3,8 @@ ghost use Rattle.std.specs.Prelude.{◌≡◌, true, is_ok};
 ghost use Rattle.outside.specs.Causes.{HasCause};
 ghost use Rattle.links.specs.Halls.{Gives, IfLink};
 ghost use Rattle.mem_links.specs.MemHalls.{new_hall, AreFresh, IsUnused, WaitsBy, KeepsLink};
+ghost use Rattle.mem_links.specs.MemHalls.{EachLink, IsManned, IsStaffed};
+ghost use Rattle.mem_links.specs.Serving.{IsHonestLink, IsSureLink};
 
 use crate::mem_link::MemLink;
 use flow_types::{LinkNo, Memory, Rows};
@@ -84,19 +86,19 @@ impl<F: Commands> Hall<F> for MemHall {
 
     ghost got = { λ hall. hall.got };
 
-    ghost honest = { λ hall. ⊥ };
+    ghost honest = { λ hall. EachLink (IsHonestLink F.gives F.may_fail) hall.steps };
 
-    ghost sure = { λ hall. ⊥ };
+    ghost sure = { λ hall. EachLink (IsSureLink F.gives F.may_fail) hall.steps };
 
-    ghost manned = { λ hall amounts. ⊥ };
+    ghost manned = { λ hall amounts. IsManned F.gives F.may_fail amounts hall };
 
-    ghost staffed = { λ hall amounts. ⊥ };
+    ghost staffed = { λ hall amounts. IsStaffed F.gives F.may_fail amounts hall };
 
     ghost count = { λ hall. hall.faults };
 
     ghost idle_count = { λ hall. hall.idles };
 
-    ghost manned_is = { λ hall amounts none. absurd none };
+    ghost manned_is = { λ hall amounts is. (is.staffed, is.none_given) };
 
     fn listen(&mut self, _port: u16) -> Result<(), Fault>
         ensures ok { is_ok result ≡ true }
