@@ -6,6 +6,8 @@ mod ending;
 #[cfg(test)]
 mod ends;
 #[cfg(test)]
+mod serving;
+#[cfg(test)]
 mod stepping;
 #[cfg(test)]
 mod talking;
