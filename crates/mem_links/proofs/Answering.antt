@@ -1,5 +1,5 @@
 -- What is answered to messages.
-use Rattle.std.proofs.Common.{◌≡◌, ◌≤◌, ◌<◌, ◌^◌, ◌+◌, ◌*◌, ◌⊎◌, inl, inr, ℕ, suc, Bool, true, false, List, [], ◌∷◌, ◌++◌, length, map, refl, sym, ap, ◌∙◌, subst, append_assoc, append-nil, arith}
+use Rattle.std.proofs.Common.{◌≡◌, ◌≤◌, ◌+◌, ◌*◌, ◌⊎◌, inl, inr, ℕ, suc, Bool, true, false, List, [], ◌∷◌, ◌++◌, length, map, refl, sym, ap, ◌∙◌, subst, append_assoc, append-nil, arith}
 use Rattle.std.specs.Prelude.{replicate, sum_by, flat_map, if◌then◌else◌, nat_le}
 use Rattle.std.specs.List.{AllByRecursion}
 use Rattle.std.proofs.lemmas.Bool.{leb-true}
@@ -14,12 +14,11 @@ use Rattle.flow_types.specs.declared.job.Outcome.TheVariants.{Success}
 use Rattle.flow_types.specs.declared.messages.Key.{Key}
 use Rattle.flow_types.specs.declared.messages.Message.{Message}
 use Rattle.flow_types.specs.declared.messages.Message.TheVariants as messages
-use Rattle.flow_types.specs.Plans.{most_bytes}
 use Rattle.links.proofs.Honesties.{stands_either}
 use Rattle.message_forms.specs.Streams.{AreFramed, IsAmong, IsFramed}
 use Rattle.message_forms.proofs.Parses.{framed_append}
 use Rattle.outside.specs.Jobs.{AllFit}
-use Rattle.wq_messages.specs.Spelling.{AreRows, IsContent, IsOutput, IsTask, fields_of, kind_of, most_body, most_outputs, outcome_bytes, spelling}
+use Rattle.wq_messages.specs.Spelling.{AreRows, IsContent, IsOutput, IsTask, most_body, most_outputs, outcome_bytes, spelling}
 use Rattle.mem_links.specs.Servers.{answer, answers, blanks, contains_inputs, done_of, key_put, keys_put}
 use Rattle.mem_links.proofs.Keys.{inputs_more}
 use Rattle.mem_links.proofs.Rows.{among_left, among_right}

@@ -1,5 +1,5 @@
 -- Messages off the front of a stream.
-use Rattle.std.proofs.Common.{◌≡◌, ◌≤◌, ◌<◌, ◌^◌, ℕ, List, [], ◌∷◌, ◌++◌, length, Result, Ok, Err, refl, sym, ap, ◌∙◌, subst, append_assoc, append-nil, arith}
+use Rattle.std.proofs.Common.{◌≡◌, ◌≤◌, ◌<◌, ℕ, List, [], ◌∷◌, ◌++◌, length, Result, Ok, Err, refl, sym, ap, ◌∙◌, subst, append_assoc, append-nil, arith}
 use Rattle.byte_fields.specs.declared.fault.FieldFault.{FieldFault}
 use Rattle.byte_fields.specs.Laws.{IsBytes}
 use Rattle.byte_fields.specs.Reading.{bytes_at}

@@ -1,5 +1,5 @@
 -- What a link that serves gives is honest, in order, and all that it owes.
-use Rattle.std.proofs.Common.{◌≡◌, ◌≤◌, ◌⊎◌, inl, inr, ℕ, Bool, true, false, List, [], ◌∷◌, ◌++◌, Option, Some, None, map, Result, Ok, Err, refl, sym, ap, ◌∙◌, subst, append_assoc, append-nil, arith}
+use Rattle.std.proofs.Common.{◌≡◌, ◌≤◌, inl, inr, ℕ, Bool, true, false, List, [], ◌∷◌, ◌++◌, Option, Some, None, map, refl, sym, ap, ◌∙◌, subst, arith}
 use Rattle.flow_types.specs.declared.job.Failure.{Failure}
 use Rattle.flow_types.specs.declared.job.Job.{Job}
 use Rattle.flow_types.specs.declared.job.Outcome.{Outcome}
@@ -10,16 +10,16 @@ use Rattle.flow_types.specs.declared.messages.Message.{Message}
 use Rattle.flow_types.specs.declared.messages.Message.TheVariants as messages
 use Rattle.flow_types.specs.declared.numbers.Amounts.{Amounts}
 use Rattle.flow_types.specs.declared.numbers.AttemptNo.{AttemptNo}
-use Rattle.flow_types.specs.Plans.{contains_number, files_of, most_input_bytes}
+use Rattle.flow_types.specs.Plans.{most_input_bytes}
 use Rattle.flow_types.specs.Serial.{Contents, Function, given_by}
-use Rattle.links.specs.Honesty.{Answers, AreGood, HasRun, IsAtLeast, IsGood, IsHonestSoFar, IsOfferOf, IsOrderly, IsOwed, OffersAtLeast, OwesNothing, key_of, task_job}
+use Rattle.links.specs.Honesty.{Answers, AreGood, IsAtLeast, IsGood, IsHonestSoFar, IsOfferOf, IsOrderly, OffersAtLeast, OwesNothing, key_of, task_job}
 use Rattle.outside.specs.Jobs.{IsHonest}
 use Rattle.message_forms.specs.Streams.{AreFramed, Carries, IsAmong, IsFramed, IsStream, frames_of}
 use Rattle.message_forms.proofs.Parses.{carries_more, frames_append, rows_carry_their_own}
-use Rattle.mem_links.specs.Servers.{BeginsNone, Comes, ServerState, answers, blanks, contains_inputs, contains_key, done_of, given, hello, keys_put}
+use Rattle.mem_links.specs.Servers.{Comes, answers, blanks, contains_inputs, contains_key, done_of, hello, keys_put}
 use Rattle.mem_links.specs.Serving.{AreBlank}
 use Rattle.mem_links.proofs.Answering.{IsAnswer, answers_are, answers_framed, blanks_fit, blanks_named, blanks_small, task_answered}
-use Rattle.mem_links.proofs.Keys.{have_inputs, inputs_have, keys_append, put_found, put_has}
+use Rattle.mem_links.proofs.Keys.{have_inputs, inputs_have, put_found, put_has}
 use Rattle.mem_links.proofs.Rows.{among_left, first_of, framed_left}
 
 -- Of these bytes up, and of what is left to be given, all are the hello and then the answers to the

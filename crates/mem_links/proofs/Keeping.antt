@@ -1,5 +1,5 @@
 -- A link that serves goes on serving.
-use Rattle.std.proofs.Common.{◌≡◌, ◌≤◌, ◌⊎◌, inl, inr, ◌+◌, ℕ, Bool, true, false, List, [], ◌∷◌, ◌++◌, Option, Some, None, Result, Ok, Err, refl, sym, ap, ◌∙◌, subst, append_assoc, append-nil, arith}
+use Rattle.std.proofs.Common.{◌≡◌, ◌≤◌, ◌⊎◌, inl, inr, ◌+◌, ℕ, Bool, true, false, List, [], ◌∷◌, ◌++◌, Option, Some, None, Result, Ok, Err, refl, sym, ap, ◌∙◌, subst, append_assoc, append-nil}
 use Rattle.std.specs.Prelude.{IfOk, IsErrOf}
 use Rattle.flow_types.specs.declared.lists.Memory.{Memory}
 use Rattle.flow_types.specs.declared.job.Failure.{Failure}
@@ -12,10 +12,9 @@ use Rattle.flow_types.specs.Serial.{Function}
 use Rattle.outside.specs.declared.fault.Fault.{Fault}
 use Rattle.outside.specs.declared.fault.Fault.TheVariants as faults
 use Rattle.links.specs.declared.passing.Got.{Got}
-use Rattle.links.specs.declared.passing.Got.TheVariants as got
 use Rattle.links.specs.declared.passing.Passed.{Passed}
 use Rattle.links.specs.declared.passing.Passed.TheVariants as passed
-use Rattle.links.specs.Honesty.{IsAtLeast, IsHonestSoFar, IsHonestThroughout, IsOrderly, IsSureAnswer, OffersAtLeast}
+use Rattle.links.specs.Honesty.{IsAtLeast, IsHonestSoFar, IsHonestThroughout, IsOrderly, IsSureAnswer}
 use Rattle.links.specs.Passings.{received_in, sent_in}
 use Rattle.message_forms.specs.Streams.{IsFramed, framed, frames_of}
 use Rattle.mem_links.specs.declared.mem_link.LinkStep.{LinkStep}

@@ -1,5 +1,5 @@
 -- Rows of messages, and the streams that they make.
-use Rattle.std.proofs.Common.{◌≡◌, ◌⊎◌, inl, inr, ℕ, Bool, true, false, List, [], ◌∷◌, ◌++◌, map, refl, sym, ap, ◌∙◌, subst, append_assoc, append-nil}
+use Rattle.std.proofs.Common.{◌≡◌, inl, inr, ℕ, List, [], ◌∷◌, ◌++◌, refl, sym, ap, ◌∙◌, append_assoc, append-nil}
 use Rattle.flow_types.specs.declared.messages.Message.{Message}
 use Rattle.message_forms.specs.Streams.{AreFramed, IsAmong, framed, frames_of}
 use Rattle.message_forms.proofs.Parses.{begin_together, framed_append, frames_append}

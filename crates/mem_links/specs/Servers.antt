@@ -58,7 +58,7 @@ key_put _ = []
 abbrev pub keys_put : List Message → List Key
 keys_put ms = flat_map key_put ms
 
--- what is answered to a message where these keys were put: a task that has all of its inputs is done
+-- what is answered to a message where these keys were put: a task that has its inputs is done
 abbrev pub answer : List Key → Message → List Message
 answer keys (messages.Task task) =
     if contains_inputs keys task.run task.inputs then done_of task ∷ [] else []

@@ -1,5 +1,6 @@
 //! A link in memory, by a list of its answers.
-ghost use Rattle.std.specs.Prelude.{◌≡◌, ◌≤◌, [], ◌∷◌, Some, true, IfOk, IsErrOf, OnOk, OnErr, is_ok, if◌then◌else◌};
+ghost use Rattle.std.specs.Prelude.{◌≡◌, ◌≤◌, [], ◌∷◌, Some, true, is_ok, if◌then◌else◌};
+ghost use Rattle.std.specs.Prelude.{IfOk, IsErrOf, OnOk, OnErr};
 ghost use Rattle.std.specs.Option.{option_copied};
 ghost use Rattle.flow_types.specs.declared.numbers.Amounts.{Amounts};
 ghost use Rattle.flow_types.specs.Plans.{most_input_bytes};
@@ -8,7 +9,8 @@ ghost use Rattle.links.specs.Honesty.{IsAtLeast, IsHonestSoFar, IsSureAnswer};
 ghost use Rattle.message_forms.specs.Streams.{IsFramed};
 ghost use Rattle.links.specs.Passings.{sent_in, received_in, Transmits, Receives, IsFull};
 ghost use Rattle.links.specs.Passings.{idles_after, closed_after};
-ghost use Rattle.mem_links.specs.MemLinks.{fresh_link, new_link, serving_link, awaits_send, next_given};
+ghost use Rattle.mem_links.specs.MemLinks.{fresh_link, new_link, serving_link};
+ghost use Rattle.mem_links.specs.MemLinks.{awaits_send, next_given};
 ghost use Rattle.mem_links.specs.MemLinks.{Idles, Takes, Sends, SendsBy};
 ghost use Rattle.mem_links.specs.declared.mem_link.LinkStep.TheVariants as steps;
 ghost use Rattle.mem_links.specs.Servers.{hello};
