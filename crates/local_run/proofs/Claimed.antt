@@ -44,7 +44,7 @@ use Rattle.desk.specs.State.{DeskState, IsFine, is_place, runs_with}
 use Rattle.local_run.specs.Collecting.{IsUntouched}
 use Rattle.local_run.specs.Course.{GoesOn, LeavesAlone}
 use Rattle.local_run.proofs.Closings.{breaks_goes, spares_goes}
-use Rattle.local_run.proofs.Going.{adds}
+use Rattle.local_run.proofs.Going.{adds, adds_plain}
 use Rattle.desk.proofs.Running.{started_runs}
 
 itself : (n : ℕ) → (n == n) ≡ true
@@ -114,7 +114,7 @@ taken {S} count d after attempt link moment opened lives idle h =
 module _ {S : Type 0} (trust : Type 0) (gives : Function) (may_fail : Job → Failure → Type 0) (sources : Contents) (tells : Type 0) (files : S → Files) (may_leave : S → Outcomes) (moment : S → ℕ)
     (images_since : S → ℕ → Files → Type 0) where
   abbrev pub Goes : DeskState S → DeskState S → Type 0
-  Goes d after = GoesOn trust gives may_fail sources tells files may_leave moment images_since d after
+  Goes d after = GoesOn trust gives may_fail sources tells files may_leave moment images_since [] d after
 
   abbrev pub Alone : DeskState S → S → Type 0
   Alone d s = tells → LeavesAlone files may_leave moment images_since (IsUntouched d.plan d.log (records_of d.moves)) d.site s
@@ -122,7 +122,7 @@ module _ {S : Type 0} (trust : Type 0) (gives : Function) (may_fail : Job → Fa
   pub taken_goes : (count : S → ℕ) (d after : DeskState S) (attempt : Attempt) (link : LinkNo) (time : ℕ) → Alone d after.site → Claims count d link time (Ok (claims.Taken attempt)) after → Goes d after
   taken_goes count d after attempt link time others h =
       subst (λ (a : DeskState S). Alone d a.site → Goes d a) (sym h.2.5)
-      (adds trust gives may_fail sources tells files may_leave moment images_since d (started_as d.moves attempt.rule time link) d.stop after.site (λ trusted. tt) (λ none. none) (λ none. refl) refl (λ f. refl)) others
+      (adds trust gives may_fail sources tells files may_leave moment images_since d (started_as d.moves attempt.rule time link) d.stop after.site (λ trusted. tt) (λ none. none) (adds_plain d.moves d.stop (started_as d.moves attempt.rule time link) (λ none. refl)) refl (λ f. refl)) others
 
   pub claim_breaks : (count : S → ℕ) (d after : DeskState S) (link : LinkNo) (time : ℕ) (why : ClaimRefused) → Alone d after.site → Claims count d link time (Err why) after → Goes d after
   claim_breaks count d after link time (refused.Broken before now) others h =

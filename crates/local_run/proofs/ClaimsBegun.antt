@@ -38,8 +38,9 @@ use Rattle.desk.proofs.Running.{started_runs}
 use Rattle.local_run.specs.Collecting.{IsUntouched}
 use Rattle.local_run.specs.Course.{GoesOn, LeavesAlone}
 use Rattle.local_run.specs.Ends.{failed_count, records_due}
-use Rattle.local_run.specs.Underway.{Matches, NoneHas, RunsAt, Underway}
+use Rattle.local_run.specs.Underway.{AreAway, AwayState, Matches, NoneHas, RunsAt, Underway}
 use Rattle.local_run.specs.declared.halt.Halt.{Halt}
+use Rattle.local_run.proofs.Beyond.{away_on, runs_away_on}
 use Rattle.local_run.proofs.Claimed.{runs_started, taken_goes}
 use Rattle.local_run.proofs.Failures.{logs_plain}
 use Rattle.local_run.proofs.Fresh.{due_more, unended_by}
@@ -100,12 +101,12 @@ begun {S} count d after attempt link time opened legal lives h =
     }
 
 module _ {S : Type 0} (trust : Type 0) (gives : Function) (may_fail : Job → Failure → Type 0) (sources : Contents) (tells kept sure : Type 0) (files : S → Files) (may_leave : S → Outcomes) (moment : S → ℕ)
-    (images_since : S → ℕ → Files → Type 0) where
+    (images_since : S → ℕ → Files → Type 0) (away : AwayState) where
   abbrev pub Goes : DeskState S → DeskState S → Type 0
-  Goes d after = GoesOn trust gives may_fail sources tells files may_leave moment images_since d after
+  Goes d after = GoesOn trust gives may_fail sources tells files may_leave moment images_since [] d after
 
   abbrev pub Under : DeskState S → DeskState S → List Attempt → List Start → Option Attempt → Tally → Option Halt → Type 0
-  Under first now held waiting loose heard halt = Underway trust gives may_fail sources tells kept sure files may_leave moment images_since first now held waiting loose heard halt
+  Under first now held waiting loose heard halt = Underway trust gives may_fail sources tells kept sure files may_leave moment images_since away first now held waiting loose heard halt
 
   abbrev pub Alone : DeskState S → S → Type 0
   Alone d s = tells → LeavesAlone files may_leave moment images_since (IsUntouched d.plan d.log (records_of d.moves)) d.site s
@@ -122,15 +123,23 @@ module _ {S : Type 0} (trust : Type 0) (gives : Function) (may_fail : Job → Fa
       none_of d.plan fine H trust (serial d.plan gives sources) attempt.number held waiting
       (λ a at same. let less = is.number a.rule.0 a.number.0 a.link.0 (at.runs is.fine) in let one = ap (λ (n : AttemptNo). n.0) same in let wrong : ⊥ = omega (arith, less, one) in wrong) u.matches in
       record {
-        goes = goes_on trust gives may_fail sources tells files may_leave moment images_since first d after u.goes goes;
+        goes = goes_on trust gives may_fail sources tells files may_leave moment images_since away.links first d after u.goes goes;
         matches = subst (λ (P : Plan). Matches P later all trust (serial P gives sources) held waiting) (sym is.plan) (matches_on d.plan fine later H all trust (serial d.plan gives sources) held waiting each u.matches);
         taken = (subst (λ (P : Plan). RunsAt P later all attempt) (sym is.plan) (record { rule = is.inside; runs = λ works. is.runs }), none);
+        here = u.here;
+        beyond = subst (λ (P : Plan). AreAway P later after.moves held (Some attempt) away.attempts) (sym is.plan)
+            (away_on d.plan fine later d.moves after.moves held held None (Some attempt) away.attempts
+            (λ a at unheld other. (
+              runs_away_on d.plan fine later d.moves after.moves goes.passed a goes.moves (each a) at,
+              unheld,
+              (λ same. let less = is.number a.rule.0 a.number.0 a.link.0 (at.at.runs is.fine) in let one = ap (λ (n : AttemptNo). n.0) same in let wrong : ⊥ = omega (arith, less, one) in wrong),
+            )) u.beyond);
         all = λ works. let more = is.count in let was = u.all is.fine in let same = ap (λ (P : Plan). length (running_rules P all)) is.plan in omega (arith, more, was, same);
         stopped = (is.works, is.stop ∙ u.stopped.1);
         failures = λ works. is.failed ∙ u.failures is.fine;
         unended = λ works unended. is.unended (u.unended is.fine unended);
         never = u.never;
-        due = λ going sure. let more = is.due in let was = u.due tt sure in let same = ap (λ (P : Plan). records_due P all) is.plan in omega (arith, more, was, same);
+        due = λ going sure smooth. let more = is.due in let was = u.due tt sure smooth in let same = ap (λ (P : Plan). records_due P all) is.plan in omega (arith, more, was, same);
       }
 
   -- a claim that takes a rule has one more attempt run, which is loose

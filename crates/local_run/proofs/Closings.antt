@@ -41,13 +41,12 @@ use Rattle.desk.proofs.Presents.{runs_from}
 use Rattle.desk.proofs.Running.{closing, ended_runs, no_outs}
 use Rattle.local_run.specs.Collecting.{IsUntouched}
 use Rattle.local_run.specs.Course.{FailsHonestly, GoesOn, IsBroken, LeavesAlone, begins_anew}
-use Rattle.local_run.specs.Losses.{is_lost}
-use Rattle.local_run.proofs.Going.{adds, stays}
+use Rattle.local_run.proofs.Going.{MayAdd, adds, adds_plain, stays}
 
 module _ {S : Type 0} (trust : Type 0) (gives : Function) (may_fail : Job → Failure → Type 0) (sources : Contents) (tells : Type 0) (files : S → Files) (may_leave : S → Outcomes) (moment : S → ℕ)
     (images_since : S → ℕ → Files → Type 0) where
   abbrev pub Goes : DeskState S → DeskState S → Type 0
-  Goes d after = GoesOn trust gives may_fail sources tells files may_leave moment images_since d after
+  Goes d after = GoesOn trust gives may_fail sources tells files may_leave moment images_since [] d after
 
   abbrev pub Alone : DeskState S → S → Type 0
   Alone d s = tells → LeavesAlone files may_leave moment images_since (IsUntouched d.plan d.log (records_of d.moves)) d.site s
@@ -73,10 +72,10 @@ module _ {S : Type 0} (trust : Type 0) (gives : Function) (may_fail : Job → Fa
       (stays trust gives may_fail sources tells files may_leave moment images_since d d.stop d.trouble d.site (λ none. none) (λ fine. fine)) others) h
 
   by_answer : (count : S → ℕ) (d : DeskState S) (k : Option Stop) (rule : RuleNo) (number : AttemptNo) (link : LinkNo) (x : Record) (r : Result (Unit {0}) CloseRefused) (after : DeskState S)
-      → (trust → FailsHonestly d.plan may_fail (serial d.plan gives sources) x) → (k ≡ None → d.stop ≡ None) → (k ≡ None → is_lost x ≡ false) → begins_anew x ≡ false → ((f : ℕ) → drops f x ≡ false) → Alone d after.site
+      → (trust → FailsHonestly d.plan may_fail (serial d.plan gives sources) x) → (k ≡ None → d.stop ≡ None) → (IsFine d.trouble → MayAdd d.moves k x) → begins_anew x ≡ false → ((f : ℕ) → drops f x ≡ false) → Alone d after.site
       → Closes count (record d { stop = k }) rule number link x r after → Goes d after
   by_answer count d k rule number link x (Ok done) after honest first held plain keeps others h =
-      subst (λ (a : DeskState S). Alone d a.site → Goes d a) (sym h.2) (adds trust gives may_fail sources tells files may_leave moment images_since d x k after.site honest first held plain keeps) others
+      subst (λ (a : DeskState S). Alone d a.site → Goes d a) (sym h.2) (adds trust gives may_fail sources tells files may_leave moment images_since d x k after.site honest first (held h.0) plain keeps) others
   by_answer count d k rule number link x (Err (refused.Stale named state)) after honest first held plain keeps others h =
       subst (λ (a : DeskState S). Alone d a.site → Goes d a) (sym h.4) (stays trust gives may_fail sources tells files may_leave moment images_since d k d.trouble d.site first (λ fine. fine)) others
   by_answer count d k rule number link x (Err (refused.Broken before now)) after honest first held plain keeps others h = breaks_goes count d k before now after first others h
@@ -84,7 +83,7 @@ module _ {S : Type 0} (trust : Type 0) (gives : Function) (may_fail : Job → Fa
 
   -- a closing call, after a stop may have been set
   pub closes_goes : (count : S → ℕ) (d mid : DeskState S) (k : Option Stop) (rule : RuleNo) (number : AttemptNo) (link : LinkNo) (x : Record) (r : Result (Unit {0}) CloseRefused) (after : DeskState S)
-      → mid ≡ record d { stop = k } → (trust → FailsHonestly d.plan may_fail (serial d.plan gives sources) x) → (k ≡ None → d.stop ≡ None) → (k ≡ None → is_lost x ≡ false) → begins_anew x ≡ false → ((f : ℕ) → drops f x ≡ false) → Alone mid after.site
+      → mid ≡ record d { stop = k } → (trust → FailsHonestly d.plan may_fail (serial d.plan gives sources) x) → (k ≡ None → d.stop ≡ None) → (IsFine d.trouble → MayAdd d.moves k x) → begins_anew x ≡ false → ((f : ℕ) → drops f x ≡ false) → Alone mid after.site
       → Closes count mid rule number link x r after → Goes d after
   closes_goes count d mid k rule number link x r after same honest first held plain keeps others h =
       subst (λ (m : DeskState S). Alone m after.site → Closes count m rule number link x r after → Goes d after) (sym same) (by_answer count d k rule number link x r after honest first held plain keeps) others h
@@ -157,7 +156,7 @@ logged_not_cleaned check false kind is = not_cleaned check kind is
 module _ {S : Type 0} (trust : Type 0) (gives : Function) (may_fail : Job → Failure → Type 0) (sources : Contents) (tells : Type 0) (files : S → Files) (may_leave : S → Outcomes) (moment : S → ℕ)
     (images_since : S → ℕ → Files → Type 0) where
   abbrev pub GoesThen : DeskState S → DeskState S → Type 0
-  GoesThen d after = GoesOn trust gives may_fail sources tells files may_leave moment images_since d after
+  GoesThen d after = GoesOn trust gives may_fail sources tells files may_leave moment images_since [] d after
 
   abbrev pub AloneThen : DeskState S → S → Type 0
   AloneThen d s = tells → LeavesAlone files may_leave moment images_since (IsUntouched d.plan d.log (records_of d.moves)) d.site s
@@ -167,7 +166,7 @@ module _ {S : Type 0} (trust : Type 0) (gives : Function) (may_fail : Job → Fa
       subst (λ (a : DeskState S). AloneThen d a.site → GoesThen d a) (sym h) (stays trust gives may_fail sources tells files may_leave moment images_since d d.stop d.trouble d.site (λ none. none) (λ fine. fine)) others
   by_kind d time (Some kind) after whole others h =
       subst (λ (a : DeskState S). AloneThen d a.site → GoesThen d a) (sym h)
-      (adds trust gives may_fail sources tells files may_leave moment images_since d (records.Ended time kind) d.stop after.site (λ trusted. tt) (λ none. none) (λ none. refl) (whole kind refl) (λ f. refl)) others
+      (adds trust gives may_fail sources tells files may_leave moment images_since d (records.Ended time kind) d.stop after.site (λ trusted. tt) (λ none. none) (adds_plain d.moves d.stop (records.Ended time kind) (λ none. refl)) (whole kind refl) (λ f. refl)) others
 
   -- the call that ends a run
   pub ends_goes : (count : S → ℕ) (d : DeskState S) (moment : ℕ) (r : Result Check EndRefused) (after : DeskState S) → AloneThen d after.site → Ends count d moment r after → GoesThen d after

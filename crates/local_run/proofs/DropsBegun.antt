@@ -20,7 +20,7 @@ use Rattle.local_run.specs.declared.halt.Halt.{Halt}
 use Rattle.local_run.specs.declared.halt.Halt.TheVariants as halts
 use Rattle.local_run.specs.Collecting.{IsUntouched}
 use Rattle.local_run.specs.Course.{IsBroken, LeavesAlone}
-use Rattle.local_run.specs.Underway.{Underway}
+use Rattle.local_run.specs.Underway.{AwayState, Underway}
 use Rattle.local_run.proofs.Closings.{is_broken}
 use Rattle.local_run.proofs.Dropping.{collects_due, collects_goes, collects_logs}
 use Rattle.local_run.proofs.RunsBegun.{run_on_drop}
@@ -40,9 +40,9 @@ halt_of (Err (refused.Broken before now)) = Some halts.Site
 halt_of (Err refused.Memory) = Some halts.Memory
 
 module _ {S : Type 0} (trust : Type 0) (gives : Function) (may_fail : Job → Failure → Type 0) (sources : Contents) (tells kept sure : Type 0) (files : S → Files) (may_leave : S → Outcomes) (moment : S → ℕ)
-    (images_since : S → ℕ → Files → Type 0) where
+    (images_since : S → ℕ → Files → Type 0) (away : AwayState) where
   abbrev pub Under : DeskState S → DeskState S → List Attempt → List Start → Option Attempt → Tally → Option Halt → Type 0
-  Under first now held waiting loose heard halt = Underway trust gives may_fail sources tells kept sure files may_leave moment images_since first now held waiting loose heard halt
+  Under first now held waiting loose heard halt = Underway trust gives may_fail sources tells kept sure files may_leave moment images_since away first now held waiting loose heard halt
 
   abbrev pub Alone : DeskState S → S → Type 0
   Alone d s = tells → LeavesAlone files may_leave moment images_since (IsUntouched d.plan d.log (records_of d.moves)) d.site s
@@ -57,7 +57,7 @@ module _ {S : Type 0} (trust : Type 0) (gives : Function) (may_fail : Job → Fa
   pub collects_on : (count : S → ℕ) (first d after : DeskState S) (held : List Attempt) (waiting : List Start) (heard : Tally) (time : ℕ) (r : Result (Option FileNo) CollectRefused) → Removed d r after.site
       → Alone d after.site → Collects count d time r after → Under first d held waiting None heard None → Under first after held waiting None heard (halt_of r)
   collects_on count first d after held waiting heard time (Ok (Some file)) removed others h u =
-      runs_on trust gives may_fail sources tells kept sure files may_leave moment images_since first d after held waiting None heard None None
+      runs_on trust gives may_fail sources tells kept sure files may_leave moment images_since away first d after held waiting None heard None None
       (collects_goes trust gives may_fail sources tells files may_leave moment images_since count d time (Ok (Some file)) after removed others h)
       (λ works. run_on_drop d.plan (records_of d.moves) (records_of after.moves) (collects_logs count d time (Ok (Some file)) after h works))
       (subst IsFine (sym (ap (λ (a : DeskState S). a.trouble) h.2)) h.0, ap (λ (a : DeskState S). a.stop) h.2 ∙ u.stopped.1)
@@ -65,11 +65,11 @@ module _ {S : Type 0} (trust : Type 0) (gives : Function) (may_fail : Job → Fa
   collects_on count first d after held waiting heard time (Ok None) removed others h u = stays_on first d after held waiting heard h.2 u
   collects_on count first d after held waiting heard time (Err refused.LogPlaces) removed others h u = stays_on first d after held waiting heard h.2 u
   collects_on count first d after held waiting heard time (Err (refused.Broken before now)) removed others h u =
-      runs_on trust gives may_fail sources tells kept sure files may_leave moment images_since first d after held waiting None heard None (Some halts.Site)
+      runs_on trust gives may_fail sources tells kept sure files may_leave moment images_since away first d after held waiting None heard None (Some halts.Site)
       (collects_goes trust gives may_fail sources tells files may_leave moment images_since count d time (Err (refused.Broken before now)) after removed others h)
       (λ works. run_on_drop d.plan (records_of d.moves) (records_of after.moves) (collects_logs count d time (Err (refused.Broken before now)) after h works))
       (stops_site tells kept sure files first after heard (collects_broken count d time before now after h)) (λ going. absurd going) u
   collects_on count first d after held waiting heard time (Err refused.Memory) removed others h u =
-      runs_on trust gives may_fail sources tells kept sure files may_leave moment images_since first d after held waiting None heard None (Some halts.Memory)
+      runs_on trust gives may_fail sources tells kept sure files may_leave moment images_since away first d after held waiting None heard None (Some halts.Memory)
       (collects_goes trust gives may_fail sources tells files may_leave moment images_since count d time (Err refused.Memory) after removed others h)
       (λ works. run_on_drop d.plan (records_of d.moves) (records_of after.moves) (collects_logs count d time (Err refused.Memory) after h works)) (may_want tells kept sure files first after heard) (λ going. absurd going) u

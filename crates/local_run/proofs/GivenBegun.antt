@@ -23,7 +23,7 @@ use Rattle.local_run.specs.declared.halt.Halt.TheVariants as halts
 use Rattle.local_run.specs.Collecting.{IsUntouched}
 use Rattle.local_run.specs.Course.{IsBroken, LeavesAlone}
 use Rattle.local_run.specs.Jobs.{IsRefusedDamage, IsWholeInput, ReadsOver, halt_by}
-use Rattle.local_run.specs.Underway.{IsJobAt, MayStop, Underway}
+use Rattle.local_run.specs.Underway.{AwayState, IsJobAt, MayStop, Underway}
 use Rattle.local_run.proofs.Claimed.{claim_breaks}
 use Rattle.local_run.proofs.Closings.{is_broken}
 use Rattle.local_run.proofs.Logging.{reads_moves, refused_same}
@@ -41,9 +41,9 @@ job_at {S} trust tells kept gives sources d mid rule job same base wants due =
     })
 
 module _ {S : Type 0} (trust : Type 0) (gives : Function) (may_fail : Job → Failure → Type 0) (sources : Contents) (tells kept sure : Type 0) (files : S → Files) (may_leave : S → Outcomes) (moment : S → ℕ)
-    (images_since : S → ℕ → Files → Type 0) where
+    (images_since : S → ℕ → Files → Type 0) (away : AwayState) where
   abbrev pub Under : DeskState S → DeskState S → List Attempt → List Start → Option Attempt → Tally → Option Halt → Type 0
-  Under first now held waiting loose heard halt = Underway trust gives may_fail sources tells kept sure files may_leave moment images_since first now held waiting loose heard halt
+  Under first now held waiting loose heard halt = Underway trust gives may_fail sources tells kept sure files may_leave moment images_since away first now held waiting loose heard halt
 
   abbrev pub Alone : DeskState S → S → Type 0
   Alone d s = tells → LeavesAlone files may_leave moment images_since (IsUntouched d.plan d.log (records_of d.moves)) d.site s
@@ -57,7 +57,7 @@ module _ {S : Type 0} (trust : Type 0) (gives : Function) (may_fail : Job → Fa
   reads_on first d mid held waiting loose heard fine same others u =
       let r : Result (Unit {0}) InputRefused = Ok tt in
       let works : IsFine mid.trouble = subst IsFine (sym (ap (λ (a : DeskState S). a.trouble) same)) fine in
-      stands_on trust gives may_fail sources tells kept sure files may_leave moment images_since first d mid held waiting loose heard None None
+      stands_on trust gives may_fail sources tells kept sure files may_leave moment images_since away first d mid held waiting loose heard None None
       (reads_goes trust gives may_fail sources tells files may_leave moment images_since (Unit {0}) d mid r fine same others)
       (λ still. ap (λ (a : DeskState S). records_of a.moves) same) (works, ap (λ (a : DeskState S). a.stop) same ∙ u.stopped.1) (λ going. (tt, works)) u
 
@@ -80,14 +80,14 @@ module _ {S : Type 0} (trust : Type 0) (gives : Function) (may_fail : Job → Fa
       → Under first mid held waiting loose heard (Some (halt_by why))
   refused_on A first d mid held waiting loose heard why fine h others stops u =
       let r : Result A InputRefused = Err why in
-      stands_on trust gives may_fail sources tells kept sure files may_leave moment images_since first d mid held waiting loose heard None (Some (halt_by why))
+      stands_on trust gives may_fail sources tells kept sure files may_leave moment images_since away first d mid held waiting loose heard None (Some (halt_by why))
       (reads_goes trust gives may_fail sources tells files may_leave moment images_since A d mid r fine h others) (λ still. reads_moves d r mid h) stops (λ going. absurd going) u
 
   -- a claim at which the site failed
   pub broken_on : (count : S → ℕ) (first d after : DeskState S) (held : List Attempt) (waiting : List Start) (loose : Option Attempt) (heard : Tally) (halt : Option Halt) (link : LinkNo) (time before now : ℕ)
       → Alone d after.site → Claims count d link time (Err (unclaimed.Broken before now)) after → Under first d held waiting loose heard halt → Under first after held waiting loose heard (Some halts.Site)
   broken_on count first d after held waiting loose heard halt link time before now others h u =
-      stands_on trust gives may_fail sources tells kept sure files may_leave moment images_since first d after held waiting loose heard halt (Some halts.Site)
+      stands_on trust gives may_fail sources tells kept sure files may_leave moment images_since away first d after held waiting loose heard halt (Some halts.Site)
       (claim_breaks trust gives may_fail sources tells files may_leave moment images_since count d after link time (unclaimed.Broken before now) others h)
       (λ works. refused_same count d after link time (unclaimed.Broken before now) h works) (stops_site tells kept sure files first after heard (is_broken count d before now after h)) (λ going. absurd going) u
 
@@ -95,6 +95,6 @@ module _ {S : Type 0} (trust : Type 0) (gives : Function) (may_fail : Job → Fa
   pub wanting_on : (count : S → ℕ) (first d after : DeskState S) (held : List Attempt) (waiting : List Start) (loose : Option Attempt) (heard : Tally) (halt : Option Halt) (link : LinkNo) (time : ℕ) → Alone d after.site
       → Claims count d link time (Err unclaimed.Memory) after → Under first d held waiting loose heard halt → Under first after held waiting loose heard (Some halts.Memory)
   wanting_on count first d after held waiting loose heard halt link time others h u =
-      stands_on trust gives may_fail sources tells kept sure files may_leave moment images_since first d after held waiting loose heard halt (Some halts.Memory)
+      stands_on trust gives may_fail sources tells kept sure files may_leave moment images_since away first d after held waiting loose heard halt (Some halts.Memory)
       (claim_breaks trust gives may_fail sources tells files may_leave moment images_since count d after link time unclaimed.Memory others h)
       (λ works. refused_same count d after link time unclaimed.Memory h works) (may_want tells kept sure files first after heard) (λ going. absurd going) u

@@ -26,19 +26,24 @@ use Rattle.local_run.specs.declared.halt.Halt.{Halt}
 use Rattle.local_run.specs.declared.halt.Halt.TheVariants as halts
 use Rattle.local_run.specs.Course.{TellsJobs}
 use Rattle.local_run.specs.Ends.{records_due}
-use Rattle.local_run.specs.Underway.{IsHeld, IsJobAt, IsOutcomeAt, IsShapedPool, Matches, MayStop, NoneHas, RunsAt, ToldOf, Underway}
+use Rattle.local_run.specs.Underway.{AreHere, AwayState, IsHeld, IsJobAt, IsOutcomeAt, IsShapedPool, Matches, MayStop, NoneHas, RunsAt, ToldOf, Underway}
+use Rattle.local_run.proofs.Beyond.{away_on}
 use Rattle.local_run.proofs.Outputs.{failure_fits, outputs_fit}
 use Rattle.local_run.proofs.UnderClosed.{stopped_on}
 
 -- ---- one attempt among those that are held
 
-none_at : (number : AttemptNo) (front : List Attempt) (a : Attempt) (back : List Attempt) → NoneHas number (front ++ (a ∷ back)) → a.number ≢ number
+pub none_at : (number : AttemptNo) (front : List Attempt) (a : Attempt) (back : List Attempt) → NoneHas number (front ++ (a ∷ back)) → a.number ≢ number
 none_at number [] a back none = none.0
 none_at number (f ∷ fs) a back none = none_at number fs a back none.1
 
-none_less : (number : AttemptNo) (front : List Attempt) (a : Attempt) (back : List Attempt) → NoneHas number (front ++ (a ∷ back)) → NoneHas number (front ++ back)
+pub none_less : (number : AttemptNo) (front : List Attempt) (a : Attempt) (back : List Attempt) → NoneHas number (front ++ (a ∷ back)) → NoneHas number (front ++ back)
 none_less number [] a back none = none.1
 none_less number (f ∷ fs) a back none = (none.0, none_less number fs a back none.1)
+
+here_without : (front : List Attempt) (a : Attempt) (back : List Attempt) → AreHere (front ++ (a ∷ back)) → AreHere (front ++ back)
+here_without [] a back here = here.1
+here_without (f ∷ fs) a back here = (here.0, here_without fs a back here.1)
 
 none_held : (number : AttemptNo) (attempts : List Attempt) → NoneHas number attempts → IsHeld number attempts → ⊥
 none_held number attempts none held = none_at number held.0 held.1 held.2 (subst (NoneHas number) held.3 none) held.4
@@ -78,9 +83,9 @@ module _ (P : Plan) (fine : Type 0) (H : List Record) (trust : Type 0) (contents
 -- ---- the whole
 
 module _ {S : Type 0} (trust : Type 0) (gives : Function) (may_fail : Job → Failure → Type 0) (sources : Contents) (tells kept sure : Type 0) (files : S → Files) (may_leave : S → Outcomes) (moment : S → ℕ)
-    (images_since : S → ℕ → Files → Type 0) where
+    (images_since : S → ℕ → Files → Type 0) (away : AwayState) where
   abbrev pub Holds : DeskState S → DeskState S → List Attempt → List Start → Option Attempt → Tally → Option Halt → Type 0
-  Holds first d held waiting loose heard halt = Underway trust gives may_fail sources tells kept sure files may_leave moment images_since first d held waiting loose heard halt
+  Holds first d held waiting loose heard halt = Underway trust gives may_fail sources tells kept sure files may_leave moment images_since away first d held waiting loose heard halt
 
   -- what is known of an attempt that is taken out
   pub taken_is : (first d : DeskState S) (attempts : List Attempt) (waiting : List Start) (heard : Tally) (halt : Option Halt) (front : List Attempt) (a : Attempt) (back : List Attempt) (before : List Start) (start : Start) (after : List Start)
@@ -103,13 +108,16 @@ module _ {S : Type 0} (trust : Type 0) (gives : Function) (may_fail : Job → Fa
         goes = u.goes;
         matches = is.rest;
         taken = (is.runs, is.alone);
-        all = λ fine. let few : length (running_rules d.plan (records_of d.moves)) ≤ length attempts + 0 = u.all fine in omega (arith, few, one);
+        here = here_without front a back (subst AreHere are u.here);
+        beyond = away_on d.plan (IsFine d.trouble) (IsFine d.trouble) d.moves d.moves attempts (front ++ back) None (Some a) away.attempts
+            (λ b at unheld other. let none : NoneHas b.number (front ++ (a ∷ back)) = subst (NoneHas b.number) are unheld in (at, none_less b.number front a back none, none_at b.number front a back none)) u.beyond;
+        all = λ fine. let few : length (running_rules d.plan (records_of d.moves)) ≤ length attempts + 0 + length away.attempts = u.all fine in omega (arith, few, one);
         stopped = u.stopped;
         failures = u.failures;
         unended = u.unended;
         never = u.never;
-        due = λ going sure_is.
-            let was : records_due d.plan (records_of d.moves) ≤ records_due first.plan (records_of first.moves) + length attempts + 0 = u.due going sure_is in omega (arith, was, one);
+        due = λ going sure_is smooth.
+            let was : records_due d.plan (records_of d.moves) ≤ records_due first.plan (records_of first.moves) + length attempts + 0 + length away.attempts = u.due going sure_is smooth in omega (arith, was, one);
       }
 
   -- the attempt of a start that waits is held
@@ -135,6 +143,8 @@ module _ {S : Type 0} (trust : Type 0) (gives : Function) (may_fail : Job → Fa
     goes = u.goes;
     matches = u.matches;
     taken = u.taken;
+    here = u.here;
+    beyond = u.beyond;
     all = u.all;
     stopped = stopped_on tells kept sure files first d d heard later halt refl refl le (λ why told damaged apart. damaged apart) u.stopped;
     failures = λ fine. let was = u.failures fine in omega (arith, was, same);

@@ -23,6 +23,8 @@ pub mod Fitting
 pub mod Joining
 pub mod Openings
 pub mod RunsBegun
+pub mod Beyond
+pub mod Elsewhere
 pub mod StandsBegun
 pub mod ClaimsBegun
 pub mod DropsBegun
@@ -33,3 +35,7 @@ pub mod UnderClosed
 pub mod PlacesClosed
 pub mod HeldClosed
 pub mod RunsServed
+pub mod AwayClosed
+pub mod AwayBegun
+pub mod AwayLeft
+pub mod Linked

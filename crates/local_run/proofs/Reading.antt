@@ -70,7 +70,7 @@ given_due contents port given bytes remote content is = λ i. record { remote = 
 module _ {S : Type 0} (trust : Type 0) (gives : Function) (may_fail : Job → Failure → Type 0) (sources : Contents) (tells : Type 0) (files : S → Files) (may_leave : S → Outcomes) (moment : S → ℕ)
     (images_since : S → ℕ → Files → Type 0) where
   abbrev pub Goes : DeskState S → DeskState S → Type 0
-  Goes d after = GoesOn trust gives may_fail sources tells files may_leave moment images_since d after
+  Goes d after = GoesOn trust gives may_fail sources tells files may_leave moment images_since [] d after
 
   abbrev pub Alone : DeskState S → S → Type 0
   Alone d s = tells → LeavesAlone files may_leave moment images_since (IsUntouched d.plan d.log (records_of d.moves)) d.site s

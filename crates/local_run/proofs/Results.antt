@@ -30,17 +30,18 @@ use Rattle.desk.proofs.Keeping.{not_cut}
 use Rattle.local_run.specs.declared.halt.Halt.{Halt}
 use Rattle.local_run.specs.declared.halt.Halt.TheVariants as halts
 use Rattle.local_run.specs.Course.{Closed, GoesOn, HaltsBy, IsBroken}
+use Rattle.local_run.specs.Links.{link_moves}
 use Rattle.local_run.specs.declared.ended.Stopped.{Stopped}
 use Rattle.local_run.specs.declared.ended.Stopped.TheVariants as stopped
 use Rattle.local_run.specs.Runs.{Adds, HasCauses, IsAdmitted, IsClosedRun, IsCutRun, LosesNone, ended_by}
-use Rattle.local_run.proofs.Going.{records_more}
+use Rattle.local_run.proofs.Going.{goes_records}
 
 pub adds_records : {S : Type 0} (trust : Type 0) (gives : Function) (may_fail : Job → Failure → Type 0) (sources : Contents) (tells : Type 0) (files : S → Files) (may_leave : S → Outcomes) (moment : S → ℕ)
-    (images_since : S → ℕ → Files → Type 0) (d after : DeskState S) (all : List Record) → all ≡ records_of after.moves
-    → GoesOn trust gives may_fail sources tells files may_leave moment images_since d after → Adds trust gives may_fail sources d.plan (records_of d.moves) all
-adds_records {S} trust gives may_fail sources tells files may_leave moment images_since d after all are goes = record {
+    (images_since : S → ℕ → Files → Type 0) (links : List Move) (d after : DeskState S) (all : List Record) → all ≡ records_of after.moves
+    → GoesOn trust gives may_fail sources tells files may_leave moment images_since links d after → Adds trust gives may_fail sources d.plan (records_of d.moves) all
+adds_records {S} trust gives may_fail sources tells files may_leave moment images_since links d after all are goes = record {
   more = goes.more;
-  are = are ∙ ap records_of goes.moves ∙ records_more d.moves goes.more;
+  are = are ∙ goes_records trust gives may_fail sources tells files may_leave moment images_since links d after goes;
   honest = goes.honest;
 }
 
@@ -113,9 +114,9 @@ cut_more fits P log base H cut cut2 image f kept = record {
 }
 
 module _ {S : Type 0} (fits : Plan → ℕ → Content → Option (List ℕ) → Type 0) (d after : DeskState S) (all : List Record) (trust : Type 0) (gives : Function) (may_fail : Job → Failure → Type 0) (sources : Contents)
-    (tells : Type 0) (files : S → Files) (may_leave : S → Outcomes) (moment : S → ℕ) (images_since : S → ℕ → Files → Type 0) where
+    (tells : Type 0) (files : S → Files) (may_leave : S → Outcomes) (moment : S → ℕ) (images_since : S → ℕ → Files → Type 0) (links : List Move) where
   -- what was kept at each moment
-  pub was_kept : (past : Type 0) (before now : ℕ) (r : Result Check Halt) (image : Files) → all ≡ records_of after.moves → GoesOn trust gives may_fail sources tells files may_leave moment images_since d after
+  pub was_kept : (past : Type 0) (before now : ℕ) (r : Result Check Halt) (image : Files) → all ≡ records_of after.moves → GoesOn trust gives may_fail sources tells files may_leave moment images_since links d after
       → HaltsBy after.trouble before now r → Closed d after r → past ⊎ WasKept fits after.plan after.log after.base (records_of after.moves) (IsCut after.trouble) image
       → past ⊎ WasKept fits d.plan d.log d.base all (IsCutRun (ended_by r)) image
   was_kept past before now r image are goes halt closed left =
@@ -128,7 +129,7 @@ module _ {S : Type 0} (fits : Plan → ℕ → Content → Option (List ℕ) →
       (cut_more fits after.plan after.log after.base (records_of after.moves) (IsCut after.trouble) (IsCutRun (ended_by r)) image (cut_run d after before now r halt closed) k)))))) left
 
   -- and what is kept now
-  pub is_kept : (image : Files) → all ≡ records_of after.moves → GoesOn trust gives may_fail sources tells files may_leave moment images_since d after → Keeps fits after.plan after.log (records_of after.moves) image → Keeps fits d.plan d.log all image
+  pub is_kept : (image : Files) → all ≡ records_of after.moves → GoesOn trust gives may_fail sources tells files may_leave moment images_since links d after → Keeps fits after.plan after.log (records_of after.moves) image → Keeps fits d.plan d.log all image
   is_kept image are goes k =
       subst (λ (P : Plan). Keeps fits P d.log all image) goes.plan
       (subst (λ (n : List ℕ). Keeps fits after.plan n all image) goes.log (subst (λ (G : List Record). Keeps fits after.plan after.log G image) (sym are) k))
@@ -147,30 +148,29 @@ causes_run first now before after t (Err halts.Memory) halt counts = tt
 
 -- no record is taken back
 pub longer : {S : Type 0} (trust : Type 0) (gives : Function) (may_fail : Job → Failure → Type 0) (sources : Contents) (tells : Type 0) (files : S → Files) (may_leave : S → Outcomes) (moment : S → ℕ)
-    (images_since : S → ℕ → Files → Type 0) (d after : DeskState S) → GoesOn trust gives may_fail sources tells files may_leave moment images_since d after
+    (images_since : S → ℕ → Files → Type 0) (links : List Move) (d after : DeskState S) → GoesOn trust gives may_fail sources tells files may_leave moment images_since links d after
     → length (records_of d.moves) ≤ length (records_of after.moves)
-longer {S} trust gives may_fail sources tells files may_leave moment images_since d after goes =
-    let same = ap (λ (M : List Move). length (records_of M)) goes.moves in
-    let more = ap length (records_more d.moves goes.more) in
-    omega (arith, same, more, length-append (records_of d.moves) goes.more)
+longer {S} trust gives may_fail sources tells files may_leave moment images_since links d after goes =
+    let same = ap length (goes_records trust gives may_fail sources tells files may_leave moment images_since links d after goes) in
+    omega (arith, same, length-append (records_of d.moves) goes.more)
 
--- a run that came to its end gave no attempt up
+-- where no link ever joined, a run that came to its end gave no attempt up
 pub loses_none : {S : Type 0} (trust : Type 0) (gives : Function) (may_fail : Job → Failure → Type 0) (sources : Contents) (tells : Type 0) (files : S → Files) (may_leave : S → Outcomes) (moment : S → ℕ)
-    (images_since : S → ℕ → Files → Type 0) (d after : DeskState S) (all : List Record) (r : Result Check Halt) → d.stop ≡ None → all ≡ records_of after.moves
-    → GoesOn trust gives may_fail sources tells files may_leave moment images_since d after → Closed d after r → OnOk (ended_by r) (LosesNone (records_of d.moves) all)
-loses_none {S} trust gives may_fail sources tells files may_leave moment images_since d after all (Ok check) unset are goes closed =
-    (goes.more, are ∙ ap records_of goes.moves ∙ records_more d.moves goes.more, goes.lost (closed.1 ∙ unset))
-loses_none {S} trust gives may_fail sources tells files may_leave moment images_since d after all (Err halt) unset are goes closed = tt
+    (images_since : S → ℕ → Files → Type 0) (links : List Move) (d after : DeskState S) (all : List Record) (r : Result Check Halt) → d.stop ≡ None → link_moves after.moves ≡ [] → all ≡ records_of after.moves
+    → GoesOn trust gives may_fail sources tells files may_leave moment images_since links d after → Closed d after r → OnOk (ended_by r) (LosesNone (records_of d.moves) all)
+loses_none {S} trust gives may_fail sources tells files may_leave moment images_since links d after all (Ok check) unset unlinked are goes closed =
+    (goes.more, are ∙ goes_records trust gives may_fail sources tells files may_leave moment images_since links d after goes, goes.alone (closed.1 ∙ unset) unlinked)
+loses_none {S} trust gives may_fail sources tells files may_leave moment images_since links d after all (Err halt) unset unlinked are goes closed = tt
 
 -- its answer is what an end of its records answers
 pub ends_run : {S : Type 0} (trust : Type 0) (gives : Function) (may_fail : Job → Failure → Type 0) (sources : Contents) (tells : Type 0) (files : S → Files) (may_leave : S → Outcomes) (moment : S → ℕ)
-    (images_since : S → ℕ → Files → Type 0) (d after : DeskState S) (all : List Record) (r : Result Check Halt) → d.stop ≡ None → all ≡ records_of after.moves
-    → GoesOn trust gives may_fail sources tells files may_leave moment images_since d after → Closed d after r
+    (images_since : S → ℕ → Files → Type 0) (links : List Move) (d after : DeskState S) (all : List Record) (r : Result Check Halt) → d.stop ≡ None → all ≡ records_of after.moves
+    → GoesOn trust gives may_fail sources tells files may_leave moment images_since links d after → Closed d after r
     → IfOk r (λ check. after.stop ≡ None → check ≡ end_over after.plan after.options (before_end (records_of after.moves)) None)
     → IfOk (ended_by r) (λ check. check ≡ end_over d.plan d.options (before_end all) None)
-ends_run {S} trust gives may_fail sources tells files may_leave moment images_since d after all (Ok check) unset are goes closed ends =
+ends_run {S} trust gives may_fail sources tells files may_leave moment images_since links d after all (Ok check) unset are goes closed ends =
     ends (closed.1 ∙ unset)
     ∙ ap (λ (P : Plan). end_over P after.options (before_end (records_of after.moves)) None) goes.plan
     ∙ ap (λ (O : Options). end_over d.plan O (before_end (records_of after.moves)) None) goes.options
     ∙ ap (λ (G : List Record). end_over d.plan d.options (before_end G) None) (sym are)
-ends_run {S} trust gives may_fail sources tells files may_leave moment images_since d after all (Err halt) unset are goes closed ends = tt
+ends_run {S} trust gives may_fail sources tells files may_leave moment images_since links d after all (Err halt) unset are goes closed ends = tt

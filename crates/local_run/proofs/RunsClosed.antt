@@ -93,7 +93,7 @@ others_run H x place r n l closes other =
     ap (λ (b : Bool). b && option_map_or (is_place n l) (running_in (H ++ (x ∷ [])) r) false) is
     ∙ ap (λ (p : Option Place). is_running H r && option_map_or (is_place n l) p false) runs
 
-number_is : (a b : AttemptNo) → a.0 ≡ b.0 → a ≡ b
+pub number_is : (a b : AttemptNo) → a.0 ≡ b.0 → a ≡ b
 number_is a b same = ap (λ (n : ℕ). let m : AttemptNo = record { 0 = n } in m) same
 
 -- an attempt of another number runs on

@@ -23,7 +23,7 @@ use Rattle.local_run.specs.Collecting.{IsUntouched}
 use Rattle.local_run.specs.Course.{GoesOn, HasNothing, IsHalt}
 use Rattle.local_run.specs.Ends.{HasFailed, IsSureEnd, IsSureHalt}
 use Rattle.local_run.specs.Runs.{IsClosedRun, ended_by}
-use Rattle.local_run.specs.Underway.{ComesTo, IsWant, IsWantHalt, Matches, Underway, settled}
+use Rattle.local_run.specs.Underway.{AwayState, ComesTo, IsWant, IsWantHalt, Matches, Underway, none_away, settled}
 use Rattle.local_run.proofs.Alone.{alone_same}
 use Rattle.local_run.proofs.Done.{sure_ended}
 use Rattle.local_run.proofs.Going.{stays}
@@ -72,9 +72,9 @@ halt_counted t unrun count now halts.Memory fewer h = tt
 -- ---- of the run
 
 module _ {S : Type 0} (trust : Type 0) (gives : Function) (may_fail : Job → Failure → Type 0) (sources : Contents) (tells kept sure : Type 0) (files : S → Files) (may_leave : S → Outcomes) (moment : S → ℕ)
-    (images_since : S → ℕ → Files → Type 0) where
+    (images_since : S → ℕ → Files → Type 0) (away : AwayState) where
   abbrev pub Under : DeskState S → DeskState S → List Attempt → List Start → Tally → Option Halt → Type 0
-  Under first now held waiting heard halt = Underway trust gives may_fail sources tells kept sure files may_leave moment images_since first now held waiting None heard halt
+  Under first now held waiting heard halt = Underway trust gives may_fail sources tells kept sure files may_leave moment images_since away first now held waiting None heard halt
 
   -- the same desk
   pub under_at : (first d e : DeskState S) (held : List Attempt) (waiting : List Start) (heard : Tally) (halt : Option Halt) → d ≡ e → Under first d held waiting heard halt → Under first e held waiting heard halt
@@ -89,6 +89,11 @@ module _ {S : Type 0} (trust : Type 0) (gives : Function) (may_fail : Job → Fa
       (subst (λ (x : Tally). Under first d held waiting x why) t
       (subst (λ (x : Option Halt). Under first d held waiting heard x) k under)))
 
+module _ {S : Type 0} (trust : Type 0) (gives : Function) (may_fail : Job → Failure → Type 0) (sources : Contents) (tells kept sure : Type 0) (files : S → Files) (may_leave : S → Outcomes) (moment : S → ℕ)
+    (images_since : S → ℕ → Files → Type 0) where
+  abbrev pub UnderHere : DeskState S → DeskState S → List Attempt → List Start → Tally → Option Halt → Type 0
+  UnderHere first now held waiting heard halt = Underway trust gives may_fail sources tells kept sure files may_leave moment images_since none_away first now held waiting None heard halt
+
   abbrev pub Comes : DeskState S → DeskState S → ℕ → ℕ → ℕ → ℕ → Result (Unit {0}) Halt → Type 0
   Comes d after count count_now failures failures_now result = ComesTo trust gives may_fail sources tells kept sure files may_leave moment images_since d after count count_now failures failures_now result
 
@@ -96,32 +101,34 @@ module _ {S : Type 0} (trust : Type 0) (gives : Function) (may_fail : Job → Fa
   abbrev pub OnlyNow : S → Type 0
   OnlyNow s = tells → (image : Files) → images_since s (moment s) image → IsImage (may_leave s) image
 
-  goes_self : (d : DeskState S) → OnlyNow d.site → GoesOn trust gives may_fail sources tells files may_leave moment images_since d d
+  goes_self : (d : DeskState S) → OnlyNow d.site → GoesOn trust gives may_fail sources tells files may_leave moment images_since [] d d
   goes_self d only_now =
       stays trust gives may_fail sources tells files may_leave moment images_since d d.stop d.trouble d.site (λ unset. unset) (λ fine. fine)
       (λ told. alone_same files may_leave moment images_since (IsUntouched d.plan d.log (records_of d.moves)) d.site (only_now told))
 
   -- as it begins
-  pub begins : (d : DeskState S) → OnlyNow d.site → IsFine d.trouble → length (running_rules d.plan (records_of d.moves)) ≤ 0 → Under d d [] [] none None
+  pub begins : (d : DeskState S) → OnlyNow d.site → IsFine d.trouble → length (running_rules d.plan (records_of d.moves)) ≤ 0 → UnderHere d d [] [] none None
   begins d only_now fine idle = record {
     goes = goes_self d only_now;
     matches = tt;
     taken = tt;
+    here = tt;
+    beyond = tt;
     all = λ works. idle;
     stopped = (fine, refl);
     failures = λ works. omega arith;
     unended = λ works unended. unended;
     never = λ is. refl;
-    due = λ going is. omega arith;
+    due = λ going is smooth. omega arith;
   }
 
   pub begins_at : (d : DeskState S) (held : List Attempt) (waiting : List Start) (heard : Tally) (halt : Option Halt) → held ≡ [] → waiting ≡ [] → heard ≡ none → halt ≡ None
-      → OnlyNow d.site → IsFine d.trouble → length (running_rules d.plan (records_of d.moves)) ≤ 0 → Under d d held waiting heard halt
+      → OnlyNow d.site → IsFine d.trouble → length (running_rules d.plan (records_of d.moves)) ≤ 0 → UnderHere d d held waiting heard halt
   begins_at d held waiting heard halt h w t k only_now fine idle =
-      subst (λ (x : List Attempt). Under d d x waiting heard halt) (sym h)
-      (subst (λ (x : List Start). Under d d [] x heard halt) (sym w)
-      (subst (λ (x : Tally). Under d d [] [] x halt) (sym t)
-      (subst (λ (x : Option Halt). Under d d [] [] none x) (sym k) (begins d only_now fine idle))))
+      subst (λ (x : List Attempt). UnderHere d d x waiting heard halt) (sym h)
+      (subst (λ (x : List Start). UnderHere d d [] x heard halt) (sym w)
+      (subst (λ (x : Tally). UnderHere d d [] [] x halt) (sym t)
+      (subst (λ (x : Option Halt). UnderHere d d [] [] none x) (sym k) (begins d only_now fine idle))))
 
   -- where memory was wanting before it began
   pub comes_want : (d : DeskState S) (count failures : ℕ) → OnlyNow d.site → length (running_rules d.plan (records_of d.moves)) ≤ 0 → Comes d d count count failures failures (Err halts.Memory)
@@ -150,7 +157,7 @@ module _ {S : Type 0} (trust : Type 0) (gives : Function) (may_fail : Job → Fa
     counted_failed : heard ≡ put → GrowsWith none put count count_now failures failures_now → heard.failed + failures ≡ failures_now
     counted_failed even grows = let same = ap (λ (t : Tally). t.failed) even in let rose = grows.1 in omega (arith, same, rose)
 
-    came_to : (last : Option Halt) → Under d after [] [] heard last → IsWithin heard put → GrowsWith none put count count_now failures failures_now
+    came_to : (last : Option Halt) → UnderHere d after [] [] heard last → IsWithin heard put → GrowsWith none put count count_now failures failures_now
         → (IsFine after.trouble → (IsWant (settled last) → ⊥) → heard ≡ put) → (last ≡ None → HasNothing after)
         → Comes d after count count_now failures failures_now (settled last)
     came_to None under within grows even rests =
@@ -168,7 +175,7 @@ module _ {S : Type 0} (trust : Type 0) (gives : Function) (may_fail : Job → Fa
           risen = omega (arith, failed);
           failed = λ works unwanting. (let logged = under.failures works in omega (arith, logged, failed));
           unended = under.unended;
-          due = λ is. (let few = under.due tt is in omega (arith, few));
+          due = λ is. (let few = under.due tt is (refl, refl) in omega (arith, few));
           none = λ is. (let zero_failed = under.never is in omega (arith, zero_failed, failed));
           rests = rests refl;
         }
@@ -193,9 +200,9 @@ module _ {S : Type 0} (trust : Type 0) (gives : Function) (may_fail : Job → Fa
 
   -- once all runners have ended, and what was held is given up
   pub comes : (d mid after : DeskState S) (held : List Attempt) (waiting : List Start) (heard put : Tally) (halt last : Option Halt) (result : Result (Unit {0}) Halt) (count count_now failures failures_now : ℕ)
-      → Under d mid held waiting heard halt → ((IsWantHalt halt → ⊥) → waiting ≡ []) → (halt ≡ None → HasNothing mid)
+      → UnderHere d mid held waiting heard halt → ((IsWantHalt halt → ⊥) → waiting ≡ []) → (halt ≡ None → HasNothing mid)
       → (held ≡ [] → (after ≡ mid) × (result ≡ settled halt)) → (IsWantHalt halt → IsFine after.trouble → IsWant result)
-      → result ≡ settled last → Under d after [] [] heard last
+      → result ≡ settled last → UnderHere d after [] [] heard last
       → IsWithin heard put → (waiting ≡ [] → heard ≡ put) → GrowsWith none put count count_now failures failures_now
       → Comes d after count count_now failures failures_now result
   comes d mid after held waiting heard put halt last result count count_now failures failures_now was empties rests same wants is under within even grows =
@@ -204,7 +211,7 @@ module _ {S : Type 0} (trust : Type 0) (gives : Function) (may_fail : Job → Fa
       (came_to d after heard put count count_now failures failures_now last under within grows (λ fine unwanting. even (empty fine unwanting))
       (λ going. rested last going is under empty))
     where
-      rested : (last : Option Halt) → last ≡ None → result ≡ settled last → Under d after [] [] heard last → (IsFine after.trouble → (IsWant (settled last) → ⊥) → waiting ≡ []) → HasNothing after
+      rested : (last : Option Halt) → last ≡ None → result ≡ settled last → UnderHere d after [] [] heard last → (IsFine after.trouble → (IsWant (settled last) → ⊥) → waiting ≡ []) → HasNothing after
       rested (Some why) going is under empty = absurd (true≢false (sym (ap is_none going)))
       rested None going is under empty =
           let none_waits = empty under.stopped.0 (λ wants. wants) in

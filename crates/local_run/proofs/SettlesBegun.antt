@@ -17,7 +17,7 @@ use Rattle.desk.specs.State.{DeskState, IsFine}
 use Rattle.local_run.specs.declared.halt.Halt.{Halt}
 use Rattle.local_run.specs.declared.halt.Halt.TheVariants as halts
 use Rattle.local_run.specs.Course.{GivesUp, IsBroken}
-use Rattle.local_run.specs.Underway.{IsWant, IsWantHalt, Matches, Underway, settled}
+use Rattle.local_run.specs.Underway.{AwayState, IsWant, IsWantHalt, Matches, Underway, settled}
 
 broken_works : (t : Trouble) → IsBroken t → IsFine t → ⊥
 broken_works trouble.Fine broken fine = broken
@@ -47,9 +47,9 @@ none_waits P fine H trust contents held waiting none m = by_none waiting (subst 
     by_none (start ∷ starts) m = absurd m
 
 module _ {S : Type 0} (trust : Type 0) (gives : Function) (may_fail : Job → Failure → Type 0) (sources : Contents) (tells kept sure : Type 0) (files : S → Files) (may_leave : S → Outcomes) (moment : S → ℕ)
-    (images_since : S → ℕ → Files → Type 0) where
+    (images_since : S → ℕ → Files → Type 0) (away : AwayState) where
   abbrev pub Under : DeskState S → DeskState S → List Attempt → List Start → Option Attempt → Tally → Option Halt → Type 0
-  Under first now held waiting loose heard halt = Underway trust gives may_fail sources tells kept sure files may_leave moment images_since first now held waiting loose heard halt
+  Under first now held waiting loose heard halt = Underway trust gives may_fail sources tells kept sure files may_leave moment images_since away first now held waiting loose heard halt
 
   -- with nothing held and nothing waiting
   pub settles_on : (first now : DeskState S) (held : List Attempt) (waiting : List Start) (heard : Tally) (halt : Option Halt) → held ≡ [] → Under first now held waiting None heard halt → Under first now [] [] None heard halt

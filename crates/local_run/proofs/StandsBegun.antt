@@ -18,7 +18,8 @@ use Rattle.local_run.specs.declared.halt.Halt.{Halt}
 use Rattle.local_run.specs.declared.halt.Halt.TheVariants as halts
 use Rattle.local_run.specs.Course.{GoesOn, IsBroken}
 use Rattle.local_run.specs.Ends.{records_due}
-use Rattle.local_run.specs.Underway.{IsGoing, IsJobAt, IsLoose, Matches, MayStop, NoneHas, RunsAt, StoppedBy, Underway}
+use Rattle.local_run.specs.Underway.{AreAway, AreHere, AwayState, IsGoing, IsJobAt, IsLoose, Matches, MayStop, NoneHas, RunsAt, StoppedBy, Underway}
+use Rattle.local_run.proofs.Beyond.{away_on, runs_away_on}
 use Rattle.local_run.proofs.Going.{goes_on}
 use Rattle.local_run.proofs.RunsBegun.{RunOn, run_on_same}
 
@@ -65,6 +66,14 @@ other_last : (number : AttemptNo) (held : List Attempt) (a : Attempt) → NoneHa
 other_last number [] a none = (tt, none.0)
 other_last number (b ∷ held) a none = let rest = other_last number held a none.1 in ((none.0, rest.0), rest.1)
 
+here_more : (held : List Attempt) (a : Attempt) → AreHere held → a.link.0 ≡ 0 → AreHere (held ++ (a ∷ []))
+here_more [] a here at = (at, tt)
+here_more (b ∷ held) a here at = (here.0, here_more held a here.1 at)
+
+here_less : (held : List Attempt) (a : Attempt) → AreHere (held ++ (a ∷ [])) → AreHere held
+here_less [] a here = tt
+here_less (b ∷ held) a here = (here.0, here_less held a here.1)
+
 -- What is known of the last that is held.
 record LastOf (P : Plan) (fine : Type 0) (H : List Record) (trust : Type 0) (contents : Contents) (held : List Attempt) (a : Attempt) : Type 0 where
   starts : List Start
@@ -92,12 +101,12 @@ module _ {S : Type 0} (tells kept sure : Type 0) (files : S → Files) (first no
   may_want = record { is = tt; damage = λ told apart. tt; whole = λ told keeps. tt; never = λ sure. tt }
 
 module _ {S : Type 0} (trust : Type 0) (gives : Function) (may_fail : Job → Failure → Type 0) (sources : Contents) (tells kept sure : Type 0) (files : S → Files) (may_leave : S → Outcomes) (moment : S → ℕ)
-    (images_since : S → ℕ → Files → Type 0) where
+    (images_since : S → ℕ → Files → Type 0) (away : AwayState) where
   abbrev pub Goes : DeskState S → DeskState S → Type 0
-  Goes d after = GoesOn trust gives may_fail sources tells files may_leave moment images_since d after
+  Goes d after = GoesOn trust gives may_fail sources tells files may_leave moment images_since [] d after
 
   abbrev pub Under : DeskState S → DeskState S → List Attempt → List Start → Option Attempt → Tally → Option Halt → Type 0
-  Under first now held waiting loose heard halt = Underway trust gives may_fail sources tells kept sure files may_leave moment images_since first now held waiting loose heard halt
+  Under first now held waiting loose heard halt = Underway trust gives may_fail sources tells kept sure files may_leave moment images_since away first now held waiting loose heard halt
 
   -- a call behind which what ran runs on
   pub runs_on : (first d after : DeskState S) (held : List Attempt) (waiting : List Start) (loose : Option Attempt) (heard : Tally) (halt next : Option Halt) → Goes d after
@@ -111,16 +120,20 @@ module _ {S : Type 0} (trust : Type 0) (gives : Function) (may_fail : Job → Fa
       let later : Type 0 = IsFine after.trouble in
       let each : AllRunOn d.plan fine H later all = λ a at. record { rule = at.rule; runs = λ works. (on works).runs a.rule.0 a.number.0 a.link.0 (at.runs (goes.works works)) } in
       record {
-        goes = goes_on trust gives may_fail sources tells files may_leave moment images_since first d after u.goes goes;
+        goes = goes_on trust gives may_fail sources tells files may_leave moment images_since away.links first d after u.goes goes;
         matches = subst (λ (P : Plan). Matches P later all trust (serial P gives sources) held waiting) (sym goes.plan) (matches_on d.plan fine later H all trust (serial d.plan gives sources) held waiting each u.matches);
         taken = subst (λ (P : Plan). IsLoose P later all held loose) (sym goes.plan) (loose_on d.plan fine later H all held loose each u.taken);
+        here = u.here;
+        beyond = subst (λ (P : Plan). AreAway P later after.moves held loose away.attempts) (sym goes.plan)
+            (away_on d.plan fine later d.moves after.moves held held loose loose away.attempts
+            (λ a at unheld other. (runs_away_on d.plan fine later d.moves after.moves goes.passed a goes.moves (each a) at, unheld, other)) u.beyond);
         all = λ works.
             let count = (on works).count in let was = u.all (goes.works works) in let same = ap (λ (P : Plan). length (running_rules P all)) goes.plan in omega (arith, count, was, same);
         stopped = stops;
         failures = λ works. (on works).failed ∙ u.failures (goes.works works);
         unended = λ works unended. (on works).unended (u.unended (goes.works works) unended);
         never = u.never;
-        due = λ going sure. let both = dues going in let less = both.1 in let was = u.due both.0 sure in omega (arith, less, was);
+        due = λ going sure smooth. let both = dues going in let less = both.1 in let was = u.due both.0 sure smooth in omega (arith, less, was);
       }
 
   -- a call that adds no record
@@ -144,6 +157,8 @@ module _ {S : Type 0} (trust : Type 0) (gives : Function) (may_fail : Job → Fa
     goes = u.goes;
     matches = u.matches;
     taken = u.taken;
+    here = u.here;
+    beyond = u.beyond;
     all = u.all;
     stopped = may_want tells kept sure files first now heard;
     failures = u.failures;
@@ -153,21 +168,24 @@ module _ {S : Type 0} (trust : Type 0) (gives : Function) (may_fail : Job → Fa
   }
 
   -- the loose attempt is held, and its start waits
-  pub holds_on : (first now : DeskState S) (held : List Attempt) (waiting : List Start) (a : Attempt) (heard : Tally) (halt : Option Halt) (start : Start) → a.number ≡ start.attempt
+  pub holds_on : (first now : DeskState S) (held : List Attempt) (waiting : List Start) (a : Attempt) (heard : Tally) (halt : Option Halt) (start : Start) → a.link.0 ≡ 0 → a.number ≡ start.attempt
       → IsJobAt now.plan trust (serial now.plan gives sources) a.rule.0 start.job → Under first now held waiting (Some a) heard halt
       → Under first now (held ++ (a ∷ [])) (waiting ++ (start ∷ [])) None heard halt
-  holds_on first now held waiting a heard halt start same job u =
+  holds_on first now held waiting a heard halt start at same job u =
       let longer = length-append held (a ∷ []) in
       record {
         goes = u.goes;
         matches = matches_more now.plan (IsFine now.trouble) (records_of now.moves) trust (serial now.plan gives sources) held waiting a start u.taken.0 u.taken.1 same job u.matches;
         taken = tt;
+        here = here_more held a u.here at;
+        beyond = away_on now.plan (IsFine now.trouble) (IsFine now.trouble) now.moves now.moves held (held ++ (a ∷ [])) (Some a) None away.attempts
+            (λ b runs unheld other. (runs, none_more b.number held a unheld other, tt)) u.beyond;
         all = λ works. let was = u.all works in omega (arith, was, longer);
         stopped = u.stopped;
         failures = u.failures;
         unended = u.unended;
         never = u.never;
-        due = λ going sure. let was = u.due going sure in omega (arith, was, longer);
+        due = λ going sure smooth. let was = u.due going sure smooth in omega (arith, was, longer);
       }
 
   -- the last that is held is loose, and its start is forgotten
@@ -181,11 +199,14 @@ module _ {S : Type 0} (trust : Type 0) (gives : Function) (may_fail : Job → Fa
           goes = u.goes;
           matches = last.matches;
           taken = (last.runs, last.none);
+          here = here_less held a u.here;
+          beyond = away_on now.plan (IsFine now.trouble) (IsFine now.trouble) now.moves now.moves (held ++ (a ∷ [])) held None (Some a) away.attempts
+              (λ b at unheld other. let both = other_last b.number held a unheld in (at, both.0, both.1)) u.beyond;
           all = λ works. let was = u.all works in omega (arith, was, longer);
           stopped = u.stopped;
           failures = u.failures;
           unended = u.unended;
           never = u.never;
-          due = λ going sure. let was = u.due going sure in omega (arith, was, longer);
+          due = λ going sure smooth. let was = u.due going sure smooth in omega (arith, was, longer);
         },
       )

@@ -12,16 +12,18 @@ use Rattle.flow_types.specs.declared.records.Record.TheVariants as records
 use Rattle.flow_types.specs.Plans.{IsValid, makes}
 use Rattle.flow_types.specs.Serial.{Contents, Function, job_of, serial}
 use Rattle.run_history.specs.declared.answers.Stop.{Stop}
+use Rattle.run_history.specs.declared.moves.Move.{Move}
 use Rattle.run_history.specs.Links.{records_of}
 use Rattle.run_history.specs.Storage.{running_rules}
 use Rattle.outside.specs.Disk.{IsImage, Outcomes}
 use Rattle.outside.specs.Files.{Files}
+use Rattle.rule_graph.specs.Spelling.{plan_digest}
 use Rattle.task_core.proofs.Pushing.{count-push}
 use Rattle.worker_pool.specs.declared.hand.Tally.{Tally}
 use Rattle.desk.specs.declared.answers.CloseRefused.{CloseRefused}
 use Rattle.desk.specs.declared.answers.Trouble.{Trouble}
 use Rattle.desk.specs.declared.attempt.Attempt.{Attempt}
-use Rattle.desk.specs.Kept.{IsElse, ReadsStay, StaysBeside}
+use Rattle.desk.specs.Kept.{IsElse, IsLegal, ReadsStay, StaysBeside}
 use Rattle.desk.specs.State.{Closes, DeskState, IsFine, runs_with}
 use Rattle.desk.proofs.Presents.{runs_from}
 use Rattle.desk.proofs.Running.{closing}
@@ -30,11 +32,13 @@ use Rattle.local_run.specs.declared.halt.Halt.TheVariants as halts
 use Rattle.local_run.specs.Collecting.{IsUntouched}
 use Rattle.local_run.specs.Course.{GoesOn, IsBroken, IsHalt, LeavesAlone}
 use Rattle.local_run.specs.Ends.{IsApart, IsFoundDamaged, failed_count, is_failed, records_due}
-use Rattle.local_run.specs.Underway.{IsGoing, Matches, MayStop, NoneHas, RunsAt, StoppedBy, Underway}
+use Rattle.local_run.specs.Underway.{AreAway, AwayState, IsGoing, IsSmooth, Matches, MayStop, NoneHas, RunsAt, RunsAway, StoppedBy, Underway}
 use Rattle.local_run.proofs.Alone.{alone_same, log_alone, outputs_alone}
+use Rattle.local_run.proofs.Beyond.{away_on, runs_away_on}
 use Rattle.local_run.proofs.Closings.{closes_goes}
+use Rattle.local_run.proofs.Elsewhere.{named_unlinked, runs_started_away}
 use Rattle.local_run.proofs.Fresh.{due_done, unended_by}
-use Rattle.local_run.proofs.Going.{goes_on}
+use Rattle.local_run.proofs.Going.{adds_plain, goes_on}
 use Rattle.local_run.proofs.Logging.{closes_logs, unfinished}
 use Rattle.local_run.proofs.RunsClosed.{Ending, IsClosed, closed_fine, damage_on, matches_on, still_runs, worked_or_same}
 
@@ -90,52 +94,78 @@ closing_alone {S} files may_leave moment images_since d after r number link vali
     (alone_same files may_leave moment images_since (IsUntouched d.plan d.log (records_of d.moves)) d.site only_now)) worked
 
 module _ {S : Type 0} (trust : Type 0) (gives : Function) (may_fail : Job → Failure → Type 0) (sources : Contents) (tells kept sure : Type 0) (files : S → Files) (may_leave : S → Outcomes) (moment : S → ℕ)
-    (images_since : S → ℕ → Files → Type 0) where
+    (images_since : S → ℕ → Files → Type 0) (away : AwayState) where
   abbrev pub Under : DeskState S → DeskState S → List Attempt → List Start → Option Attempt → Tally → Option Halt → Type 0
-  Under first d held waiting loose heard halt = Underway trust gives may_fail sources tells kept sure files may_leave moment images_since first d held waiting loose heard halt
+  Under first d held waiting loose heard halt = Underway trust gives may_fail sources tells kept sure files may_leave moment images_since away first d held waiting loose heard halt
 
-  -- behind a call that closes the loose attempt, or fails
-  pub closes_under : (count : S → ℕ) (first d mid after : DeskState S) (k : Option Stop) (a : Attempt) (x : Record) (r : Result (Unit {0}) CloseRefused) (held : List Attempt) (waiting : List Start) (heard later : Tally) (halt halt_now : Option Halt)
-      → Ending a.rule.0 x → mid ≡ record d { stop = k } → GoesOn trust gives may_fail sources tells files may_leave moment images_since d after → Closes count mid a.rule a.number a.link x r after
-      → later.failed ≡ heard.failed + cond (is_failed x) 1 0 → (sure → heard.failed ≡ 0 → later.failed ≡ 0) → StoppedBy tells kept sure files first after later halt_now
-      → (IsGoing halt_now → IsGoing halt × (sure → records_due after.plan (records_of after.moves) + 1 ≤ records_due d.plan (records_of d.moves)))
-      → Under first d held waiting (Some a) heard halt → Under first after held waiting None later halt_now
-  closes_under count first d mid after k a x r held waiting heard later halt halt_now ending same goes h counted never stopped due u =
+  abbrev pub UnderBy : AwayState → DeskState S → DeskState S → List Attempt → List Start → Option Attempt → Tally → Option Halt → Type 0
+  UnderBy next first d held waiting loose heard halt = Underway trust gives may_fail sources tells kept sure files may_leave moment images_since next first d held waiting loose heard halt
+
+  -- behind a call that closes the loose attempt, or fails, with this going on on links
+  pub closes_then : (next : AwayState) (count : S → ℕ) (first d mid after : DeskState S) (k : Option Stop) (a : Attempt) (x : Record) (r : Result (Unit {0}) CloseRefused) (held : List Attempt) (waiting : List Start) (heard later : Tally) (halt halt_now : Option Halt)
+      → next.attempts ≡ away.attempts → next.links ≡ away.links → Ending a.rule.0 x → mid ≡ record d { stop = k } → GoesOn trust gives may_fail sources tells files may_leave moment images_since [] d after
+      → Closes count mid a.rule a.number a.link x r after → later.failed + next.failed ≡ heard.failed + away.failed + count_one (is_failed x) → (sure → heard.failed ≡ 0 → later.failed ≡ 0) → StoppedBy tells kept sure files first after later halt_now
+      → (IsGoing halt_now → IsGoing halt × (sure → IsSmooth next → IsSmooth away × (records_due after.plan (records_of after.moves) + 1 ≤ records_due d.plan (records_of d.moves))))
+      → Under first d held waiting (Some a) heard halt → UnderBy next first after held waiting None later halt_now
+  closes_then next count first d mid after k a x r held waiting heard later halt halt_now attempts links ending same goes h counted never stopped due u =
       let H = records_of d.moves in
       let G = records_of after.moves in
       let loose : RunsAt d.plan (IsFine d.trouble) H a × NoneHas a.number held = u.taken in
       let logs : IsFine after.trouble → G ≡ H ++ (x ∷ []) = λ fine. closes_logs count d mid k a.rule a.number a.link x r after same (loose.0.runs (goes.works fine)) h fine in
+      let many : length next.attempts ≡ length away.attempts = ap length attempts in
       record {
-        goes = goes_on trust gives may_fail sources tells files may_leave moment images_since first d after u.goes goes;
+        goes = subst (λ (l : List Move). GoesOn trust gives may_fail sources tells files may_leave moment images_since l first after) (sym links)
+            (goes_on trust gives may_fail sources tells files may_leave moment images_since away.links first d after u.goes goes);
         matches = subst (λ (P : Plan). Matches P (IsFine after.trouble) G trust (serial P gives sources) held waiting) (sym goes.plan)
             (matches_on d.plan (IsFine d.trouble) (IsFine after.trouble) H G trust (serial d.plan gives sources) a.number held waiting
             (λ b other was. still_runs d.plan (IsFine d.trouble) (IsFine after.trouble) H G x a b ending.closes goes.works logs loose.0.runs other was) loose.1 u.matches);
         taken = tt;
+        here = u.here;
+        beyond = subst (AreAway after.plan (IsFine after.trouble) after.moves held None) (sym attempts)
+            (subst (λ (P : Plan). AreAway P (IsFine after.trouble) after.moves held None away.attempts) (sym goes.plan)
+            (away_on d.plan (IsFine d.trouble) (IsFine after.trouble) d.moves after.moves held held (Some a) None away.attempts
+            (λ b at unheld other. (
+              runs_away_on d.plan (IsFine d.trouble) (IsFine after.trouble) d.moves after.moves goes.passed b goes.moves
+                  (still_runs d.plan (IsFine d.trouble) (IsFine after.trouble) H G x a b ending.closes goes.works logs loose.0.runs (λ same. other (sym same))) at,
+              unheld,
+              tt,
+            )) u.beyond));
         all = λ fine.
-            let few : length (running_rules d.plan H) ≤ length held + 1 = u.all (goes.works fine) in
+            let few : length (running_rules d.plan H) ≤ length held + 1 + length away.attempts = u.all (goes.works fine) in
             let less : length (running_rules d.plan (H ++ (x ∷ []))) + 1 ≤ length (running_rules d.plan H) =
             closing d.plan H x a.rule.0 a.number.0 ending.closes.outs (runs_from d.plan H a.rule.0 a.number.0 a.link.0 loose.0.rule (loose.0.runs (goes.works fine))) ending.closes.stays ending.closes.opens ending.closes.says ending.closes.logs in
             let are : length (running_rules after.plan G) ≡ length (running_rules d.plan (H ++ (x ∷ []))) =
             ap (λ (P : Plan). length (running_rules P G)) goes.plan ∙ ap (λ (L : List Record). length (running_rules d.plan L)) (logs fine) in
-            omega (arith, few, less, are);
+            omega (arith, few, less, are, many);
         stopped = stopped;
         failures = λ fine.
-            let was : failed_count H ≡ failed_count (records_of first.moves) + heard.failed = u.failures (goes.works fine) in
-            let more : count_by is_failed (H ++ (x ∷ [])) ≡ count_by is_failed H + cond (is_failed x) 1 0 = count-push is_failed H x in
+            let was : failed_count H ≡ failed_count (records_of first.moves) + heard.failed + away.failed = u.failures (goes.works fine) in
+            let more : count_by is_failed (H ++ (x ∷ [])) ≡ count_by is_failed H + count_one (is_failed x) = count-push is_failed H x in
             let are : failed_count G ≡ count_by is_failed (H ++ (x ∷ [])) = ap failed_count (logs fine) in
             omega (arith, was, more, are, counted);
         unended = λ fine none. unended_by H G x (logs fine) ending.closes.stays ending.closes.opens ending.ends (u.unended (goes.works fine) none);
         never = λ is. never is (u.never is);
-        due = λ going is.
+        due = λ going is smooth.
             let both = due going in
-            let was : records_due d.plan H ≤ records_due first.plan (records_of first.moves) + length held + 1 = u.due both.0 is in
-            let less : records_due after.plan G + 1 ≤ records_due d.plan H = both.1 is in
-            omega (arith, was, less);
+            let now = both.1 is smooth in
+            let was : records_due d.plan H ≤ records_due first.plan (records_of first.moves) + length held + 1 + length away.attempts = u.due both.0 is now.0 in
+            let less : records_due after.plan G + 1 ≤ records_due d.plan H = now.1 in
+            omega (arith, was, less, many);
       }
+
+  -- and with nothing else gone on there
+  pub closes_under : (count : S → ℕ) (first d mid after : DeskState S) (k : Option Stop) (a : Attempt) (x : Record) (r : Result (Unit {0}) CloseRefused) (held : List Attempt) (waiting : List Start) (heard later : Tally) (halt halt_now : Option Halt)
+      → Ending a.rule.0 x → mid ≡ record d { stop = k } → GoesOn trust gives may_fail sources tells files may_leave moment images_since [] d after → Closes count mid a.rule a.number a.link x r after
+      → later.failed ≡ heard.failed + count_one (is_failed x) → (sure → heard.failed ≡ 0 → later.failed ≡ 0) → StoppedBy tells kept sure files first after later halt_now
+      → (IsGoing halt_now → IsGoing halt × (sure → records_due after.plan (records_of after.moves) + 1 ≤ records_due d.plan (records_of d.moves)))
+      → Under first d held waiting (Some a) heard halt → Under first after held waiting None later halt_now
+  closes_under count first d mid after k a x r held waiting heard later halt halt_now ending same goes h counted never stopped due u =
+      closes_then away count first d mid after k a x r held waiting heard later halt halt_now refl refl ending same goes h (omega (arith, counted)) never stopped
+      (λ going. let both = due going in (both.0, λ is smooth. (smooth, both.1 is))) u
 
   -- How it stopped behind a call that closed an attempt and set no stop: as it had.
   pub closed_stopped : (count : S → ℕ) (first d after : DeskState S) (a : Attempt) (x : Record) (r : Result (Unit {0}) CloseRefused) (held : List Attempt) (waiting : List Start) (heard later : Tally) (halt : Option Halt)
-      → IsValid d.plan → Ending a.rule.0 x → r ≡ Ok tt → Closes count d a.rule a.number a.link x r after → GoesOn trust gives may_fail sources tells files may_leave moment images_since d after → heard.unrun ≤ later.unrun
+      → IsValid d.plan → Ending a.rule.0 x → r ≡ Ok tt → Closes count d a.rule a.number a.link x r after → GoesOn trust gives may_fail sources tells files may_leave moment images_since [] d after → heard.unrun ≤ later.unrun
       → (tells → ReadsStay files (IsElse d.plan d.log (makes d.plan a.rule.0)) d.site after.site) → Under first d held waiting (Some a) heard halt → StoppedBy tells kept sure files first after later halt
   closed_stopped count first d after a x r held waiting heard later halt valid ending is h goes le reads u =
       let closed : IsClosed d d.stop after = closed_fine count d d d.stop a.rule a.number a.link x r after refl is h in
@@ -148,7 +178,7 @@ module _ {S : Type 0} (trust : Type 0) (gives : Function) (may_fail : Job → Fa
 
   -- the same of a record that is no failure's
   pub closes_plain : (count : S → ℕ) (first d mid after : DeskState S) (k : Option Stop) (a : Attempt) (x : Record) (r : Result (Unit {0}) CloseRefused) (held : List Attempt) (waiting : List Start) (heard : Tally) (halt halt_now : Option Halt)
-      → Ending a.rule.0 x → is_failed x ≡ false → mid ≡ record d { stop = k } → GoesOn trust gives may_fail sources tells files may_leave moment images_since d after → Closes count mid a.rule a.number a.link x r after
+      → Ending a.rule.0 x → is_failed x ≡ false → mid ≡ record d { stop = k } → GoesOn trust gives may_fail sources tells files may_leave moment images_since [] d after → Closes count mid a.rule a.number a.link x r after
       → StoppedBy tells kept sure files first after heard halt_now
       → (IsGoing halt_now → IsGoing halt × (sure → records_due after.plan (records_of after.moves) + 1 ≤ records_due d.plan (records_of d.moves)))
       → Under first d held waiting (Some a) heard halt → Under first after held waiting None heard halt_now
@@ -158,7 +188,7 @@ module _ {S : Type 0} (trust : Type 0) (gives : Function) (may_fail : Job → Fa
 
   -- Why a run is stopped is so behind the giving up of an attempt.
   pub lost_stops : (count : S → ℕ) (d mid after : DeskState S) (k : Option Stop) (a : Attempt) (x : Record) (r : Result (Unit {0}) CloseRefused) (heard : Tally) (why : Halt)
-      → IsValid d.plan → Ending a.rule.0 x → mid ≡ record d { stop = k } → r ≡ Ok tt → Closes count mid a.rule a.number a.link x r after → GoesOn trust gives may_fail sources tells files may_leave moment images_since d after
+      → IsValid d.plan → Ending a.rule.0 x → mid ≡ record d { stop = k } → r ≡ Ok tt → Closes count mid a.rule a.number a.link x r after → GoesOn trust gives may_fail sources tells files may_leave moment images_since [] d after
       → RunsAt d.plan (IsFine d.trouble) (records_of d.moves) a → (tells → ReadsStay files (λ m. m ≢ mid.log) mid.site after.site) → (IsFine d.trouble → MayStop tells kept sure files d heard why) → MayStop tells kept sure files after heard why
   lost_stops count d mid after k a x r heard why valid ending same is h goes runs_at reads stop =
       let closed : IsClosed d k after = closed_fine count d mid k a.rule a.number a.link x r after same is h in
@@ -173,15 +203,16 @@ module _ {S : Type 0} (trust : Type 0) (gives : Function) (may_fail : Job → Fa
   pub finish_goes : (count : S → ℕ) (d after : DeskState S) (a : Attempt) (time : ℕ) (rows : List Content) (r : Result (Unit {0}) CloseRefused) → IsValid d.plan
       → (tells → (image : Files) → images_since d.site (moment d.site) image → IsImage (may_leave d.site) image) → RunsAt d.plan (IsFine d.trouble) (records_of d.moves) a
       → (tells → StaysBeside may_leave moment images_since (IsElse d.plan d.log (makes d.plan a.rule.0)) d.site after.site) → (tells → ReadsStay files (IsElse d.plan d.log (makes d.plan a.rule.0)) d.site after.site)
-      → Closes count d a.rule a.number a.link (records.Done time a.rule a.number rows) r after → GoesOn trust gives may_fail sources tells files may_leave moment images_since d after
+      → Closes count d a.rule a.number a.link (records.Done time a.rule a.number rows) r after → GoesOn trust gives may_fail sources tells files may_leave moment images_since [] d after
   finish_goes count d after a time rows r valid only_now runs_at others reads h =
-      closes_goes trust gives may_fail sources tells files may_leave moment images_since count d d d.stop a.rule a.number a.link (records.Done time a.rule a.number rows) r after refl (λ trusted. tt) (λ none. none) (λ none. refl) refl (λ f. refl)
+      closes_goes trust gives may_fail sources tells files may_leave moment images_since count d d d.stop a.rule a.number a.link (records.Done time a.rule a.number rows) r after refl (λ trusted. tt) (λ none. none)
+      (λ fine. adds_plain d.moves d.stop (records.Done time a.rule a.number rows) (λ none. refl)) refl (λ f. refl)
       (λ told. closing_alone files may_leave moment images_since d after a.rule.0 a.number.0 a.link.0 valid (only_now told) runs_at.runs
       (worked_or_same count d a.rule a.number a.link (records.Done time a.rule a.number rows) r after h) (others told) (reads told)) h
 
   -- a record more that was due
   pub finish_due : (count : S → ℕ) (d after : DeskState S) (a : Attempt) (time : ℕ) (rows : List Content) (r : Result (Unit {0}) CloseRefused) → RunsAt d.plan (IsFine d.trouble) (records_of d.moves) a → r ≡ Ok tt
-      → Closes count d a.rule a.number a.link (records.Done time a.rule a.number rows) r after → GoesOn trust gives may_fail sources tells files may_leave moment images_since d after
+      → Closes count d a.rule a.number a.link (records.Done time a.rule a.number rows) r after → GoesOn trust gives may_fail sources tells files may_leave moment images_since [] d after
       → records_due after.plan (records_of after.moves) + 1 ≤ records_due d.plan (records_of d.moves)
   finish_due count d after a time rows r runs_at is h goes =
       let x : Record = records.Done time a.rule a.number rows in
@@ -195,18 +226,31 @@ module _ {S : Type 0} (trust : Type 0) (gives : Function) (may_fail : Job → Fa
   -- an attempt that is given up, behind a stop
   pub give_up_goes : (count : S → ℕ) (d mid after : DeskState S) (k : Option Stop) (a : Attempt) (time : ℕ) (r : Result (Unit {0}) CloseRefused) → mid ≡ record d { stop = k } → (k ≡ None → ⊥)
       → (tells → StaysBeside may_leave moment images_since (λ m. m ≢ mid.log) mid.site after.site) → (tells → ReadsStay files (λ m. m ≢ mid.log) mid.site after.site)
-      → Closes count mid a.rule a.number a.link (records.Lost time a.rule a.number) r after → GoesOn trust gives may_fail sources tells files may_leave moment images_since d after
+      → Closes count mid a.rule a.number a.link (records.Lost time a.rule a.number) r after → GoesOn trust gives may_fail sources tells files may_leave moment images_since [] d after
   give_up_goes count d mid after k a time r same unset others reads h =
       closes_goes trust gives may_fail sources tells files may_leave moment images_since count d mid k a.rule a.number a.link (records.Lost time a.rule a.number) r after same (λ trusted. tt)
-      (λ none. absurd (unset none)) (λ none. absurd (unset none)) refl (λ f. refl)
+      (λ none. absurd (unset none)) (λ fine none. absurd (unset none)) refl (λ f. refl)
       (λ told. log_alone files may_leave moment images_since mid.plan mid.log (records_of mid.moves) mid.site after.site (others told) (reads told)) h
 
   -- an attempt whose command failed
   pub fail_goes : (count : S → ℕ) (d after : DeskState S) (a : Attempt) (time : ℕ) (why : Failure) (r : Result (Unit {0}) CloseRefused)
       → (trust → (row : Rule) → slice_get d.plan.rules a.rule.0 ≡ Some row → may_fail (job_of d.plan row (serial d.plan gives sources)) why)
       → (tells → StaysBeside may_leave moment images_since (λ m. m ≢ d.log) d.site after.site) → (tells → ReadsStay files (λ m. m ≢ d.log) d.site after.site)
-      → Closes count d a.rule a.number a.link (records.Failed time a.rule a.number why) r after → GoesOn trust gives may_fail sources tells files may_leave moment images_since d after
+      → Closes count d a.rule a.number a.link (records.Failed time a.rule a.number why) r after → GoesOn trust gives may_fail sources tells files may_leave moment images_since [] d after
   fail_goes count d after a time why r honest others reads h =
       closes_goes trust gives may_fail sources tells files may_leave moment images_since count d d d.stop a.rule a.number a.link (records.Failed time a.rule a.number why) r after refl honest
-      (λ none. none) (λ none. refl) refl (λ f. refl)
+      (λ none. none) (λ fine. adds_plain d.moves d.stop (records.Failed time a.rule a.number why) (λ none. refl)) refl (λ f. refl)
+      (λ told. log_alone files may_leave moment images_since d.plan d.log (records_of d.moves) d.site after.site (others told) (reads told)) h
+
+  -- an attempt on a link that is given up
+  pub lose_goes : (count : S → ℕ) (d after : DeskState S) (a : Attempt) (time : ℕ) (r : Result (Unit {0}) CloseRefused) → IsLegal d.plan (records_of d.moves) → RunsAway d.plan (IsFine d.trouble) d.moves a
+      → (tells → StaysBeside may_leave moment images_since (λ m. m ≢ d.log) d.site after.site) → (tells → ReadsStay files (λ m. m ≢ d.log) d.site after.site)
+      → Closes count d a.rule a.number a.link (records.Lost time a.rule a.number) r after → GoesOn trust gives may_fail sources tells files may_leave moment images_since [] d after
+  lose_goes count d after a time r legal runs others reads h =
+      closes_goes trust gives may_fail sources tells files may_leave moment images_since count d d d.stop a.rule a.number a.link (records.Lost time a.rule a.number) r after refl (λ trusted. tt)
+      (λ none. none)
+      (λ fine none. (
+        runs_started_away d.plan (plan_digest d.plan) (records_of d.moves) a.rule.0 a.number.0 a.link.0 legal runs.beyond (runs.at.runs fine),
+        λ unlinked. absurd (named_unlinked a.link.0 d.moves runs.named unlinked),
+      )) refl (λ f. refl)
       (λ told. log_alone files may_leave moment images_since d.plan d.log (records_of d.moves) d.site after.site (others told) (reads told)) h

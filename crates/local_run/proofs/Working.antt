@@ -1,11 +1,12 @@
 -- From the last claim of a run to its end.
-use Rattle.std.proofs.Common.{◌≡◌, ◌≤◌, ◌<◌, ◌+◌, ◌∙◌, ℕ, false, ◌++◌, length, Option, Some, None, Ok, Err, sym, ap, subst, arith}
+use Rattle.std.proofs.Common.{◌≡◌, ◌≤◌, ◌<◌, ◌+◌, ◌∙◌, ℕ, false, List, ◌++◌, length, Option, Some, None, Ok, Err, sym, ap, subst, arith}
 use Rattle.std.specs.Prelude.{filter, find}
 use Rattle.flow_types.specs.declared.plan.Plan.{Plan}
 use Rattle.flow_types.specs.declared.job.Job.{Job}
 use Rattle.flow_types.specs.declared.job.Failure.{Failure}
 use Rattle.flow_types.specs.Plans.{IsValid, is_empty, rule_numbers}
 use Rattle.flow_types.specs.Serial.{Contents, Function}
+use Rattle.run_history.specs.declared.moves.Move.{Move}
 use Rattle.run_history.specs.declared.options.Options.{Options}
 use Rattle.run_history.specs.declared.answers.Stop.{Stop}
 use Rattle.run_history.specs.declared.answers.Check.{Check}
@@ -28,13 +29,13 @@ use Rattle.local_run.proofs.Completed.{completes_so, inputs_fit}
 use Rattle.local_run.proofs.EndKinds.{Rests, ends_so, least_says, over_says, unended_over}
 use Rattle.local_run.proofs.Failures.{failed_rose}
 use Rattle.local_run.proofs.Fresh.{empty_from, limit_more}
-use Rattle.local_run.proofs.Going.{records_more}
+use Rattle.local_run.proofs.Going.{goes_records}
 
 module _ {S : Type 0} (trust : Type 0) (gives : Function) (may_fail : Job → Failure → Type 0) (sources : Contents) (tells : Type 0) (files : S → Files) (may_leave : S → Outcomes) (moment : S → ℕ)
-    (images_since : S → ℕ → Files → Type 0) (d mid : DeskState S) (goes : GoesOn trust gives may_fail sources tells files may_leave moment images_since d mid) where
+    (images_since : S → ℕ → Files → Type 0) (links : List Move) (d mid : DeskState S) (goes : GoesOn trust gives may_fail sources tells files may_leave moment images_since links d mid) where
   -- the records before the end are those of the start, and more
   pub grown : records_of mid.moves ≡ records_of d.moves ++ goes.more
-  grown = ap records_of goes.moves ∙ records_more d.moves goes.more
+  grown = goes_records trust gives may_fail sources tells files may_leave moment images_since links d mid goes
 
   limited : IsFresh d.options.limit (records_of d.moves) → limit_of (records_of mid.moves) ≡ mid.options.limit
   limited fresh = ap limit_of grown ∙ limit_more (records_of d.moves) goes.more goes.anew ∙ fresh.limited ∙ sym (ap (λ (O : Options). O.limit) goes.options)

@@ -1,5 +1,5 @@
 -- What a run adds to a desk.
-use Rattle.std.specs.Prelude.{◌≡◌, ◌≢◌, ◌<◌, ◌⊎◌, ℕ, Bool, true, false, ◌||◌, List, [], ◌∷◌, ◌++◌, Some, None, Result, Ok, Err, All, map, slice_get, is_some}
+use Rattle.std.specs.Prelude.{◌≡◌, ◌≢◌, ◌<◌, ◌⊎◌, ℕ, Bool, true, false, ◌||◌, List, [], ◌∷◌, ◌++◌, Some, None, Result, Ok, Err, All, slice_get, is_some}
 use Rattle.std.specs.List.{list_any}
 use Rattle.flow_types.specs.declared.plan.Plan.{Plan}
 use Rattle.flow_types.specs.declared.plan.Rule.{Rule}
@@ -15,7 +15,7 @@ use Rattle.flow_types.specs.Serial.{Contents, Function, job_of, serial}
 use Rattle.run_history.specs.declared.answers.Nothing.{Nothing}
 use Rattle.run_history.specs.declared.answers.Nothing.TheVariants as nothing
 use Rattle.run_history.specs.Answers.{claim_of}
-use Rattle.run_history.specs.declared.moves.Move.TheVariants as moves
+use Rattle.run_history.specs.declared.moves.Move.{Move}
 use Rattle.run_history.specs.History.{is_cleaned, is_opening}
 use Rattle.run_history.specs.Links.{records_of}
 use Rattle.run_history.specs.States.{drops}
@@ -29,7 +29,8 @@ use Rattle.desk.specs.Kept.{ReadsStay, StaysBeside}
 use Rattle.desk.specs.State.{AreNamed, DeskState, IsFine}
 use Rattle.local_run.specs.Collecting.{IsUntouched, is_collected}
 use Rattle.local_run.specs.Ends.{IsApart}
-use Rattle.local_run.specs.Losses.{is_lost}
+use Rattle.local_run.specs.Links.{link_moves}
+use Rattle.local_run.specs.Losses.{LosesAway, is_lost}
 use Rattle.local_run.specs.declared.halt.Halt.{Halt}
 use Rattle.local_run.specs.declared.halt.Halt.TheVariants as halts
 
@@ -55,11 +56,14 @@ pub record LeavesAlone {S : Type 0} (files : S → Files) (may_leave : S → Out
 abbrev pub begins_anew : Record → Bool
 begins_anew x = is_opening x || is_cleaned x
 
--- The desk is that of the same start, and these records were added, none of which begins a run or a part. Where there is trust each failure among them is one that the rule's job over the serial run's contents may fail with. Where no stop is set none was set before, and no attempt was given up. A desk that works did so before. What was dropped is collected, and where the desk works it is gone. Files that no rule makes, or that were collected already, stay.
+-- The desk is that of the same start, and these moves were added: those of links are these, and none of the records begins a run or a part. Where there is trust each failure among them is one that the rule's job over the serial run's contents may fail with. Where no stop is set none was set before, no attempt at the local place was given up, and none at all if no link ever joined. A desk that works did so before. What was dropped is collected, and where the desk works it is gone. Files that no rule makes, or that were collected already, stay.
 pub record GoesOn {S : Type 0} (trust : Type 0) (gives : Function) (may_fail : Job → Failure → Type 0) (sources : Contents) (tells : Type 0) (files : S → Files) (may_leave : S → Outcomes) (moment : S → ℕ)
-    (images_since : S → ℕ → Files → Type 0) (d after : DeskState S) : Type 0 where
+    (images_since : S → ℕ → Files → Type 0) (links : List Move) (d after : DeskState S) : Type 0 where
+  pub passed : List Move
   pub more : List Record
-  pub moves : after.moves ≡ d.moves ++ map moves.Logged more
+  pub moves : after.moves ≡ d.moves ++ passed
+  pub logged : records_of passed ≡ more
+  pub linked : link_moves passed ≡ links
   pub plan : after.plan ≡ d.plan
   pub options : after.options ≡ d.options
   pub log : after.log ≡ d.log
@@ -67,7 +71,8 @@ pub record GoesOn {S : Type 0} (trust : Type 0) (gives : Function) (may_fail : J
   pub faults : after.faults ≡ d.faults
   pub honest : trust → All (FailsHonestly d.plan may_fail (serial d.plan gives sources)) more
   pub stops : after.stop ≡ None → d.stop ≡ None
-  pub lost : after.stop ≡ None → list_any is_lost more ≡ false
+  pub lost : after.stop ≡ None → All (LosesAway (records_of after.moves)) more
+  pub alone : after.stop ≡ None → link_moves after.moves ≡ [] → list_any is_lost more ≡ false
   pub anew : list_any begins_anew more ≡ false
   pub works : IsFine after.trouble → IsFine d.trouble
   pub collected : (f : ℕ) → list_any (drops f) more ≡ true → is_collected d.plan (records_of after.moves) f ≡ true

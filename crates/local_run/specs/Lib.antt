@@ -2,9 +2,11 @@ pub mod Jobs
 pub mod Collecting
 pub mod Course
 pub mod Underway
+pub mod Beyond
 pub mod Runs
 pub mod Ends
 pub mod Moments
+pub mod Links
 pub mod Losses
 pub mod Completing
 pub mod Laws

@@ -1,5 +1,6 @@
 -- What a run has come to while its attempts run.
 use Rattle.std.specs.Prelude.{◌≡◌, ◌≢◌, ◌≤◌, ◌<◌, ◌+◌, ◌++◌, ◌∷◌, [], ℕ, true, false, List, Option, Some, None, Result, Ok, Err, IfErr, OnOk, length, map, slice_get}
+use Rattle.std.specs.List.{list_any}
 use Rattle.flow_types.specs.declared.plan.Plan.{Plan}
 use Rattle.flow_types.specs.declared.plan.Rule.{Rule}
 use Rattle.flow_types.specs.declared.numbers.AttemptNo.{AttemptNo}
@@ -9,8 +10,9 @@ use Rattle.flow_types.specs.declared.job.Outcome.{Outcome}
 use Rattle.flow_types.specs.declared.job.Start.{Start}
 use Rattle.flow_types.specs.declared.records.Record.{Record}
 use Rattle.flow_types.specs.Serial.{Contents, Function, job_of, serial}
+use Rattle.run_history.specs.declared.moves.Move.{Move}
 use Rattle.run_history.specs.Answers.{has_ended}
-use Rattle.run_history.specs.Links.{records_of}
+use Rattle.run_history.specs.Links.{names_link, records_of}
 use Rattle.run_history.specs.Storage.{running_rules}
 use Rattle.outside.specs.Disk.{Outcomes}
 use Rattle.outside.specs.Files.{Files}
@@ -89,6 +91,50 @@ abbrev pub loose_count : Option Attempt → ℕ
 loose_count None = 0
 loose_count (Some a) = 1
 
+-- each of these attempts is at the local place
+abbrev pub AreHere : List Attempt → Type 0
+AreHere [] = Unit {0}
+AreHere (a ∷ attempts) = (a.link.0 ≡ 0) × AreHere attempts
+
+-- ---- attempts on links
+
+-- What goes on on links since the run began: the attempts that run there, the moves by which links joined, changed and left, and how many attempts there failed and how many were given up.
+pub record AwayState : Type 0 where
+  pub attempts : List Attempt
+  pub links : List Move
+  pub failed : ℕ
+  pub lost : ℕ
+
+-- nothing goes on on links
+abbrev pub none_away : AwayState
+none_away = record { attempts = []; links = []; failed = 0; lost = 0 }
+
+-- none of these attempts is on this link
+abbrev pub NoneOn : ℕ → List Attempt → Type 0
+NoneOn link [] = Unit {0}
+NoneOn link (a ∷ attempts) = (a.link.0 ≢ link) × NoneOn link attempts
+
+-- no attempt on a link failed or was given up
+abbrev pub IsSmooth : AwayState → Type 0
+IsSmooth away = (away.failed ≡ 0) × (away.lost ≡ 0)
+
+-- The attempt runs on a link that joined.
+pub record RunsAway (P : Plan) (fine : Type 0) (M : List Move) (a : Attempt) : Type 0 where
+  pub at : RunsAt P fine (records_of M) a
+  pub beyond : a.link.0 ≢ 0
+  pub named : list_any (names_link a.link.0) M ≡ true
+
+-- the attempt that is neither held nor closed, if there is one, has another number
+abbrev pub IsOther : AttemptNo → Option Attempt → Type 0
+IsOther number None = Unit {0}
+IsOther number (Some a) = a.number ≢ number
+
+-- Each of these attempts runs on a link, and has a number of its own, among them and among those that are held or loose.
+abbrev pub AreAway : Plan → Type 0 → List Move → List Attempt → Option Attempt → List Attempt → Type 0
+AreAway P fine M held loose [] = Unit {0}
+AreAway P fine M held loose (a ∷ away) =
+    RunsAway P fine M a × NoneHas a.number held × IsOther a.number loose × NoneHas a.number away × AreAway P fine M held loose away
+
 -- ---- why it stopped
 
 -- This may be why a run has stopped at this desk, with so many jobs heard.
@@ -134,23 +180,25 @@ abbrev pub settled : Option Halt → Result (Unit {0}) Halt
 settled None = Ok tt
 settled (Some why) = Err why
 
--- What a run has come to since its desk was d: the attempts that are held are those of the starts that wait, these and the loose one run and no others do, of those that were heard so many failed and weren't run, each failure is logged, and where it stopped this is why.
+-- What a run has come to since its desk was d: the attempts that are held are those of the starts that wait, at the local place, these, the loose one and those on links run and no others do, of those that were heard so many failed and weren't run, each failure is logged, here and on links, and where it stopped this is why.
 pub record Underway {S : Type 0} (trust : Type 0) (gives : Function) (may_fail : Job → Failure → Type 0) (sources : Contents) (tells kept sure : Type 0) (files : S → Files) (may_leave : S → Outcomes) (moment : S → ℕ)
-    (images_since : S → ℕ → Files → Type 0) (d now : DeskState S) (held : List Attempt) (waiting : List Start) (loose : Option Attempt) (heard : Tally) (halt : Option Halt) : Type 0 where
-  pub goes : GoesOn trust gives may_fail sources tells files may_leave moment images_since d now
+    (images_since : S → ℕ → Files → Type 0) (away : AwayState) (d now : DeskState S) (held : List Attempt) (waiting : List Start) (loose : Option Attempt) (heard : Tally) (halt : Option Halt) : Type 0 where
+  pub goes : GoesOn trust gives may_fail sources tells files may_leave moment images_since away.links d now
   pub matches : Matches now.plan (IsFine now.trouble) (records_of now.moves) trust (serial now.plan gives sources) held waiting
   pub taken : IsLoose now.plan (IsFine now.trouble) (records_of now.moves) held loose
-  pub all : IsFine now.trouble → length (running_rules now.plan (records_of now.moves)) ≤ length held + loose_count loose
+  pub here : AreHere held
+  pub beyond : AreAway now.plan (IsFine now.trouble) now.moves held loose away.attempts
+  pub all : IsFine now.trouble → length (running_rules now.plan (records_of now.moves)) ≤ length held + loose_count loose + length away.attempts
   pub stopped : StoppedBy tells kept sure files d now heard halt
-  pub failures : IsFine now.trouble → failed_count (records_of now.moves) ≡ failed_count (records_of d.moves) + heard.failed
+  pub failures : IsFine now.trouble → failed_count (records_of now.moves) ≡ failed_count (records_of d.moves) + heard.failed + away.failed
   pub unended : IsFine now.trouble → has_ended (records_of d.moves) ≡ false → has_ended (records_of now.moves) ≡ false
   pub never : sure → heard.failed ≡ 0
-  pub due : IsGoing halt → sure → records_due now.plan (records_of now.moves) ≤ records_due d.plan (records_of d.moves) + length held + loose_count loose
+  pub due : IsGoing halt → sure → IsSmooth away → records_due now.plan (records_of now.moves) ≤ records_due d.plan (records_of d.moves) + length held + loose_count loose + length away.attempts
 
 -- What a run comes to whose runners rise from these counts to those: nothing runs, a claim gives no rule, or it stopped, and this is why.
 pub record ComesTo {S A : Type 0} (trust : Type 0) (gives : Function) (may_fail : Job → Failure → Type 0) (sources : Contents) (tells kept sure : Type 0) (files : S → Files) (may_leave : S → Outcomes) (moment : S → ℕ)
     (images_since : S → ℕ → Files → Type 0) (d after : DeskState S) (count count_now failures failures_now : ℕ) (result : Result A Halt) : Type 0 where
-  pub goes : GoesOn trust gives may_fail sources tells files may_leave moment images_since d after
+  pub goes : GoesOn trust gives may_fail sources tells files may_leave moment images_since [] d after
   pub idle : IsFine after.trouble → length (running_rules after.plan (records_of after.moves)) ≤ 0
   pub closed : Closed d after result
   pub halts : HaltsBy after.trouble count count_now result

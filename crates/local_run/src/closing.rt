@@ -14,6 +14,7 @@ ghost use Rattle.desk.specs.declared.attempt.Attempt.{Attempt as AttemptValue};
 ghost use Rattle.desk.specs.State.{AreOutputs, DeskState, IsDue, IsFine};
 ghost use Rattle.local_run.specs.declared.halt.Halt.{Halt as HaltValue};
 ghost use Rattle.local_run.specs.Course.{GivesUp};
+ghost use Rattle.local_run.specs.Underway.{AwayState};
 ghost use Rattle.local_run.specs.Underway.{IsSurePool, MayStop, RunsAt, Underway, halt_after};
 
 use crate::Halt;
@@ -34,15 +35,15 @@ pub(crate) fn give_up<B: PoolTerms, F: Commands, S: Site, T: Terms, C: Clock>(
     requires valid { IsValid desk.old.plan }
     requires runs { RunsAt desk.old.plan (IsFine desk.old.trouble) (records_of desk.old.moves)
         attempt }
-    ensures underway { (first : DeskState S) (held : List AttemptValue)
+    ensures underway { (away : AwayState) (first : DeskState S) (held : List AttemptValue)
         (waiting : List StartValue) (heard : Tally) (halt : Option HaltValue)
         → Underway T.trust F.gives F.may_fail T.sources S.tells T.kept (IsSurePool B.fits)
-        S.files S.may_leave S.moment S.images_since first
+        S.files S.may_leave S.moment S.images_since away first
         desk.old held waiting (Some attempt) heard halt
         → (IsFine desk.old.trouble → MayStop S.tells T.kept (IsSurePool B.fits) S.files
         desk.old heard why)
         → Underway T.trust F.gives F.may_fail T.sources S.tells T.kept (IsSurePool B.fits)
-        S.files S.may_leave S.moment S.images_since first
+        S.files S.may_leave S.moment S.images_since away first
         desk.new held waiting None heard (Some result) }
     ensures halt { GivesUp why desk.old.trouble desk.new.trouble result }
 {
@@ -68,13 +69,13 @@ pub(crate) fn finish<B: PoolTerms, F: Commands, S: Site, T: Terms>(
     requires outputs { AreOutputs desk.old.plan attempt.rule.0 outs.now }
     requires honest { T.trust
         → IsDue desk.old.plan F.gives T.sources attempt.rule.0 outs.now }
-    ensures underway { (first : DeskState S) (held : List AttemptValue)
+    ensures underway { (away : AwayState) (first : DeskState S) (held : List AttemptValue)
         (waiting : List StartValue) (heard : Tally) (halt : Option HaltValue)
         → Underway T.trust F.gives F.may_fail T.sources S.tells T.kept (IsSurePool B.fits)
-        S.files S.may_leave S.moment S.images_since first
+        S.files S.may_leave S.moment S.images_since away first
         desk.old held waiting (Some attempt) heard halt
         → Underway T.trust F.gives F.may_fail T.sources S.tells T.kept (IsSurePool B.fits)
-        S.files S.may_leave S.moment S.images_since first
+        S.files S.may_leave S.moment S.images_since away first
         desk.new held waiting None heard
         (halt_after result halt) }
 {
@@ -100,14 +101,14 @@ pub(crate) fn fail<B: PoolTerms, F: Commands, S: Site, T: Terms>(
     requires honest { T.trust
         → (row : Rule) → slice_get desk.old.plan.rules attempt.rule.0 ≡ Some row
         → F.may_fail (job_of desk.old.plan row (serial desk.old.plan F.gives T.sources)) why }
-    ensures underway { (first : DeskState S) (held : List AttemptValue)
+    ensures underway { (away : AwayState) (first : DeskState S) (held : List AttemptValue)
         (waiting : List StartValue) (heard : Tally) (halt : Option HaltValue)
         → (IsSurePool B.fits → ⊥)
         → Underway T.trust F.gives F.may_fail T.sources S.tells T.kept (IsSurePool B.fits)
-        S.files S.may_leave S.moment S.images_since first
+        S.files S.may_leave S.moment S.images_since away first
         desk.old held waiting (Some attempt) heard halt
         → Underway T.trust F.gives F.may_fail T.sources S.tells T.kept (IsSurePool B.fits)
-        S.files S.may_leave S.moment S.images_since first
+        S.files S.may_leave S.moment S.images_since away first
         desk.new held waiting None
         (plus heard (tally_of (outcomes.Failed why))) (halt_after result halt) }
 {

@@ -1,5 +1,5 @@
 //! A run over a desk, from its first claim to its end.
-ghost use Rattle.std.specs.Prelude.{◌≡◌, ◌≤◌, ◌<◌, ◌+◌, length, sum_by, IfOk, IfErr, None, OnOk};
+ghost use Rattle.std.specs.Prelude.{◌≡◌, ◌≤◌, ◌<◌, ◌+◌, [], length, sum_by, IfOk, IfErr, None, OnOk};
 ghost use Rattle.flow_types.specs.Plans.{IsValid};
 ghost use Rattle.flow_types.specs.Serial.{serial};
 ghost use Rattle.run_history.specs.Answers.{before_end, end_over};
@@ -52,7 +52,7 @@ pub fn work<
         × TellsJobs desk.old.plan (AllTell R.tells runners.old)
         (serial desk.old.plan F.gives T.sources) }
     ensures goes { GoesOn T.trust F.gives F.may_fail T.sources S.tells S.files S.may_leave
-        S.moment S.images_since desk.old desk.new }
+        S.moment S.images_since [] desk.old desk.new }
     ensures idle { IsFine desk.new.trouble
         → length (running_rules desk.new.plan (records_of desk.new.moves)) ≤ 0 }
     ensures closed { Closed desk.old desk.new result }

@@ -11,6 +11,7 @@ ghost use Rattle.desk.specs.declared.attempt.Attempt.{Attempt as AttemptValue};
 ghost use Rattle.desk.specs.State.{DeskState, IsFine};
 ghost use Rattle.local_run.specs.declared.halt.Halt.{Halt as HaltValue};
 ghost use Rattle.local_run.specs.Course.{TellsJobs};
+ghost use Rattle.local_run.specs.Underway.{AwayState};
 ghost use Rattle.local_run.specs.Underway.{IsOutcomeAt, IsShapedPool, IsSurePool, RunsAt, ToldOf};
 ghost use Rattle.local_run.specs.Underway.{Underway, halt_after};
 
@@ -34,14 +35,14 @@ fn close<B: PoolTerms, F: Commands, S: Site, T: Terms, C: Clock>(
         attempt }
     requires outcome { IsOutcomeAt desk.old.plan T.trust F.gives F.may_fail T.sources
         attempt.rule.0 outcome }
-    ensures underway { (first : DeskState S) (held : List AttemptValue)
+    ensures underway { (away : AwayState) (first : DeskState S) (held : List AttemptValue)
         (waiting : List StartValue) (heard : Tally) (halt : Option HaltValue)
         → (IsSurePool B.fits → IsSuccess outcome)
         → Underway T.trust F.gives F.may_fail T.sources S.tells T.kept (IsSurePool B.fits)
-        S.files S.may_leave S.moment S.images_since first
+        S.files S.may_leave S.moment S.images_since away first
         desk.old held waiting (Some attempt) heard halt
         → Underway T.trust F.gives F.may_fail T.sources S.tells T.kept (IsSurePool B.fits)
-        S.files S.may_leave S.moment S.images_since first
+        S.files S.may_leave S.moment S.images_since away first
         desk.new held waiting None (plus heard (tally_of outcome))
         (halt_after result halt) }
 {
@@ -64,16 +65,16 @@ pub(crate) fn hear<B: PoolTerms, F: Commands, S: Site, T: Terms, C: Clock>(
     requires shaped { IsShapedPool B.fits }
     requires told { T.trust → TellsJobs desk.old.plan (ToldOf F.gives F.may_fail B.fits)
         (serial desk.old.plan F.gives T.sources) }
-    requires underway { (first : DeskState S)
+    requires underway { (away : AwayState) × (first : DeskState S)
         × Underway T.trust F.gives F.may_fail T.sources S.tells T.kept (IsSurePool B.fits)
-        S.files S.may_leave S.moment S.images_since first desk.old held.old.attempts
+        S.files S.may_leave S.moment S.images_since away first desk.old held.old.attempts
         pool.old.waiting None pool.old.heard held.old.halt }
-    ensures underway { (first : DeskState S)
+    ensures underway { (away : AwayState) (first : DeskState S)
         → Underway T.trust F.gives F.may_fail T.sources S.tells T.kept (IsSurePool B.fits)
-        S.files S.may_leave S.moment S.images_since first desk.old held.old.attempts
+        S.files S.may_leave S.moment S.images_since away first desk.old held.old.attempts
         pool.old.waiting None pool.old.heard held.old.halt
         → Underway T.trust F.gives F.may_fail T.sources S.tells T.kept (IsSurePool B.fits)
-        S.files S.may_leave S.moment S.images_since first desk.new held.new.attempts
+        S.files S.may_leave S.moment S.images_since away first desk.new held.new.attempts
         pool.new.waiting None pool.new.heard held.new.halt }
     ensures line { pool.new.line ≡ pool.old.line }
 {

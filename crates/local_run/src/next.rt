@@ -12,6 +12,7 @@ ghost use Rattle.desk.specs.declared.attempt.Attempt.{Attempt as AttemptValue};
 ghost use Rattle.desk.specs.State.{DeskState, IsFine};
 ghost use Rattle.local_run.specs.Course.{HasNothing, is_collect_first};
 ghost use Rattle.local_run.specs.Jobs.{halt_by};
+ghost use Rattle.local_run.specs.Underway.{AwayState};
 ghost use Rattle.local_run.specs.Underway.{IsSurePool, Underway, halt_after};
 
 use crate::Halt;
@@ -61,13 +62,13 @@ fn make_way<B: PoolTerms, F: Commands, S: Site, C: Clock, T: Terms>(
     requires fine { IsFine desk.old.trouble }
     requires nothing { claim_of desk.old.plan desk.old.options desk.old.moves desk.old.stop 0
         ≡ Err why }
-    ensures underway { (first : DeskState S) (held : List AttemptValue)
+    ensures underway { (away : AwayState) (first : DeskState S) (held : List AttemptValue)
         (waiting : List StartValue) (heard : Tally)
         → Underway T.trust F.gives F.may_fail T.sources S.tells T.kept (IsSurePool B.fits)
-        S.files S.may_leave S.moment S.images_since first
+        S.files S.may_leave S.moment S.images_since away first
         desk.old held waiting None heard None
         → Underway T.trust F.gives F.may_fail T.sources S.tells T.kept (IsSurePool B.fits)
-        S.files S.may_leave S.moment S.images_since first
+        S.files S.may_leave S.moment S.images_since away first
         desk.new held waiting None heard
         (halt_after result None) }
     ensures grew { IfOk result (λ dropped. dropped ≡ true
@@ -100,21 +101,22 @@ fn begin<B: PoolTerms, W: Wait, F: Commands, S: Site, T: Terms, C: Clock>(
     requires valid { IsValid desk.old.plan }
     requires base { T.trust → S.tells × T.kept }
     requires rule { attempt.rule.0 < length desk.old.plan.rules }
+    requires here { attempt.link.0 ≡ 0 }
     requires fine { IsFine desk.old.trouble }
     requires present { list_all (is_present desk.old.plan (records_of desk.old.moves))
         (takes desk.old.plan attempt.rule.0) ≡ true }
     requires room { length pool.old.waiting < 64 }
-    requires underway { (first : DeskState S)
+    requires underway { (away : AwayState) × (first : DeskState S)
         × Underway T.trust F.gives F.may_fail T.sources S.tells T.kept (IsSurePool B.fits)
-        S.files S.may_leave S.moment S.images_since first desk.old held.old.attempts
+        S.files S.may_leave S.moment S.images_since away first desk.old held.old.attempts
         pool.old.waiting (Some attempt) pool.old.heard None }
     requires going { held.old.halt ≡ None }
-    ensures underway { (first : DeskState S)
+    ensures underway { (away : AwayState) (first : DeskState S)
         → Underway T.trust F.gives F.may_fail T.sources S.tells T.kept (IsSurePool B.fits)
-        S.files S.may_leave S.moment S.images_since first desk.old held.old.attempts
+        S.files S.may_leave S.moment S.images_since away first desk.old held.old.attempts
         pool.old.waiting (Some attempt) pool.old.heard None
         → Underway T.trust F.gives F.may_fail T.sources S.tells T.kept (IsSurePool B.fits)
-        S.files S.may_leave S.moment S.images_since first desk.new held.new.attempts
+        S.files S.may_leave S.moment S.images_since away first desk.new held.new.attempts
         pool.new.waiting None pool.new.heard held.new.halt }
     ensures line { pool.new.line ≡ pool.old.line }
     ensures stays { held.new.halt ≡ None
@@ -158,17 +160,17 @@ pub(crate) fn next<B: PoolTerms, W: Wait, F: Commands, S: Site, T: Terms, C: Clo
     requires valid { IsValid desk.old.plan }
     requires base { T.trust → S.tells × T.kept }
     requires room { length pool.old.waiting < 64 }
-    requires underway { (first : DeskState S)
+    requires underway { (away : AwayState) × (first : DeskState S)
         × Underway T.trust F.gives F.may_fail T.sources S.tells T.kept (IsSurePool B.fits)
-        S.files S.may_leave S.moment S.images_since first desk.old held.old.attempts
+        S.files S.may_leave S.moment S.images_since away first desk.old held.old.attempts
         pool.old.waiting None pool.old.heard None }
     requires going { held.old.halt ≡ None }
-    ensures underway { (first : DeskState S)
+    ensures underway { (away : AwayState) (first : DeskState S)
         → Underway T.trust F.gives F.may_fail T.sources S.tells T.kept (IsSurePool B.fits)
-        S.files S.may_leave S.moment S.images_since first desk.old held.old.attempts
+        S.files S.may_leave S.moment S.images_since away first desk.old held.old.attempts
         pool.old.waiting None pool.old.heard None
         → Underway T.trust F.gives F.may_fail T.sources S.tells T.kept (IsSurePool B.fits)
-        S.files S.may_leave S.moment S.images_since first desk.new held.new.attempts
+        S.files S.may_leave S.moment S.images_since away first desk.new held.new.attempts
         pool.new.waiting None pool.new.heard held.new.halt }
     ensures still { result ≡ false → (held.new ≡ held.old) × (pool.new ≡ pool.old) }
     ensures line { pool.new.line ≡ pool.old.line }

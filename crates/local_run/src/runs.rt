@@ -78,7 +78,8 @@ fn run_desk<
         (sum_by R.count runners.new) result.how }
     ensures idle { (IsCutRun result.how → ⊥)
         → length (running_rules desk.plan result.records) ≤ 0 }
-    ensures lost { OnOk result.how (LosesNone (records_of desk.moves) result.records) }
+    ensures lost { (H : List RecordValue) → BeganOver desk H
+        → OnOk result.how (LosesNone (records_of desk.moves) result.records) }
     ensures ends { IfOk result.how (λ check. check
         ≡ end_over desk.plan desk.options (before_end result.records) None) }
     ensures others { S.tells → LeavesAlone S.files S.may_leave S.moment S.images_since

@@ -16,6 +16,7 @@ ghost use Rattle.worker_pool.specs.Tickets.{fresh};
 ghost use Rattle.desk.specs.State.{DeskState, IsFine};
 ghost use Rattle.local_run.specs.declared.halt.Halt.{Halt as HaltValue};
 ghost use Rattle.local_run.specs.Course.{HasNothing, TellsJobs};
+ghost use Rattle.local_run.specs.Underway.{AwayState};
 ghost use Rattle.local_run.specs.Underway.{ComesTo, IsShapedPool, IsSurePool, IsWant, IsWantHalt};
 ghost use Rattle.local_run.specs.Underway.{ToldOf, Underway, settled};
 
@@ -46,17 +47,17 @@ fn go_on<B: PoolTerms, W: Wait, F: Commands, S: Site, T: Terms, C: Clock>(
 ) -> bool
     requires valid { IsValid desk.old.plan }
     requires base { T.trust → S.tells × T.kept }
-    requires underway { (first : DeskState S)
+    requires underway { (away : AwayState) × (first : DeskState S)
         × Underway T.trust F.gives F.may_fail T.sources S.tells T.kept (IsSurePool B.fits)
-        S.files S.may_leave S.moment S.images_since first desk.old held.old.attempts
+        S.files S.may_leave S.moment S.images_since away first desk.old held.old.attempts
         pool.old.waiting None pool.old.heard held.old.halt }
     requires most { most ≤ 64 }
-    ensures underway { (first : DeskState S)
+    ensures underway { (away : AwayState) (first : DeskState S)
         → Underway T.trust F.gives F.may_fail T.sources S.tells T.kept (IsSurePool B.fits)
-        S.files S.may_leave S.moment S.images_since first desk.old held.old.attempts
+        S.files S.may_leave S.moment S.images_since away first desk.old held.old.attempts
         pool.old.waiting None pool.old.heard held.old.halt
         → Underway T.trust F.gives F.may_fail T.sources S.tells T.kept (IsSurePool B.fits)
-        S.files S.may_leave S.moment S.images_since first desk.new held.new.attempts
+        S.files S.may_leave S.moment S.images_since away first desk.new held.new.attempts
         pool.new.waiting None pool.new.heard held.new.halt }
     ensures line { pool.new.line ≡ pool.old.line }
     ensures grew { result ≡ true → held.new.halt ≡ None
@@ -90,17 +91,17 @@ fn serve<B: PoolTerms, W: Wait, F: Commands, S: Site, T: Terms, C: Clock>(
     requires base { T.trust → S.tells × T.kept }
     requires told { T.trust → TellsJobs desk.old.plan (ToldOf F.gives F.may_fail B.fits)
         (serial desk.old.plan F.gives T.sources) }
-    requires underway { (first : DeskState S)
+    requires underway { (away : AwayState) × (first : DeskState S)
         × Underway T.trust F.gives F.may_fail T.sources S.tells T.kept (IsSurePool B.fits)
-        S.files S.may_leave S.moment S.images_since first desk.old held.old.attempts
+        S.files S.may_leave S.moment S.images_since away first desk.old held.old.attempts
         pool.old.waiting None pool.old.heard held.old.halt }
     requires most { (0 < most) × (most ≤ 64) }
-    ensures underway { (first : DeskState S)
+    ensures underway { (away : AwayState) (first : DeskState S)
         → Underway T.trust F.gives F.may_fail T.sources S.tells T.kept (IsSurePool B.fits)
-        S.files S.may_leave S.moment S.images_since first desk.old held.old.attempts
+        S.files S.may_leave S.moment S.images_since away first desk.old held.old.attempts
         pool.old.waiting None pool.old.heard held.old.halt
         → Underway T.trust F.gives F.may_fail T.sources S.tells T.kept (IsSurePool B.fits)
-        S.files S.may_leave S.moment S.images_since first desk.new held.new.attempts
+        S.files S.may_leave S.moment S.images_since away first desk.new held.new.attempts
         pool.new.waiting None pool.new.heard held.new.halt }
     ensures line { pool.new.line ≡ pool.old.line }
     ensures heard { (IsWantHalt held.new.halt → ⊥) → pool.new.waiting ≡ [] }
@@ -139,17 +140,17 @@ fn serve_and_close<B: PoolTerms, W: Wait, F: Commands, S: Site, T: Terms, C: Clo
     requires base { T.trust → S.tells × T.kept }
     requires told { T.trust → TellsJobs desk.old.plan (ToldOf F.gives F.may_fail B.fits)
         (serial desk.old.plan F.gives T.sources) }
-    requires underway { (first : DeskState S)
+    requires underway { (away : AwayState) × (first : DeskState S)
         × Underway T.trust F.gives F.may_fail T.sources S.tells T.kept (IsSurePool B.fits)
-        S.files S.may_leave S.moment S.images_since first desk.old held.old.attempts
+        S.files S.may_leave S.moment S.images_since away first desk.old held.old.attempts
         pool.old.waiting None pool.old.heard held.old.halt }
     requires most { (0 < most) × (most ≤ 64) }
-    ensures underway { (first : DeskState S)
+    ensures underway { (away : AwayState) (first : DeskState S)
         → Underway T.trust F.gives F.may_fail T.sources S.tells T.kept (IsSurePool B.fits)
-        S.files S.may_leave S.moment S.images_since first desk.old held.old.attempts
+        S.files S.may_leave S.moment S.images_since away first desk.old held.old.attempts
         pool.old.waiting None pool.old.heard held.old.halt
         → Underway T.trust F.gives F.may_fail T.sources S.tells T.kept (IsSurePool B.fits)
-        S.files S.may_leave S.moment S.images_since first desk.new held.new.attempts
+        S.files S.may_leave S.moment S.images_since away first desk.new held.new.attempts
         pool.new.waiting None pool.new.heard held.new.halt }
     ensures line { pool.new.line ≡ pool.old.line }
     ensures heard { (IsWantHalt held.new.halt → ⊥) → pool.new.waiting ≡ [] }
@@ -167,19 +168,19 @@ fn settle<B: PoolTerms, F: Commands, S: Site, T: Terms, C: Clock>(
     clock: &C,
 ) -> Result<(), Halt>
     requires valid { IsValid desk.old.plan }
-    requires underway { (first : DeskState S) × (waiting : List StartValue)
+    requires underway { (away : AwayState) × (first : DeskState S) × (waiting : List StartValue)
         × (heard : Tally)
         × Underway T.trust F.gives F.may_fail T.sources S.tells T.kept (IsSurePool B.fits)
-        S.files S.may_leave S.moment S.images_since first
+        S.files S.may_leave S.moment S.images_since away first
         desk.old held.attempts waiting None heard held.halt }
-    ensures underway { (first : DeskState S) (waiting : List StartValue)
+    ensures underway { (away : AwayState) (first : DeskState S) (waiting : List StartValue)
         (heard : Tally)
         → Underway T.trust F.gives F.may_fail T.sources S.tells T.kept (IsSurePool B.fits)
-        S.files S.may_leave S.moment S.images_since first
+        S.files S.may_leave S.moment S.images_since away first
         desk.old held.attempts waiting None heard held.halt
         → (halt : Option HaltValue) × (result ≡ settled halt)
         × Underway T.trust F.gives F.may_fail T.sources S.tells T.kept (IsSurePool B.fits)
-        S.files S.may_leave S.moment S.images_since first
+        S.files S.may_leave S.moment S.images_since away first
         desk.new [] [] None heard halt }
     ensures same { held.attempts ≡ [] → (desk.new ≡ desk.old) × (result ≡ settled held.halt) }
     ensures wants { IsWantHalt held.halt → IsFine desk.new.trouble → IsWant result }
@@ -226,9 +227,9 @@ fn serve_beside<
     requires base { T.trust → S.tells × T.kept }
     requires told { T.trust → TellsJobs desk.old.plan (ToldOf F.gives F.may_fail B.fits)
         (serial desk.old.plan F.gives T.sources) }
-    requires underway { (first : DeskState S)
+    requires underway { (away : AwayState) × (first : DeskState S)
         × Underway T.trust F.gives F.may_fail T.sources S.tells T.kept (IsSurePool B.fits)
-        S.files S.may_leave S.moment S.images_since first desk.old held.old.attempts
+        S.files S.may_leave S.moment S.images_since away first desk.old held.old.attempts
         pool.old.waiting None pool.old.heard held.old.halt }
     ensures same { IsSamePass token.old token.new }
     ensures hand { ((view token.new).parts ≡ (view token.old).parts)
@@ -236,12 +237,12 @@ fn serve_beside<
     ensures counted { GrowsWith (view token.old).put (view token.new).put
         (sum_by R.count runners.old) (sum_by R.count runners.new)
         (sum_by R.failures runners.old) (sum_by R.failures runners.new) }
-    ensures underway { (first : DeskState S)
+    ensures underway { (away : AwayState) (first : DeskState S)
         → Underway T.trust F.gives F.may_fail T.sources S.tells T.kept (IsSurePool B.fits)
-        S.files S.may_leave S.moment S.images_since first desk.old held.old.attempts
+        S.files S.may_leave S.moment S.images_since away first desk.old held.old.attempts
         pool.old.waiting None pool.old.heard held.old.halt
         → Underway T.trust F.gives F.may_fail T.sources S.tells T.kept (IsSurePool B.fits)
-        S.files S.may_leave S.moment S.images_since first desk.new held.new.attempts
+        S.files S.may_leave S.moment S.images_since away first desk.new held.new.attempts
         pool.new.waiting None pool.new.heard held.new.halt }
     ensures line { pool.new.line ≡ pool.old.line }
     ensures heard { (IsWantHalt held.new.halt → ⊥) → pool.new.waiting ≡ [] }
@@ -261,18 +262,18 @@ fn serve_beside<
             requires base { T.trust → S.tells × T.kept }
             requires told { T.trust → TellsJobs desk.old.plan (ToldOf F.gives F.may_fail B.fits)
                 (serial desk.old.plan F.gives T.sources) }
-            requires underway { (first : DeskState S)
+            requires underway { (away : AwayState) × (first : DeskState S)
                 × Underway T.trust F.gives F.may_fail T.sources S.tells T.kept
-                (IsSurePool B.fits) S.files S.may_leave S.moment S.images_since first desk.old
+                (IsSurePool B.fits) S.files S.may_leave S.moment S.images_since away first desk.old
                 held.now.attempts pool.now.waiting None pool.now.heard held.now.halt }
             requires most { (0 < most) × (most ≤ 64) }
-            ensures underway { (first : DeskState S)
+            ensures underway { (away : AwayState) (first : DeskState S)
                 → Underway T.trust F.gives F.may_fail T.sources S.tells T.kept
-                (IsSurePool B.fits) S.files S.may_leave S.moment S.images_since first desk.old
+                (IsSurePool B.fits) S.files S.may_leave S.moment S.images_since away first desk.old
                 held.entry.now.attempts pool.entry.now.waiting None pool.entry.now.heard
                 held.entry.now.halt
                 → Underway T.trust F.gives F.may_fail T.sources S.tells T.kept
-                (IsSurePool B.fits) S.files S.may_leave S.moment S.images_since first desk.new
+                (IsSurePool B.fits) S.files S.may_leave S.moment S.images_since away first desk.new
                 held.exit.now.attempts pool.exit.now.waiting None pool.exit.now.heard
                 held.exit.now.halt }
             ensures line { pool.exit.now.line ≡ pool.entry.now.line }

@@ -12,30 +12,30 @@ use Rattle.local_run.proofs.closing.fail.Goals as goal
 
 pub returns-in-Ok : goal.returns-in-Ok
 returns-in-Ok g c = record {
-  underway = λ first held waiting heard halt never u.
+  underway = λ away first held waiting heard halt never u.
       let d = c.args.desk.now in
       let after = c.fail.new.self in
       let a = c.args.attempt in
       let x = records.Failed c.args.moment a.rule a.number c.args.why in
       let later = plus heard (tally_of (outcomes.Failed c.args.why)) in
-      let goes = fail_goes g.T.Terms.trust g.F.Commands.gives g.F.Commands.may_fail g.T.Terms.sources g.S.Site.tells g.T.Terms.kept (IsSurePool g.B.Terms.fits) g.S.Site.files g.S.Site.may_leave g.S.Site.moment g.S.Site.images_since g.S.Site.count d after a c.args.moment c.args.why (closed c.fail.result) c.requires.honest c.fail.ensures.others c.fail.ensures.reads c.fail.ensures.reply in
-      closes_under g.T.Terms.trust g.F.Commands.gives g.F.Commands.may_fail g.T.Terms.sources g.S.Site.tells g.T.Terms.kept (IsSurePool g.B.Terms.fits) g.S.Site.files g.S.Site.may_leave g.S.Site.moment g.S.Site.images_since g.S.Site.count first d d after d.stop a x (closed c.fail.result) held waiting heard later halt _ (failed_ending c.args.moment a.rule a.number c.args.why) refl goes c.fail.ensures.reply
+      let goes = fail_goes g.T.Terms.trust g.F.Commands.gives g.F.Commands.may_fail g.T.Terms.sources g.S.Site.tells g.T.Terms.kept (IsSurePool g.B.Terms.fits) g.S.Site.files g.S.Site.may_leave g.S.Site.moment g.S.Site.images_since away g.S.Site.count d after a c.args.moment c.args.why (closed c.fail.result) c.requires.honest c.fail.ensures.others c.fail.ensures.reads c.fail.ensures.reply in
+      closes_under g.T.Terms.trust g.F.Commands.gives g.F.Commands.may_fail g.T.Terms.sources g.S.Site.tells g.T.Terms.kept (IsSurePool g.B.Terms.fits) g.S.Site.files g.S.Site.may_leave g.S.Site.moment g.S.Site.images_since away g.S.Site.count first d d after d.stop a x (closed c.fail.result) held waiting heard later halt _ (failed_ending c.args.moment a.rule a.number c.args.why) refl goes c.fail.ensures.reply
       refl (λ is none. absurd (never is))
-      (closed_stopped g.T.Terms.trust g.F.Commands.gives g.F.Commands.may_fail g.T.Terms.sources g.S.Site.tells g.T.Terms.kept (IsSurePool g.B.Terms.fits) g.S.Site.files g.S.Site.may_leave g.S.Site.moment g.S.Site.images_since g.S.Site.count first d after a x (closed c.fail.result) held waiting heard later halt c.requires.valid (failed_ending c.args.moment a.rule a.number c.args.why) (ap closed c.in-Ok.is) c.fail.ensures.reply goes (omega arith)
+      (closed_stopped g.T.Terms.trust g.F.Commands.gives g.F.Commands.may_fail g.T.Terms.sources g.S.Site.tells g.T.Terms.kept (IsSurePool g.B.Terms.fits) g.S.Site.files g.S.Site.may_leave g.S.Site.moment g.S.Site.images_since away g.S.Site.count first d after a x (closed c.fail.result) held waiting heard later halt c.requires.valid (failed_ending c.args.moment a.rule a.number c.args.why) (ap closed c.in-Ok.is) c.fail.ensures.reply goes (omega arith)
       (λ told m other. c.fail.ensures.reads told m other.0) u)
       (λ going. (going, λ is. absurd (never is))) u;
 }
 
 pub returns-in-Err-Broken : goal.returns-in-Err-Broken
 returns-in-Err-Broken g c = record {
-  underway = λ first held waiting heard halt never u.
+  underway = λ away first held waiting heard halt never u.
       let d = c.args.desk.now in
       let after = c.fail.new.self in
       let a = c.args.attempt in
       let x = records.Failed c.args.moment a.rule a.number c.args.why in
       let later = plus heard (tally_of (outcomes.Failed c.args.why)) in
-      let goes = fail_goes g.T.Terms.trust g.F.Commands.gives g.F.Commands.may_fail g.T.Terms.sources g.S.Site.tells g.T.Terms.kept (IsSurePool g.B.Terms.fits) g.S.Site.files g.S.Site.may_leave g.S.Site.moment g.S.Site.images_since g.S.Site.count d after a c.args.moment c.args.why (closed c.fail.result) c.requires.honest c.fail.ensures.others c.fail.ensures.reads c.fail.ensures.reply in
-      closes_under g.T.Terms.trust g.F.Commands.gives g.F.Commands.may_fail g.T.Terms.sources g.S.Site.tells g.T.Terms.kept (IsSurePool g.B.Terms.fits) g.S.Site.files g.S.Site.may_leave g.S.Site.moment g.S.Site.images_since g.S.Site.count first d d after d.stop a x (closed c.fail.result) held waiting heard later halt _ (failed_ending c.args.moment a.rule a.number c.args.why) refl goes c.fail.ensures.reply
+      let goes = fail_goes g.T.Terms.trust g.F.Commands.gives g.F.Commands.may_fail g.T.Terms.sources g.S.Site.tells g.T.Terms.kept (IsSurePool g.B.Terms.fits) g.S.Site.files g.S.Site.may_leave g.S.Site.moment g.S.Site.images_since away g.S.Site.count d after a c.args.moment c.args.why (closed c.fail.result) c.requires.honest c.fail.ensures.others c.fail.ensures.reads c.fail.ensures.reply in
+      closes_under g.T.Terms.trust g.F.Commands.gives g.F.Commands.may_fail g.T.Terms.sources g.S.Site.tells g.T.Terms.kept (IsSurePool g.B.Terms.fits) g.S.Site.files g.S.Site.may_leave g.S.Site.moment g.S.Site.images_since away g.S.Site.count first d d after d.stop a x (closed c.fail.result) held waiting heard later halt _ (failed_ending c.args.moment a.rule a.number c.args.why) refl goes c.fail.ensures.reply
       refl (λ is none. absurd (never is))
       (stopped_site g.S.Site.tells g.T.Terms.kept (IsSurePool g.B.Terms.fits) g.S.Site.files after later
       (is_broken g.S.Site.count d _ _ after (subst (λ (w : CloseRefused). Closes g.S.Site.count d a.rule a.number a.link x (Err w) after) c.in-Err-Broken.field-0-is c.in-Err-Broken.ensures.reply)))
@@ -44,14 +44,14 @@ returns-in-Err-Broken g c = record {
 
 pub returns-in-Err-Memory : goal.returns-in-Err-Memory
 returns-in-Err-Memory g c = record {
-  underway = λ first held waiting heard halt never u.
+  underway = λ away first held waiting heard halt never u.
       let d = c.args.desk.now in
       let after = c.fail.new.self in
       let a = c.args.attempt in
       let x = records.Failed c.args.moment a.rule a.number c.args.why in
       let later = plus heard (tally_of (outcomes.Failed c.args.why)) in
-      let goes = fail_goes g.T.Terms.trust g.F.Commands.gives g.F.Commands.may_fail g.T.Terms.sources g.S.Site.tells g.T.Terms.kept (IsSurePool g.B.Terms.fits) g.S.Site.files g.S.Site.may_leave g.S.Site.moment g.S.Site.images_since g.S.Site.count d after a c.args.moment c.args.why (closed c.fail.result) c.requires.honest c.fail.ensures.others c.fail.ensures.reads c.fail.ensures.reply in
-      closes_under g.T.Terms.trust g.F.Commands.gives g.F.Commands.may_fail g.T.Terms.sources g.S.Site.tells g.T.Terms.kept (IsSurePool g.B.Terms.fits) g.S.Site.files g.S.Site.may_leave g.S.Site.moment g.S.Site.images_since g.S.Site.count first d d after d.stop a x (closed c.fail.result) held waiting heard later halt _ (failed_ending c.args.moment a.rule a.number c.args.why) refl goes c.fail.ensures.reply
+      let goes = fail_goes g.T.Terms.trust g.F.Commands.gives g.F.Commands.may_fail g.T.Terms.sources g.S.Site.tells g.T.Terms.kept (IsSurePool g.B.Terms.fits) g.S.Site.files g.S.Site.may_leave g.S.Site.moment g.S.Site.images_since away g.S.Site.count d after a c.args.moment c.args.why (closed c.fail.result) c.requires.honest c.fail.ensures.others c.fail.ensures.reads c.fail.ensures.reply in
+      closes_under g.T.Terms.trust g.F.Commands.gives g.F.Commands.may_fail g.T.Terms.sources g.S.Site.tells g.T.Terms.kept (IsSurePool g.B.Terms.fits) g.S.Site.files g.S.Site.may_leave g.S.Site.moment g.S.Site.images_since away g.S.Site.count first d d after d.stop a x (closed c.fail.result) held waiting heard later halt _ (failed_ending c.args.moment a.rule a.number c.args.why) refl goes c.fail.ensures.reply
       refl (λ is none. absurd (never is))
       (stopped_memory g.S.Site.tells g.T.Terms.kept (IsSurePool g.B.Terms.fits) g.S.Site.files after later)
       (λ going. absurd going) u;

@@ -11,30 +11,30 @@ use Rattle.local_run.proofs.closing.finish.Goals as goal
 
 pub returns-in-Ok : goal.returns-in-Ok
 returns-in-Ok g c = record {
-  underway = λ first held waiting heard halt u.
+  underway = λ away first held waiting heard halt u.
       let d = c.args.desk.now in
       let after = c.finish.new.self in
       let a = c.args.attempt in
       let rows = map logged c.args.outs.now in
       let x = records.Done c.args.moment a.rule a.number rows in
-      let goes = finish_goes g.T.Terms.trust g.F.Commands.gives g.F.Commands.may_fail g.T.Terms.sources g.S.Site.tells g.T.Terms.kept (IsSurePool g.B.Terms.fits) g.S.Site.files g.S.Site.may_leave g.S.Site.moment g.S.Site.images_since g.S.Site.count d after a c.args.moment rows c.finish.result c.requires.valid
+      let goes = finish_goes g.T.Terms.trust g.F.Commands.gives g.F.Commands.may_fail g.T.Terms.sources g.S.Site.tells g.T.Terms.kept (IsSurePool g.B.Terms.fits) g.S.Site.files g.S.Site.may_leave g.S.Site.moment g.S.Site.images_since away g.S.Site.count d after a c.args.moment rows c.finish.result c.requires.valid
       (λ told image. (g.met.S.Site g.world.𝓛 g.world.𝓜 g.world.𝓡 ((λ s x. x), (λ x. x), (λ x. x), λ x. x)).only_now told d.site image) c.requires.runs c.finish.ensures.others c.finish.ensures.reads c.finish.ensures.reply in
-      closes_plain g.T.Terms.trust g.F.Commands.gives g.F.Commands.may_fail g.T.Terms.sources g.S.Site.tells g.T.Terms.kept (IsSurePool g.B.Terms.fits) g.S.Site.files g.S.Site.may_leave g.S.Site.moment g.S.Site.images_since g.S.Site.count first d d after d.stop a x c.finish.result held waiting heard halt _ (done_ending c.args.moment a.rule a.number rows) refl refl goes c.finish.ensures.reply
-      (closed_stopped g.T.Terms.trust g.F.Commands.gives g.F.Commands.may_fail g.T.Terms.sources g.S.Site.tells g.T.Terms.kept (IsSurePool g.B.Terms.fits) g.S.Site.files g.S.Site.may_leave g.S.Site.moment g.S.Site.images_since g.S.Site.count first d after a x c.finish.result held waiting heard heard halt c.requires.valid (done_ending c.args.moment a.rule a.number rows) c.in-Ok.is c.finish.ensures.reply goes (omega arith) c.finish.ensures.reads u)
-      (λ going. (going, λ is. finish_due g.T.Terms.trust g.F.Commands.gives g.F.Commands.may_fail g.T.Terms.sources g.S.Site.tells g.T.Terms.kept (IsSurePool g.B.Terms.fits) g.S.Site.files g.S.Site.may_leave g.S.Site.moment g.S.Site.images_since g.S.Site.count d after a c.args.moment rows c.finish.result c.requires.runs c.in-Ok.is c.finish.ensures.reply goes)) u;
+      closes_plain g.T.Terms.trust g.F.Commands.gives g.F.Commands.may_fail g.T.Terms.sources g.S.Site.tells g.T.Terms.kept (IsSurePool g.B.Terms.fits) g.S.Site.files g.S.Site.may_leave g.S.Site.moment g.S.Site.images_since away g.S.Site.count first d d after d.stop a x c.finish.result held waiting heard halt _ (done_ending c.args.moment a.rule a.number rows) refl refl goes c.finish.ensures.reply
+      (closed_stopped g.T.Terms.trust g.F.Commands.gives g.F.Commands.may_fail g.T.Terms.sources g.S.Site.tells g.T.Terms.kept (IsSurePool g.B.Terms.fits) g.S.Site.files g.S.Site.may_leave g.S.Site.moment g.S.Site.images_since away g.S.Site.count first d after a x c.finish.result held waiting heard heard halt c.requires.valid (done_ending c.args.moment a.rule a.number rows) c.in-Ok.is c.finish.ensures.reply goes (omega arith) c.finish.ensures.reads u)
+      (λ going. (going, λ is. finish_due g.T.Terms.trust g.F.Commands.gives g.F.Commands.may_fail g.T.Terms.sources g.S.Site.tells g.T.Terms.kept (IsSurePool g.B.Terms.fits) g.S.Site.files g.S.Site.may_leave g.S.Site.moment g.S.Site.images_since away g.S.Site.count d after a c.args.moment rows c.finish.result c.requires.runs c.in-Ok.is c.finish.ensures.reply goes)) u;
 }
 
 pub returns-in-Err-Broken : goal.returns-in-Err-Broken
 returns-in-Err-Broken g c = record {
-  underway = λ first held waiting heard halt u.
+  underway = λ away first held waiting heard halt u.
       let d = c.args.desk.now in
       let after = c.finish.new.self in
       let a = c.args.attempt in
       let rows = map logged c.args.outs.now in
       let x = records.Done c.args.moment a.rule a.number rows in
-      let goes = finish_goes g.T.Terms.trust g.F.Commands.gives g.F.Commands.may_fail g.T.Terms.sources g.S.Site.tells g.T.Terms.kept (IsSurePool g.B.Terms.fits) g.S.Site.files g.S.Site.may_leave g.S.Site.moment g.S.Site.images_since g.S.Site.count d after a c.args.moment rows c.finish.result c.requires.valid
+      let goes = finish_goes g.T.Terms.trust g.F.Commands.gives g.F.Commands.may_fail g.T.Terms.sources g.S.Site.tells g.T.Terms.kept (IsSurePool g.B.Terms.fits) g.S.Site.files g.S.Site.may_leave g.S.Site.moment g.S.Site.images_since away g.S.Site.count d after a c.args.moment rows c.finish.result c.requires.valid
       (λ told image. (g.met.S.Site g.world.𝓛 g.world.𝓜 g.world.𝓡 ((λ s x. x), (λ x. x), (λ x. x), λ x. x)).only_now told d.site image) c.requires.runs c.finish.ensures.others c.finish.ensures.reads c.finish.ensures.reply in
-      closes_plain g.T.Terms.trust g.F.Commands.gives g.F.Commands.may_fail g.T.Terms.sources g.S.Site.tells g.T.Terms.kept (IsSurePool g.B.Terms.fits) g.S.Site.files g.S.Site.may_leave g.S.Site.moment g.S.Site.images_since g.S.Site.count first d d after d.stop a x c.finish.result held waiting heard halt _ (done_ending c.args.moment a.rule a.number rows) refl refl goes c.finish.ensures.reply
+      closes_plain g.T.Terms.trust g.F.Commands.gives g.F.Commands.may_fail g.T.Terms.sources g.S.Site.tells g.T.Terms.kept (IsSurePool g.B.Terms.fits) g.S.Site.files g.S.Site.may_leave g.S.Site.moment g.S.Site.images_since away g.S.Site.count first d d after d.stop a x c.finish.result held waiting heard halt _ (done_ending c.args.moment a.rule a.number rows) refl refl goes c.finish.ensures.reply
       (stopped_site g.S.Site.tells g.T.Terms.kept (IsSurePool g.B.Terms.fits) g.S.Site.files after heard
       (is_broken g.S.Site.count d _ _ after (subst (λ (w : CloseRefused). Closes g.S.Site.count d a.rule a.number a.link x (Err w) after) c.in-Err-Broken.field-0-is c.in-Err-Broken.ensures.reply)))
       (λ going. absurd going) u;
@@ -42,15 +42,15 @@ returns-in-Err-Broken g c = record {
 
 pub returns-in-Err-Memory : goal.returns-in-Err-Memory
 returns-in-Err-Memory g c = record {
-  underway = λ first held waiting heard halt u.
+  underway = λ away first held waiting heard halt u.
       let d = c.args.desk.now in
       let after = c.finish.new.self in
       let a = c.args.attempt in
       let rows = map logged c.args.outs.now in
       let x = records.Done c.args.moment a.rule a.number rows in
-      let goes = finish_goes g.T.Terms.trust g.F.Commands.gives g.F.Commands.may_fail g.T.Terms.sources g.S.Site.tells g.T.Terms.kept (IsSurePool g.B.Terms.fits) g.S.Site.files g.S.Site.may_leave g.S.Site.moment g.S.Site.images_since g.S.Site.count d after a c.args.moment rows c.finish.result c.requires.valid
+      let goes = finish_goes g.T.Terms.trust g.F.Commands.gives g.F.Commands.may_fail g.T.Terms.sources g.S.Site.tells g.T.Terms.kept (IsSurePool g.B.Terms.fits) g.S.Site.files g.S.Site.may_leave g.S.Site.moment g.S.Site.images_since away g.S.Site.count d after a c.args.moment rows c.finish.result c.requires.valid
       (λ told image. (g.met.S.Site g.world.𝓛 g.world.𝓜 g.world.𝓡 ((λ s x. x), (λ x. x), (λ x. x), λ x. x)).only_now told d.site image) c.requires.runs c.finish.ensures.others c.finish.ensures.reads c.finish.ensures.reply in
-      closes_plain g.T.Terms.trust g.F.Commands.gives g.F.Commands.may_fail g.T.Terms.sources g.S.Site.tells g.T.Terms.kept (IsSurePool g.B.Terms.fits) g.S.Site.files g.S.Site.may_leave g.S.Site.moment g.S.Site.images_since g.S.Site.count first d d after d.stop a x c.finish.result held waiting heard halt _ (done_ending c.args.moment a.rule a.number rows) refl refl goes c.finish.ensures.reply
+      closes_plain g.T.Terms.trust g.F.Commands.gives g.F.Commands.may_fail g.T.Terms.sources g.S.Site.tells g.T.Terms.kept (IsSurePool g.B.Terms.fits) g.S.Site.files g.S.Site.may_leave g.S.Site.moment g.S.Site.images_since away g.S.Site.count first d d after d.stop a x c.finish.result held waiting heard halt _ (done_ending c.args.moment a.rule a.number rows) refl refl goes c.finish.ensures.reply
       (stopped_memory g.S.Site.tells g.T.Terms.kept (IsSurePool g.B.Terms.fits) g.S.Site.files after heard)
       (λ going. absurd going) u;
 }

@@ -1,4 +1,4 @@
-use Rattle.std.proofs.Common.{◌∙◌, arith}
+use Rattle.std.proofs.Common.{◌∙◌, [], arith}
 use Rattle.std.specs.Prelude.{sum_by}
 use Rattle.run_history.specs.Links.{records_of}
 use Rattle.local_run.proofs.Alone.{log_alone}
@@ -12,21 +12,21 @@ use Rattle.local_run.proofs.course.work.Goals as goal
 pub returns-in-Ok-end-clause-goes : goal.returns-in-Ok-end-clause-goes
 returns-in-Ok-end-clause-goes g c =
     let mid = c.serve_all.new.desk in
-    goes_on g.T.Terms.trust g.F.Commands.gives g.F.Commands.may_fail g.T.Terms.sources g.S.Site.tells g.S.Site.files g.S.Site.may_leave g.S.Site.moment g.S.Site.images_since c.args.desk.now mid c.end.new.self c.serve_all.ensures.came.goes
+    goes_on g.T.Terms.trust g.F.Commands.gives g.F.Commands.may_fail g.T.Terms.sources g.S.Site.tells g.S.Site.files g.S.Site.may_leave g.S.Site.moment g.S.Site.images_since [] c.args.desk.now mid c.end.new.self c.serve_all.ensures.came.goes
     (ends_goes g.T.Terms.trust g.F.Commands.gives g.F.Commands.may_fail g.T.Terms.sources g.S.Site.tells g.S.Site.files g.S.Site.may_leave g.S.Site.moment g.S.Site.images_since g.S.Site.count mid c.now.result c.end.result c.end.new.self
     (λ told. log_alone g.S.Site.files g.S.Site.may_leave g.S.Site.moment g.S.Site.images_since mid.plan mid.log (records_of mid.moves) mid.site c.end.new.self.site (c.end.ensures.others told) (c.end.ensures.reads told)) c.end.ensures.reply)
 
 pub returns-in-Err-Broken-clause-goes : goal.returns-in-Err-Broken-clause-goes
 returns-in-Err-Broken-clause-goes g c =
     let mid = c.serve_all.new.desk in
-    goes_on g.T.Terms.trust g.F.Commands.gives g.F.Commands.may_fail g.T.Terms.sources g.S.Site.tells g.S.Site.files g.S.Site.may_leave g.S.Site.moment g.S.Site.images_since c.args.desk.now mid c.end.new.self c.serve_all.ensures.came.goes
+    goes_on g.T.Terms.trust g.F.Commands.gives g.F.Commands.may_fail g.T.Terms.sources g.S.Site.tells g.S.Site.files g.S.Site.may_leave g.S.Site.moment g.S.Site.images_since [] c.args.desk.now mid c.end.new.self c.serve_all.ensures.came.goes
     (ends_goes g.T.Terms.trust g.F.Commands.gives g.F.Commands.may_fail g.T.Terms.sources g.S.Site.tells g.S.Site.files g.S.Site.may_leave g.S.Site.moment g.S.Site.images_since g.S.Site.count mid c.now.result c.end.result c.end.new.self
     (λ told. log_alone g.S.Site.files g.S.Site.may_leave g.S.Site.moment g.S.Site.images_since mid.plan mid.log (records_of mid.moves) mid.site c.end.new.self.site (c.end.ensures.others told) (c.end.ensures.reads told)) c.end.ensures.reply)
 
 pub returns-in-Err-Memory-clause-goes : goal.returns-in-Err-Memory-clause-goes
 returns-in-Err-Memory-clause-goes g c =
     let mid = c.serve_all.new.desk in
-    goes_on g.T.Terms.trust g.F.Commands.gives g.F.Commands.may_fail g.T.Terms.sources g.S.Site.tells g.S.Site.files g.S.Site.may_leave g.S.Site.moment g.S.Site.images_since c.args.desk.now mid c.end.new.self c.serve_all.ensures.came.goes
+    goes_on g.T.Terms.trust g.F.Commands.gives g.F.Commands.may_fail g.T.Terms.sources g.S.Site.tells g.S.Site.files g.S.Site.may_leave g.S.Site.moment g.S.Site.images_since [] c.args.desk.now mid c.end.new.self c.serve_all.ensures.came.goes
     (ends_goes g.T.Terms.trust g.F.Commands.gives g.F.Commands.may_fail g.T.Terms.sources g.S.Site.tells g.S.Site.files g.S.Site.may_leave g.S.Site.moment g.S.Site.images_since g.S.Site.count mid c.now.result c.end.result c.end.new.self
     (λ told. log_alone g.S.Site.files g.S.Site.may_leave g.S.Site.moment g.S.Site.images_since mid.plan mid.log (records_of mid.moves) mid.site c.end.new.self.site (c.end.ensures.others told) (c.end.ensures.reads told)) c.end.ensures.reply)
 
@@ -74,22 +74,22 @@ returns-in-Err-Memory-clause-failed g c fresh unset = c.serve_all.ensures.came.r
 
 pub returns-in-Ok-end-clause-ending : goal.returns-in-Ok-end-clause-ending
 returns-in-Ok-end-clause-ending g c fresh unset here =
-    ending_at g.T.Terms.trust g.F.Commands.gives g.F.Commands.may_fail g.T.Terms.sources g.S.Site.tells g.S.Site.files g.S.Site.may_leave g.S.Site.moment g.S.Site.images_since c.args.desk.now c.serve_all.new.desk c.serve_all.ensures.came.goes g.S.Site.count c.now.result c.in-Ok-end.check c.end.new.self c.in-Ok-end.ensures.reply (c.in-Ok.ensures.came.closed.1 ∙ unset)
-    (rests_at g.T.Terms.trust g.F.Commands.gives g.F.Commands.may_fail g.T.Terms.sources g.S.Site.tells g.S.Site.files g.S.Site.may_leave g.S.Site.moment g.S.Site.images_since c.args.desk.now c.serve_all.new.desk c.serve_all.ensures.came.goes c.requires.valid fresh (c.in-Ok.ensures.came.closed.1 ∙ unset)
+    ending_at g.T.Terms.trust g.F.Commands.gives g.F.Commands.may_fail g.T.Terms.sources g.S.Site.tells g.S.Site.files g.S.Site.may_leave g.S.Site.moment g.S.Site.images_since [] c.args.desk.now c.serve_all.new.desk c.serve_all.ensures.came.goes g.S.Site.count c.now.result c.in-Ok-end.check c.end.new.self c.in-Ok-end.ensures.reply (c.in-Ok.ensures.came.closed.1 ∙ unset)
+    (rests_at g.T.Terms.trust g.F.Commands.gives g.F.Commands.may_fail g.T.Terms.sources g.S.Site.tells g.S.Site.files g.S.Site.may_leave g.S.Site.moment g.S.Site.images_since [] c.args.desk.now c.serve_all.new.desk c.serve_all.ensures.came.goes c.requires.valid fresh (c.in-Ok.ensures.came.closed.1 ∙ unset)
     c.works-works.ensures.legal c.works-works.ensures.opened (c.serve_all.ensures.came.idle c.in-Ok.ensures.came.closed.0) (c.serve_all.ensures.came.unended c.in-Ok.ensures.came.closed.0 (fresh_unended c.args.desk.now.options.limit (records_of c.args.desk.now.moves) fresh)) c.in-Ok.ensures.came.rests) here
 
 pub returns-in-Ok-end-clause-failed : goal.returns-in-Ok-end-clause-failed
 returns-in-Ok-end-clause-failed g c fresh unset =
-    failed_at g.T.Terms.trust g.F.Commands.gives g.F.Commands.may_fail g.T.Terms.sources g.S.Site.tells g.S.Site.files g.S.Site.may_leave g.S.Site.moment g.S.Site.images_since c.args.desk.now c.serve_all.new.desk c.serve_all.ensures.came.goes g.S.Site.count c.now.result c.in-Ok-end.check c.end.new.self
+    failed_at g.T.Terms.trust g.F.Commands.gives g.F.Commands.may_fail g.T.Terms.sources g.S.Site.tells g.S.Site.files g.S.Site.may_leave g.S.Site.moment g.S.Site.images_since [] c.args.desk.now c.serve_all.new.desk c.serve_all.ensures.came.goes g.S.Site.count c.now.result c.in-Ok-end.check c.end.new.self
     (sum_by g.R.Runner.failures c.args.runners.now) (sum_by g.R.Runner.failures c.serve_all.new.runners) c.in-Ok-end.ensures.reply (c.in-Ok.ensures.came.closed.1 ∙ unset) fresh
     (c.serve_all.ensures.came.unended c.in-Ok.ensures.came.closed.0 (fresh_unended c.args.desk.now.options.limit (records_of c.args.desk.now.moves) fresh)) (c.in-Ok.ensures.came.failed c.in-Ok.ensures.came.closed.0 (λ wants. wants)) c.serve_all.ensures.came.risen
 
 pub returns-in-Ok-end-clause-completes : goal.returns-in-Ok-end-clause-completes
 returns-in-Ok-end-clause-completes g c fresh unset here told kept trusted fit sure few =
     let image = g.S.Site.files c.serve_all.new.desk.site in
-    complete_at g.T.Terms.trust g.F.Commands.gives g.F.Commands.may_fail g.T.Terms.sources g.S.Site.tells g.S.Site.files g.S.Site.may_leave g.S.Site.moment g.S.Site.images_since c.args.desk.now c.serve_all.new.desk c.serve_all.ensures.came.goes g.S.Site.count c.now.result c.in-Ok-end.check c.end.new.self
+    complete_at g.T.Terms.trust g.F.Commands.gives g.F.Commands.may_fail g.T.Terms.sources g.S.Site.tells g.S.Site.files g.S.Site.may_leave g.S.Site.moment g.S.Site.images_since [] c.args.desk.now c.serve_all.new.desk c.serve_all.ensures.came.goes g.S.Site.count c.now.result c.in-Ok-end.check c.end.new.self
     (sum_by g.R.Runner.failures c.args.runners.now) (sum_by g.R.Runner.failures c.serve_all.new.runners) image c.in-Ok-end.ensures.reply (c.in-Ok.ensures.came.closed.1 ∙ unset)
-    (rests_at g.T.Terms.trust g.F.Commands.gives g.F.Commands.may_fail g.T.Terms.sources g.S.Site.tells g.S.Site.files g.S.Site.may_leave g.S.Site.moment g.S.Site.images_since c.args.desk.now c.serve_all.new.desk c.serve_all.ensures.came.goes c.requires.valid fresh (c.in-Ok.ensures.came.closed.1 ∙ unset)
+    (rests_at g.T.Terms.trust g.F.Commands.gives g.F.Commands.may_fail g.T.Terms.sources g.S.Site.tells g.S.Site.files g.S.Site.may_leave g.S.Site.moment g.S.Site.images_since [] c.args.desk.now c.serve_all.new.desk c.serve_all.ensures.came.goes c.requires.valid fresh (c.in-Ok.ensures.came.closed.1 ∙ unset)
     c.works-works.ensures.legal c.works-works.ensures.opened (c.serve_all.ensures.came.idle c.in-Ok.ensures.came.closed.0) (c.serve_all.ensures.came.unended c.in-Ok.ensures.came.closed.0 (fresh_unended c.args.desk.now.options.limit (records_of c.args.desk.now.moves) fresh)) c.in-Ok.ensures.came.rests) here fresh (c.in-Ok.ensures.came.failed c.in-Ok.ensures.came.closed.0 (λ wants. wants)) (c.in-Ok.ensures.came.none sure) trusted
     (c.works-works.ensures.now told kept c.in-Ok.ensures.came.closed.0 image ((g.met.S.Site g.world.𝓛 g.world.𝓜 g.world.𝓡 ((λ s x. x), (λ x. x), (λ x. x), λ x. x)).reads_image told c.serve_all.new.desk.site))
     fit (c.serve_all.ensures.came.idle c.in-Ok.ensures.came.closed.0) (c.in-Ok.ensures.came.due sure) few

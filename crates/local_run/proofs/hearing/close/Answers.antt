@@ -24,27 +24,27 @@ fail-requires-clause-honest g c κs within =
 
 pub returns-in-Success : goal.returns-in-Success
 returns-in-Success g c = record {
-  underway = λ first held waiting heard halt success u.
+  underway = λ away first held waiting heard halt success u.
       let later = plus heard (tally_of c.args.outcome) in
       let none : (tally_of c.args.outcome).failed ≡ 0 = ap (λ (o : Outcome). (tally_of o).failed) c.in-Success.is in
-      c.finish.ensures.underway first held waiting later halt
-      (heard_more g.T.Terms.trust g.F.Commands.gives g.F.Commands.may_fail g.T.Terms.sources g.S.Site.tells g.T.Terms.kept (IsSurePool g.B.Terms.fits) g.S.Site.files g.S.Site.may_leave g.S.Site.moment g.S.Site.images_since first c.args.desk.now held waiting (Some c.args.attempt) heard later halt (omega arith) (omega (arith, none)) u);
+      c.finish.ensures.underway away first held waiting later halt
+      (heard_more g.T.Terms.trust g.F.Commands.gives g.F.Commands.may_fail g.T.Terms.sources g.S.Site.tells g.T.Terms.kept (IsSurePool g.B.Terms.fits) g.S.Site.files g.S.Site.may_leave g.S.Site.moment g.S.Site.images_since away first c.args.desk.now held waiting (Some c.args.attempt) heard later halt (omega arith) (omega (arith, none)) u);
 }
 
 pub returns-in-Failed : goal.returns-in-Failed
 returns-in-Failed g c = record {
-  underway = λ first held waiting heard halt success u.
-      subst (λ (o : Outcome). Underway g.T.Terms.trust g.F.Commands.gives g.F.Commands.may_fail g.T.Terms.sources g.S.Site.tells g.T.Terms.kept (IsSurePool g.B.Terms.fits) g.S.Site.files g.S.Site.may_leave g.S.Site.moment g.S.Site.images_since first c.fail.new.desk held waiting None (plus heard (tally_of o)) (halt_after c.fail.result halt)) (sym c.in-Failed.is)
-      (c.fail.ensures.underway first held waiting heard halt (λ is. subst IsSuccess c.in-Failed.is (success is)) u);
+  underway = λ away first held waiting heard halt success u.
+      subst (λ (o : Outcome). Underway g.T.Terms.trust g.F.Commands.gives g.F.Commands.may_fail g.T.Terms.sources g.S.Site.tells g.T.Terms.kept (IsSurePool g.B.Terms.fits) g.S.Site.files g.S.Site.may_leave g.S.Site.moment g.S.Site.images_since away first c.fail.new.desk held waiting None (plus heard (tally_of o)) (halt_after c.fail.result halt)) (sym c.in-Failed.is)
+      (c.fail.ensures.underway away first held waiting heard halt (λ is. subst IsSuccess c.in-Failed.is (success is)) u);
 }
 
 pub returns-in-NotRun : goal.returns-in-NotRun
 returns-in-NotRun g c = record {
-  underway = λ first held waiting heard halt success u.
+  underway = λ away first held waiting heard halt success u.
       let later = plus heard (tally_of c.args.outcome) in
       let none : (tally_of c.args.outcome).failed ≡ 0 = ap (λ (o : Outcome). (tally_of o).failed) c.in-NotRun.is in
       let one : (tally_of c.args.outcome).unrun ≡ 1 = ap (λ (o : Outcome). (tally_of o).unrun) c.in-NotRun.is in
-      c.give_up.ensures.underway first held waiting later halt
-      (heard_more g.T.Terms.trust g.F.Commands.gives g.F.Commands.may_fail g.T.Terms.sources g.S.Site.tells g.T.Terms.kept (IsSurePool g.B.Terms.fits) g.S.Site.files g.S.Site.may_leave g.S.Site.moment g.S.Site.images_since first c.args.desk.now held waiting (Some c.args.attempt) heard later halt (omega arith) (omega (arith, none)) u)
-      (λ fine. unrun_stops g.T.Terms.trust g.F.Commands.gives g.F.Commands.may_fail g.T.Terms.sources g.S.Site.tells g.T.Terms.kept (IsSurePool g.B.Terms.fits) g.S.Site.files g.S.Site.may_leave g.S.Site.moment g.S.Site.images_since c.args.desk.now later fine (omega (arith, one)) (λ is. subst IsSuccess c.in-NotRun.is (success is)));
+      c.give_up.ensures.underway away first held waiting later halt
+      (heard_more g.T.Terms.trust g.F.Commands.gives g.F.Commands.may_fail g.T.Terms.sources g.S.Site.tells g.T.Terms.kept (IsSurePool g.B.Terms.fits) g.S.Site.files g.S.Site.may_leave g.S.Site.moment g.S.Site.images_since away first c.args.desk.now held waiting (Some c.args.attempt) heard later halt (omega arith) (omega (arith, none)) u)
+      (λ fine. unrun_stops g.T.Terms.trust g.F.Commands.gives g.F.Commands.may_fail g.T.Terms.sources g.S.Site.tells g.T.Terms.kept (IsSurePool g.B.Terms.fits) g.S.Site.files g.S.Site.may_leave g.S.Site.moment g.S.Site.images_since away c.args.desk.now later fine (omega (arith, one)) (λ is. subst IsSuccess c.in-NotRun.is (success is)));
 }

@@ -78,10 +78,10 @@ returns-in-Ok-clause-idle g c closed =
 
 pub returns-in-Ok-clause-lost : goal.returns-in-Ok-clause-lost
 returns-in-Ok-clause-lost g c =
+    let b = begun g.S.Site.count c.args.plan c.args.options c.args.log.name c.args.history c.now.result g.S.Site.tells (g.S.Site.files c.args.site) c.args.site g.F.Commands.may_fail (serial c.args.plan g.F.Commands.gives g.T.Terms.sources) c.in-Ok.desk c.in-Ok.ensures.reply in
     on_ok c.run_desk.result.how (LosesNone (records_of c.in-Ok.desk.moves) c.run_desk.result.records) (LosesNone c.args.history c.run_desk.result.records)
-    (begun_loses (g.S.Site.count c.args.site) c.args.plan c.args.options c.args.log.name c.args.history c.run_desk.result.records g.F.Commands.may_fail (serial c.args.plan g.F.Commands.gives g.T.Terms.sources) c.in-Ok.desk
-    (begun g.S.Site.count c.args.plan c.args.options c.args.log.name c.args.history c.now.result g.S.Site.tells (g.S.Site.files c.args.site) c.args.site g.F.Commands.may_fail (serial c.args.plan g.F.Commands.gives g.T.Terms.sources) c.in-Ok.desk c.in-Ok.ensures.reply))
-    c.run_desk.ensures.lost
+    (begun_loses (g.S.Site.count c.args.site) c.args.plan c.args.options c.args.log.name c.args.history c.run_desk.result.records g.F.Commands.may_fail (serial c.args.plan g.F.Commands.gives g.T.Terms.sources) c.in-Ok.desk b)
+    (c.run_desk.ensures.lost c.args.history b.over)
 
 pub returns-in-Ok-clause-ends : goal.returns-in-Ok-clause-ends
 returns-in-Ok-clause-ends g c =

@@ -1,4 +1,4 @@
-use Rattle.std.proofs.Common.{◌≡◌, ◌≤◌, ◌∙◌, ℕ, List, ap, subst, sym}
+use Rattle.std.proofs.Common.{◌≡◌, ◌≤◌, ◌∙◌, ℕ, List, [], refl, subst, sym}
 use Rattle.run_history.specs.declared.answers.Check.{Check}
 use Rattle.std.specs.Prelude.{sum_by, ◌⊎◌, IfOk, None, OnOk, Result, length}
 use Rattle.flow_types.specs.declared.records.Record.{Record}
@@ -17,29 +17,29 @@ use Rattle.local_run.specs.Ends.{HasFailed, IsApart, IsCompleteEnd, IsRunEnd, Is
 use Rattle.local_run.specs.Runs.{HasCauses, IsClosedRun, IsCutRun, IsRefusedRun, LosesNone, ended_by}
 use Rattle.local_run.proofs.Alone.{alone_less}
 use Rattle.local_run.proofs.Collecting.{unmade_untouched}
-use Rattle.local_run.proofs.Modes.{are_gone, collects_by, run_collects}
+use Rattle.local_run.proofs.Modes.{are_gone, collects_by, run_collects, unlinked}
 use Rattle.local_run.proofs.Done.{damage_ended, if_ended, whole_ended}
 use Rattle.local_run.proofs.Refused.{not_refused}
 use Rattle.local_run.proofs.Starts.{desk_starts}
 use Rattle.local_run.proofs.Results.{adds_records, causes_run, closed_whole, ends_run, fine_run, is_kept, loses_none, was_kept}
-use Rattle.local_run.proofs.Going.{records_more}
+use Rattle.local_run.proofs.Going.{goes_records}
 use Rattle.local_run.proofs.Openings.{opens_on}
 use Rattle.local_run.proofs.RunsServed.{closed_unwanting, surely_ended}
 use Rattle.local_run.proofs.runs.run_desk.Goals as goal
 
 pub returns-clause-more : goal.returns-clause-more
-returns-clause-more g c = adds_records g.T.Terms.trust g.F.Commands.gives g.F.Commands.may_fail g.T.Terms.sources g.S.Site.tells g.S.Site.files g.S.Site.may_leave g.S.Site.moment g.S.Site.images_since c.args.desk c.work.new.desk c.into_parts-site.result.1 c.into_parts-site.ensures.records c.work.ensures.goes
+returns-clause-more g c = adds_records g.T.Terms.trust g.F.Commands.gives g.F.Commands.may_fail g.T.Terms.sources g.S.Site.tells g.S.Site.files g.S.Site.may_leave g.S.Site.moment g.S.Site.images_since [] c.args.desk c.work.new.desk c.into_parts-site.result.1 c.into_parts-site.ensures.records c.work.ensures.goes
 
 pub returns-clause-kept : goal.returns-clause-kept
 returns-clause-kept g c told kept image left =
     subst (λ (how : Result Check Stopped). g.T.Terms.before image ⊎ WasKept (Fits g.T.Terms.trust g.F.Commands.gives g.T.Terms.sources) c.args.desk.plan c.args.desk.log c.args.desk.base c.into_parts-site.result.1 (IsCutRun how) image) (sym c.ended_by-how.ensures)
-    (was_kept (Fits g.T.Terms.trust g.F.Commands.gives g.T.Terms.sources) c.args.desk c.work.new.desk c.into_parts-site.result.1 g.T.Terms.trust g.F.Commands.gives g.F.Commands.may_fail g.T.Terms.sources g.S.Site.tells g.S.Site.files g.S.Site.may_leave g.S.Site.moment g.S.Site.images_since (g.T.Terms.before image) (sum_by g.R.Runner.count c.args.runners.now) (sum_by g.R.Runner.count c.work.new.runners) c.work.result image
+    (was_kept (Fits g.T.Terms.trust g.F.Commands.gives g.T.Terms.sources) c.args.desk c.work.new.desk c.into_parts-site.result.1 g.T.Terms.trust g.F.Commands.gives g.F.Commands.may_fail g.T.Terms.sources g.S.Site.tells g.S.Site.files g.S.Site.may_leave g.S.Site.moment g.S.Site.images_since [] (g.T.Terms.before image) (sum_by g.R.Runner.count c.args.runners.now) (sum_by g.R.Runner.count c.work.new.runners) c.work.result image
     c.into_parts-site.ensures.records c.work.ensures.goes c.work.ensures.halts c.work.ensures.closed
     (c.works-works.ensures.kept told kept image (subst (λ (s : g.row.S.Denot). g.S.Site.images_since s g.T.Terms.born image) c.into_parts-site.ensures.site left)))
 
 pub returns-clause-now : goal.returns-clause-now
 returns-clause-now g c told kept whole image now =
-    is_kept (Fits g.T.Terms.trust g.F.Commands.gives g.T.Terms.sources) c.args.desk c.work.new.desk c.into_parts-site.result.1 g.T.Terms.trust g.F.Commands.gives g.F.Commands.may_fail g.T.Terms.sources g.S.Site.tells g.S.Site.files g.S.Site.may_leave g.S.Site.moment g.S.Site.images_since image c.into_parts-site.ensures.records c.work.ensures.goes
+    is_kept (Fits g.T.Terms.trust g.F.Commands.gives g.T.Terms.sources) c.args.desk c.work.new.desk c.into_parts-site.result.1 g.T.Terms.trust g.F.Commands.gives g.F.Commands.may_fail g.T.Terms.sources g.S.Site.tells g.S.Site.files g.S.Site.may_leave g.S.Site.moment g.S.Site.images_since [] image c.into_parts-site.ensures.records c.work.ensures.goes
     (c.works-works.ensures.now told kept
     (fine_run c.args.desk c.work.new.desk (sum_by g.R.Runner.count c.args.runners.now) (sum_by g.R.Runner.count c.work.new.runners) c.work.result c.work.ensures.halts c.work.ensures.closed (subst (λ (how : Result Check Stopped). IsCutRun how → ⊥) c.ended_by-how.ensures whole))
     image (subst (λ (s : g.row.S.Denot). IsImage (g.S.Site.may_leave s) image) c.into_parts-site.ensures.site now))
@@ -61,14 +61,16 @@ returns-clause-causes g c =
     (causes_run c.work.new.desk.faults (g.S.Site.count c.work.new.desk.site) (sum_by g.R.Runner.count c.args.runners.now) (sum_by g.R.Runner.count c.work.new.runners) c.work.new.desk.trouble c.work.result c.work.ensures.halts c.works-works.ensures.counts)))
 
 pub returns-clause-lost : goal.returns-clause-lost
-returns-clause-lost g c =
+returns-clause-lost g c H began =
     subst (λ (how : Result Check Stopped). OnOk how (LosesNone (records_of c.args.desk.moves) c.into_parts-site.result.1)) (sym c.ended_by-how.ensures)
-    (loses_none g.T.Terms.trust g.F.Commands.gives g.F.Commands.may_fail g.T.Terms.sources g.S.Site.tells g.S.Site.files g.S.Site.may_leave g.S.Site.moment g.S.Site.images_since c.args.desk c.work.new.desk c.into_parts-site.result.1 c.work.result c.requires.unset c.into_parts-site.ensures.records c.work.ensures.goes c.work.ensures.closed)
+    (loses_none g.T.Terms.trust g.F.Commands.gives g.F.Commands.may_fail g.T.Terms.sources g.S.Site.tells g.S.Site.files g.S.Site.may_leave g.S.Site.moment g.S.Site.images_since [] c.args.desk c.work.new.desk c.into_parts-site.result.1 c.work.result c.requires.unset
+    (unlinked g.T.Terms.trust g.F.Commands.gives g.F.Commands.may_fail g.T.Terms.sources g.S.Site.tells g.S.Site.files g.S.Site.may_leave g.S.Site.moment g.S.Site.images_since [] c.args.desk c.work.new.desk c.work.ensures.goes H began refl)
+    c.into_parts-site.ensures.records c.work.ensures.goes c.work.ensures.closed)
 
 pub returns-clause-ends : goal.returns-clause-ends
 returns-clause-ends g c =
     subst (λ (how : Result Check Stopped). IfOk how (λ check. check ≡ end_over c.args.desk.plan c.args.desk.options (before_end c.into_parts-site.result.1) None)) (sym c.ended_by-how.ensures)
-    (ends_run g.T.Terms.trust g.F.Commands.gives g.F.Commands.may_fail g.T.Terms.sources g.S.Site.tells g.S.Site.files g.S.Site.may_leave g.S.Site.moment g.S.Site.images_since c.args.desk c.work.new.desk c.into_parts-site.result.1 c.work.result c.requires.unset c.into_parts-site.ensures.records c.work.ensures.goes c.work.ensures.closed c.work.ensures.ends)
+    (ends_run g.T.Terms.trust g.F.Commands.gives g.F.Commands.may_fail g.T.Terms.sources g.S.Site.tells g.S.Site.files g.S.Site.may_leave g.S.Site.moment g.S.Site.images_since [] c.args.desk c.work.new.desk c.into_parts-site.result.1 c.work.result c.requires.unset c.into_parts-site.ensures.records c.work.ensures.goes c.work.ensures.closed c.work.ensures.ends)
 
 pub returns-clause-others : goal.returns-clause-others
 returns-clause-others g c told =
@@ -126,18 +128,19 @@ returns-clause-started g c refused = not_refused c.work.result (subst IsRefusedR
 
 pub returns-clause-modes : goal.returns-clause-modes
 returns-clause-modes g c H began =
-    collects_by g.T.Terms.trust g.F.Commands.gives g.F.Commands.may_fail g.T.Terms.sources g.S.Site.tells g.S.Site.files g.S.Site.may_leave g.S.Site.moment g.S.Site.images_since c.args.desk c.work.new.desk c.work.ensures.goes H c.into_parts-site.result.1 began c.into_parts-site.ensures.records c.works-works.ensures.serves
+    collects_by g.T.Terms.trust g.F.Commands.gives g.F.Commands.may_fail g.T.Terms.sources g.S.Site.tells g.S.Site.files g.S.Site.may_leave g.S.Site.moment g.S.Site.images_since [] c.args.desk c.work.new.desk c.work.ensures.goes H c.into_parts-site.result.1 began c.into_parts-site.ensures.records c.works-works.ensures.serves
 
 pub returns-clause-gone : goal.returns-clause-gone
 returns-clause-gone g c told whole apart =
-    are_gone g.T.Terms.trust g.F.Commands.gives g.F.Commands.may_fail g.T.Terms.sources g.S.Site.tells g.S.Site.files g.S.Site.may_leave g.S.Site.moment g.S.Site.images_since c.args.desk c.work.new.desk c.work.ensures.goes c.into_parts-site.result.1 c.into_parts-site.result.0 told
+    are_gone g.T.Terms.trust g.F.Commands.gives g.F.Commands.may_fail g.T.Terms.sources g.S.Site.tells g.S.Site.files g.S.Site.may_leave g.S.Site.moment g.S.Site.images_since [] c.args.desk c.work.new.desk c.work.ensures.goes c.into_parts-site.result.1 c.into_parts-site.result.0 told
     (fine_run c.args.desk c.work.new.desk (sum_by g.R.Runner.count c.args.runners.now) (sum_by g.R.Runner.count c.work.new.runners) c.work.result c.work.ensures.halts c.work.ensures.closed (subst (λ (how : Result Check Stopped). IsCutRun how → ⊥) c.ended_by-how.ensures whole))
     apart (named c.args.desk.plan c.requires.valid) c.into_parts-site.ensures.records c.into_parts-site.ensures.site
 
 pub returns-clause-collects : goal.returns-clause-collects
 returns-clause-collects g c H began =
-    run_collects g.T.Terms.trust g.F.Commands.gives g.F.Commands.may_fail g.T.Terms.sources g.S.Site.tells g.S.Site.files g.S.Site.may_leave g.S.Site.moment g.S.Site.images_since c.args.desk c.work.new.desk c.work.ensures.goes H c.into_parts-site.result.1 began c.into_parts-site.ensures.records c.works-works.ensures.serves
+    run_collects g.T.Terms.trust g.F.Commands.gives g.F.Commands.may_fail g.T.Terms.sources g.S.Site.tells g.S.Site.files g.S.Site.may_leave g.S.Site.moment g.S.Site.images_since [] c.args.desk c.work.new.desk c.work.ensures.goes H c.into_parts-site.result.1 began c.into_parts-site.ensures.records c.works-works.ensures.serves
 
 pub returns-clause-opened : goal.returns-clause-opened
 returns-clause-opened g c O opens =
-    opens_on O (records_of c.args.desk.moves) c.work.ensures.goes.more c.into_parts-site.result.1 opens (c.into_parts-site.ensures.records ∙ ap records_of c.work.ensures.goes.moves ∙ records_more c.args.desk.moves c.work.ensures.goes.more) c.work.ensures.goes.anew
+    opens_on O (records_of c.args.desk.moves) c.work.ensures.goes.more c.into_parts-site.result.1 opens
+    (c.into_parts-site.ensures.records ∙ goes_records g.T.Terms.trust g.F.Commands.gives g.F.Commands.may_fail g.T.Terms.sources g.S.Site.tells g.S.Site.files g.S.Site.may_leave g.S.Site.moment g.S.Site.images_since [] c.args.desk c.work.new.desk c.work.ensures.goes) c.work.ensures.goes.anew

@@ -8,49 +8,49 @@ use Rattle.local_run.proofs.StandsBegun.{Under, wants_on}
 use Rattle.local_run.proofs.serving.serve.Goals as goal
 
 pub returns-in_default-clause-underway : goal.returns-in_default-clause-underway
-returns-in_default-clause-underway g c first u =
-    subst (λ (h : HeldState). Under g.T.Terms.trust g.F.Commands.gives g.F.Commands.may_fail g.T.Terms.sources g.S.Site.tells g.T.Terms.kept (IsSurePool g.B.Terms.fits) g.S.Site.files g.S.Site.may_leave g.S.Site.moment g.S.Site.images_since first c.loop.desk h.attempts c.loop.pool.waiting None c.loop.pool.heard h.halt) (sym c.stop.ensures)
-    (wants_on g.T.Terms.trust g.F.Commands.gives g.F.Commands.may_fail g.T.Terms.sources g.S.Site.tells g.T.Terms.kept (IsSurePool g.B.Terms.fits) g.S.Site.files g.S.Site.may_leave g.S.Site.moment g.S.Site.images_since first c.loop.desk c.loop.held.attempts c.loop.pool.waiting None c.loop.pool.heard c.loop.held.halt (c.loop.invariant.underway first u))
+returns-in_default-clause-underway g c away first u =
+    subst (λ (h : HeldState). Under g.T.Terms.trust g.F.Commands.gives g.F.Commands.may_fail g.T.Terms.sources g.S.Site.tells g.T.Terms.kept (IsSurePool g.B.Terms.fits) g.S.Site.files g.S.Site.may_leave g.S.Site.moment g.S.Site.images_since away first c.loop.desk h.attempts c.loop.pool.waiting None c.loop.pool.heard h.halt) (sym c.stop.ensures)
+    (wants_on g.T.Terms.trust g.F.Commands.gives g.F.Commands.may_fail g.T.Terms.sources g.S.Site.tells g.T.Terms.kept (IsSurePool g.B.Terms.fits) g.S.Site.files g.S.Site.may_leave g.S.Site.moment g.S.Site.images_since away first c.loop.desk c.loop.held.attempts c.loop.pool.waiting None c.loop.pool.heard c.loop.held.halt (c.loop.invariant.underway away first u))
 
 pub go_on-requires-clause-valid : goal.go_on-requires-clause-valid
 go_on-requires-clause-valid g c κs within =
-    let began = c.requires.underway.1 in let now = c.loop.invariant.underway c.requires.underway.0 began in subst IsValid (sym (now.goes.plan ∙ sym began.goes.plan)) c.requires.valid
+    let began = c.requires.underway.2 in let now = c.loop.invariant.underway c.requires.underway.0 c.requires.underway.1 began in subst IsValid (sym (now.goes.plan ∙ sym began.goes.plan)) c.requires.valid
 
 pub go_on-requires-clause-underway : goal.go_on-requires-clause-underway
-go_on-requires-clause-underway g c κs within = (c.requires.underway.0, c.loop.invariant.underway c.requires.underway.0 c.requires.underway.1)
+go_on-requires-clause-underway g c κs within = (c.requires.underway.0, c.requires.underway.1, c.loop.invariant.underway c.requires.underway.0 c.requires.underway.1 c.requires.underway.2)
 
 pub loop-preserved-then-go_on : goal.loop-preserved-then-go_on
 loop-preserved-then-go_on g c = record {
-  underway = λ first u. c.go_on.ensures.underway first (c.loop.invariant.underway first u);
+  underway = λ away first u. c.go_on.ensures.underway away first (c.loop.invariant.underway away first u);
   line = c.go_on.ensures.line ∙ c.loop.invariant.line;
 }
 
 pub returns-then-out-eq0-clause-underway : goal.returns-then-out-eq0-clause-underway
-returns-then-out-eq0-clause-underway g c first u = c.go_on.ensures.underway first (c.loop.invariant.underway first u)
+returns-then-out-eq0-clause-underway g c away first u = c.go_on.ensures.underway away first (c.loop.invariant.underway away first u)
 
 pub hear-requires-clause-valid : goal.hear-requires-clause-valid
 hear-requires-clause-valid g c κs within =
-    let began = c.requires.underway.1 in
-    let now = c.go_on.ensures.underway c.requires.underway.0 (c.loop.invariant.underway c.requires.underway.0 began) in
+    let began = c.requires.underway.2 in
+    let now = c.go_on.ensures.underway c.requires.underway.0 c.requires.underway.1 (c.loop.invariant.underway c.requires.underway.0 c.requires.underway.1 began) in
     subst IsValid (sym (now.goes.plan ∙ sym began.goes.plan)) c.requires.valid
 
 pub hear-requires-clause-told : goal.hear-requires-clause-told
 hear-requires-clause-told g c κs within =
-    let began = c.requires.underway.1 in
-    let now = c.go_on.ensures.underway c.requires.underway.0 (c.loop.invariant.underway c.requires.underway.0 began) in
+    let began = c.requires.underway.2 in
+    let now = c.go_on.ensures.underway c.requires.underway.0 c.requires.underway.1 (c.loop.invariant.underway c.requires.underway.0 c.requires.underway.1 began) in
     subst (λ (Q : Plan). g.T.Terms.trust → TellsJobs Q (ToldOf g.F.Commands.gives g.F.Commands.may_fail g.B.Terms.fits) (serial Q g.F.Commands.gives g.T.Terms.sources)) (sym (now.goes.plan ∙ sym began.goes.plan)) c.requires.told
 
 pub hear-requires-clause-underway : goal.hear-requires-clause-underway
-hear-requires-clause-underway g c κs within = (c.requires.underway.0, c.go_on.ensures.underway c.requires.underway.0 (c.loop.invariant.underway c.requires.underway.0 c.requires.underway.1))
+hear-requires-clause-underway g c κs within = (c.requires.underway.0, c.requires.underway.1, c.go_on.ensures.underway c.requires.underway.0 c.requires.underway.1 (c.loop.invariant.underway c.requires.underway.0 c.requires.underway.1 c.requires.underway.2))
 
 pub loop-preserved-then-not-hear : goal.loop-preserved-then-not-hear
 loop-preserved-then-not-hear g c = record {
-  underway = λ first u. c.hear.ensures.underway first (c.go_on.ensures.underway first (c.loop.invariant.underway first u));
+  underway = λ away first u. c.hear.ensures.underway away first (c.go_on.ensures.underway away first (c.loop.invariant.underway away first u));
   line = c.hear.ensures.line ∙ (c.go_on.ensures.line ∙ c.loop.invariant.line);
 }
 
 pub loop-preserved : goal.loop-preserved
 loop-preserved g c = record {
-  underway = λ first u. c.hear.ensures.underway first (c.go_on.ensures.underway first (c.loop.invariant.underway first u));
+  underway = λ away first u. c.hear.ensures.underway away first (c.go_on.ensures.underway away first (c.loop.invariant.underway away first u));
   line = c.hear.ensures.line ∙ (c.go_on.ensures.line ∙ c.loop.invariant.line);
 }

@@ -1,11 +1,11 @@
 use Rattle.std.proofs.Common.{◌≡◌, None}
 use Rattle.desk.specs.State.{DeskState}
-use Rattle.local_run.specs.Underway.{IsSurePool, Underway}
+use Rattle.local_run.specs.Underway.{AwayState, IsSurePool, Underway}
 use Rattle.local_run.proofs.serving.serve.Given as goal
 
 abbrev pub invariant-loop : goal.invariant-loop
 invariant-loop g l = record {
-  underway : (first : DeskState g.row.S.Denot) → Underway g.T.Terms.trust g.F.Commands.gives g.F.Commands.may_fail g.T.Terms.sources g.S.Site.tells g.T.Terms.kept (IsSurePool g.B.Terms.fits) g.S.Site.files g.S.Site.may_leave g.S.Site.moment g.S.Site.images_since first l.fn.desk l.fn.held.attempts l.fn.pool.waiting None l.fn.pool.heard l.fn.held.halt
-      → Underway g.T.Terms.trust g.F.Commands.gives g.F.Commands.may_fail g.T.Terms.sources g.S.Site.tells g.T.Terms.kept (IsSurePool g.B.Terms.fits) g.S.Site.files g.S.Site.may_leave g.S.Site.moment g.S.Site.images_since first l.desk l.held.attempts l.pool.waiting None l.pool.heard l.held.halt;
+  underway : (away : AwayState) (first : DeskState g.row.S.Denot) → Underway g.T.Terms.trust g.F.Commands.gives g.F.Commands.may_fail g.T.Terms.sources g.S.Site.tells g.T.Terms.kept (IsSurePool g.B.Terms.fits) g.S.Site.files g.S.Site.may_leave g.S.Site.moment g.S.Site.images_since away first l.fn.desk l.fn.held.attempts l.fn.pool.waiting None l.fn.pool.heard l.fn.held.halt
+      → Underway g.T.Terms.trust g.F.Commands.gives g.F.Commands.may_fail g.T.Terms.sources g.S.Site.tells g.T.Terms.kept (IsSurePool g.B.Terms.fits) g.S.Site.files g.S.Site.may_leave g.S.Site.moment g.S.Site.images_since away first l.desk l.held.attempts l.pool.waiting None l.pool.heard l.held.halt;
   line : l.pool.line ≡ l.fn.pool.line;
 }

@@ -20,7 +20,8 @@ call_beside-requires-clause-takes g c κs within y same = (
         (
           (
             c.requires.underway.0,
-            subst (λ (d : DeskState g.row.S.Denot). Underway g.T.Terms.trust g.F.Commands.gives g.F.Commands.may_fail g.T.Terms.sources g.S.Site.tells g.T.Terms.kept (IsSurePool g.B.Terms.fits) g.S.Site.files g.S.Site.may_leave g.S.Site.moment g.S.Site.images_since c.requires.underway.0 d c.args.held.now.attempts c.args.pool.now.waiting None c.args.pool.now.heard c.args.held.now.halt) (sym same) c.requires.underway.1,
+            c.requires.underway.1,
+            subst (λ (d : DeskState g.row.S.Denot). Underway g.T.Terms.trust g.F.Commands.gives g.F.Commands.may_fail g.T.Terms.sources g.S.Site.tells g.T.Terms.kept (IsSurePool g.B.Terms.fits) g.S.Site.files g.S.Site.may_leave g.S.Site.moment g.S.Site.images_since c.requires.underway.0 c.requires.underway.1 d c.args.held.now.attempts c.args.pool.now.waiting None c.args.pool.now.heard c.args.held.now.halt) (sym same) c.requires.underway.2,
           ),
           search rules,
         ),
@@ -30,10 +31,10 @@ call_beside-requires-clause-takes g c κs within y same = (
 )
 
 pub returns-clause-underway : goal.returns-clause-underway
-returns-clause-underway g c first under =
+returns-clause-underway g c away first under =
     let call = c.call_beside.ensures.called in
-    let began = under_at g.T.Terms.trust g.F.Commands.gives g.F.Commands.may_fail g.T.Terms.sources g.S.Site.tells g.T.Terms.kept (IsSurePool g.B.Terms.fits) g.S.Site.files g.S.Site.may_leave g.S.Site.moment g.S.Site.images_since first _ _ c.args.held.now.attempts c.args.pool.now.waiting c.args.pool.now.heard c.args.held.now.halt (sym call.shows) under in
+    let began = under_at g.T.Terms.trust g.F.Commands.gives g.F.Commands.may_fail g.T.Terms.sources g.S.Site.tells g.T.Terms.kept (IsSurePool g.B.Terms.fits) g.S.Site.files g.S.Site.may_leave g.S.Site.moment g.S.Site.images_since away first _ _ c.args.held.now.attempts c.args.pool.now.waiting c.args.pool.now.heard c.args.held.now.halt (sym call.shows) under in
     let held = c.call_beside.new.call.2.now in
     let pool = c.call_beside.new.call.3.now in
-    under_left g.T.Terms.trust g.F.Commands.gives g.F.Commands.may_fail g.T.Terms.sources g.S.Site.tells g.T.Terms.kept (IsSurePool g.B.Terms.fits) g.S.Site.files g.S.Site.may_leave g.S.Site.moment g.S.Site.images_since first c.call_beside.new.desk held.attempts _ pool.waiting _ pool.heard _ held.halt _ (search rules) (search rules) (search rules) (search rules)
-    (under_at g.T.Terms.trust g.F.Commands.gives g.F.Commands.may_fail g.T.Terms.sources g.S.Site.tells g.T.Terms.kept (IsSurePool g.B.Terms.fits) g.S.Site.files g.S.Site.may_leave g.S.Site.moment g.S.Site.images_since first _ _ held.attempts pool.waiting pool.heard held.halt call.leaves (call.called.met.1.0 first began))
+    under_left g.T.Terms.trust g.F.Commands.gives g.F.Commands.may_fail g.T.Terms.sources g.S.Site.tells g.T.Terms.kept (IsSurePool g.B.Terms.fits) g.S.Site.files g.S.Site.may_leave g.S.Site.moment g.S.Site.images_since away first c.call_beside.new.desk held.attempts _ pool.waiting _ pool.heard _ held.halt _ (search rules) (search rules) (search rules) (search rules)
+    (under_at g.T.Terms.trust g.F.Commands.gives g.F.Commands.may_fail g.T.Terms.sources g.S.Site.tells g.T.Terms.kept (IsSurePool g.B.Terms.fits) g.S.Site.files g.S.Site.may_leave g.S.Site.moment g.S.Site.images_since away first _ _ held.attempts pool.waiting pool.heard held.halt call.leaves (call.called.met.1.0 away first began))

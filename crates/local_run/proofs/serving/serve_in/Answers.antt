@@ -5,7 +5,7 @@ use Rattle.worker_pool.specs.declared.hand.Hand.{Hand}
 use Rattle.worker_pool.specs.declared.hand.Tally.{Tally}
 use Rattle.worker_pool.specs.Pools.{hand_of}
 use Rattle.worker_pool.specs.Tallies.{GrowsWith}
-use Rattle.local_run.specs.Underway.{IsSurePool}
+use Rattle.local_run.specs.Underway.{IsSurePool, none_away}
 use Rattle.local_run.proofs.RunsServed.{begins_at, comes, comes_want}
 use Rattle.local_run.proofs.serving.serve_in.Goals as goal
 
@@ -16,6 +16,7 @@ returns-in_default g c = record {
 
 pub serve_beside-requires-clause-underway : goal.serve_beside-requires-clause-underway
 serve_beside-requires-clause-underway g c κs within = (
+  none_away,
   c.args.desk.now,
   begins_at g.T.Terms.trust g.F.Commands.gives g.F.Commands.may_fail g.T.Terms.sources g.S.Site.tells g.T.Terms.kept (IsSurePool g.B.Terms.fits) g.S.Site.files g.S.Site.may_leave g.S.Site.moment g.S.Site.images_since c.args.desk.now c.new-held.result.attempts c.new-pool.result.0.waiting c.new-pool.result.0.heard c.new-held.result.halt
       c.new-held.ensures.attempts c.new-pool.ensures.pool.0 c.new-pool.ensures.pool.1 c.new-held.ensures.halt (λ told image. (g.met.S.Site g.world.𝓛 g.world.𝓜 g.world.𝓡 ((λ s x. x), (λ x. x), (λ x. x), λ x. x)).only_now told c.args.desk.now.site image) c.requires.fine c.requires.idle,
@@ -25,20 +26,20 @@ pub settle-requires-clause-valid : goal.settle-requires-clause-valid
 settle-requires-clause-valid g c κs within =
     let began = begins_at g.T.Terms.trust g.F.Commands.gives g.F.Commands.may_fail g.T.Terms.sources g.S.Site.tells g.T.Terms.kept (IsSurePool g.B.Terms.fits) g.S.Site.files g.S.Site.may_leave g.S.Site.moment g.S.Site.images_since c.args.desk.now c.new-held.result.attempts c.new-pool.result.0.waiting c.new-pool.result.0.heard c.new-held.result.halt
     c.new-held.ensures.attempts c.new-pool.ensures.pool.0 c.new-pool.ensures.pool.1 c.new-held.ensures.halt (λ told image. (g.met.S.Site g.world.𝓛 g.world.𝓜 g.world.𝓡 ((λ s x. x), (λ x. x), (λ x. x), λ x. x)).only_now told c.args.desk.now.site image) c.requires.fine c.requires.idle in
-    subst IsValid (sym (c.serve_beside.ensures.underway c.args.desk.now began).goes.plan) c.requires.valid
+    subst IsValid (sym (c.serve_beside.ensures.underway none_away c.args.desk.now began).goes.plan) c.requires.valid
 
 pub settle-requires-clause-underway : goal.settle-requires-clause-underway
 settle-requires-clause-underway g c κs within =
     let began = begins_at g.T.Terms.trust g.F.Commands.gives g.F.Commands.may_fail g.T.Terms.sources g.S.Site.tells g.T.Terms.kept (IsSurePool g.B.Terms.fits) g.S.Site.files g.S.Site.may_leave g.S.Site.moment g.S.Site.images_since c.args.desk.now c.new-held.result.attempts c.new-pool.result.0.waiting c.new-pool.result.0.heard c.new-held.result.halt
     c.new-held.ensures.attempts c.new-pool.ensures.pool.0 c.new-pool.ensures.pool.1 c.new-held.ensures.halt (λ told image. (g.met.S.Site g.world.𝓛 g.world.𝓜 g.world.𝓡 ((λ s x. x), (λ x. x), (λ x. x), λ x. x)).only_now told c.args.desk.now.site image) c.requires.fine c.requires.idle in
-    (c.args.desk.now, c.serve_beside.new.pool.waiting, c.serve_beside.new.pool.heard, c.serve_beside.ensures.underway c.args.desk.now began)
+    (none_away, c.args.desk.now, c.serve_beside.new.pool.waiting, c.serve_beside.new.pool.heard, c.serve_beside.ensures.underway none_away c.args.desk.now began)
 
 pub returns : goal.returns
 returns g c =
     let began = begins_at g.T.Terms.trust g.F.Commands.gives g.F.Commands.may_fail g.T.Terms.sources g.S.Site.tells g.T.Terms.kept (IsSurePool g.B.Terms.fits) g.S.Site.files g.S.Site.may_leave g.S.Site.moment g.S.Site.images_since c.args.desk.now c.new-held.result.attempts c.new-pool.result.0.waiting c.new-pool.result.0.heard c.new-held.result.halt
     c.new-held.ensures.attempts c.new-pool.ensures.pool.0 c.new-pool.ensures.pool.1 c.new-held.ensures.halt (λ told image. (g.met.S.Site g.world.𝓛 g.world.𝓜 g.world.𝓡 ((λ s x. x), (λ x. x), (λ x. x), λ x. x)).only_now told c.args.desk.now.site image) c.requires.fine c.requires.idle in
-    let went = c.serve_beside.ensures.underway c.args.desk.now began in
-    let settles = c.settle.ensures.underway c.args.desk.now c.serve_beside.new.pool.waiting c.serve_beside.new.pool.heard went in
+    let went = c.serve_beside.ensures.underway none_away c.args.desk.now began in
+    let settles = c.settle.ensures.underway none_away c.args.desk.now c.serve_beside.new.pool.waiting c.serve_beside.new.pool.heard went in
     let put = (hand_of c.serve_beside.new.token).put in
     record {
       came = comes g.T.Terms.trust g.F.Commands.gives g.F.Commands.may_fail g.T.Terms.sources g.S.Site.tells g.T.Terms.kept (IsSurePool g.B.Terms.fits) g.S.Site.files g.S.Site.may_leave g.S.Site.moment g.S.Site.images_since c.args.desk.now c.serve_beside.new.desk c.settle.new.desk c.serve_beside.new.held.attempts c.serve_beside.new.pool.waiting c.serve_beside.new.pool.heard put c.serve_beside.new.held.halt settles.0 c.settle.result

@@ -8,26 +8,26 @@ use Rattle.local_run.proofs.serving.settle.Goals as goal
 
 pub give_up-halt-requires-clause-valid : goal.give_up-halt-requires-clause-valid
 give_up-halt-requires-clause-valid g c κs within =
-    let began = c.requires.underway.3 in
-    let now = c.loop-attempt.invariant.underway c.requires.underway.0 c.requires.underway.1 c.requires.underway.2 began in
+    let began = c.requires.underway.4 in
+    let now = c.loop-attempt.invariant.underway c.requires.underway.0 c.requires.underway.1 c.requires.underway.2 c.requires.underway.3 began in
     subst IsValid (sym (now.1.goes.plan ∙ sym began.goes.plan)) c.requires.valid
 
 pub give_up-halt-requires-clause-runs : goal.give_up-halt-requires-clause-runs
 give_up-halt-requires-clause-runs g c κs within =
-    let kept = c.loop-attempt.invariant.underway c.requires.underway.0 c.requires.underway.1 c.requires.underway.2 c.requires.underway.3 in
-    let loose = last_loose g.T.Terms.trust g.F.Commands.gives g.F.Commands.may_fail g.T.Terms.sources g.S.Site.tells g.T.Terms.kept (IsSurePool g.B.Terms.fits) g.S.Site.files g.S.Site.may_leave g.S.Site.moment g.S.Site.images_since c.requires.underway.0 c.loop-attempt.desk c.pop.new.self.attempts kept.0 c.in-Some.attempt c.requires.underway.2 c.pop.new.self.halt
-    (subst (λ (h : HeldState). Under g.T.Terms.trust g.F.Commands.gives g.F.Commands.may_fail g.T.Terms.sources g.S.Site.tells g.T.Terms.kept (IsSurePool g.B.Terms.fits) g.S.Site.files g.S.Site.may_leave g.S.Site.moment g.S.Site.images_since c.requires.underway.0 c.loop-attempt.desk h.attempts kept.0 None c.requires.underway.2 h.halt) c.in-Some.ensures.some kept.1) in
+    let kept = c.loop-attempt.invariant.underway c.requires.underway.0 c.requires.underway.1 c.requires.underway.2 c.requires.underway.3 c.requires.underway.4 in
+    let loose = last_loose g.T.Terms.trust g.F.Commands.gives g.F.Commands.may_fail g.T.Terms.sources g.S.Site.tells g.T.Terms.kept (IsSurePool g.B.Terms.fits) g.S.Site.files g.S.Site.may_leave g.S.Site.moment g.S.Site.images_since c.requires.underway.0 c.requires.underway.1 c.loop-attempt.desk c.pop.new.self.attempts kept.0 c.in-Some.attempt c.requires.underway.3 c.pop.new.self.halt
+    (subst (λ (h : HeldState). Under g.T.Terms.trust g.F.Commands.gives g.F.Commands.may_fail g.T.Terms.sources g.S.Site.tells g.T.Terms.kept (IsSurePool g.B.Terms.fits) g.S.Site.files g.S.Site.may_leave g.S.Site.moment g.S.Site.images_since c.requires.underway.0 c.requires.underway.1 c.loop-attempt.desk h.attempts kept.0 None c.requires.underway.3 h.halt) c.in-Some.ensures.some kept.1) in
     loose.1.taken.0
 
 pub loop-attempt-preserved : goal.loop-attempt-preserved
 loop-attempt-preserved g c = record {
-  underway = λ first waiting heard u.
-      let kept = c.loop-attempt.invariant.underway first waiting heard u in
-      let loose = last_loose g.T.Terms.trust g.F.Commands.gives g.F.Commands.may_fail g.T.Terms.sources g.S.Site.tells g.T.Terms.kept (IsSurePool g.B.Terms.fits) g.S.Site.files g.S.Site.may_leave g.S.Site.moment g.S.Site.images_since first c.loop-attempt.desk c.pop.new.self.attempts kept.0 c.in-Some.attempt heard c.pop.new.self.halt
-      (subst (λ (h : HeldState). Under g.T.Terms.trust g.F.Commands.gives g.F.Commands.may_fail g.T.Terms.sources g.S.Site.tells g.T.Terms.kept (IsSurePool g.B.Terms.fits) g.S.Site.files g.S.Site.may_leave g.S.Site.moment g.S.Site.images_since first c.loop-attempt.desk h.attempts kept.0 None heard h.halt) c.in-Some.ensures.some kept.1) in (
+  underway = λ away first waiting heard u.
+      let kept = c.loop-attempt.invariant.underway away first waiting heard u in
+      let loose = last_loose g.T.Terms.trust g.F.Commands.gives g.F.Commands.may_fail g.T.Terms.sources g.S.Site.tells g.T.Terms.kept (IsSurePool g.B.Terms.fits) g.S.Site.files g.S.Site.may_leave g.S.Site.moment g.S.Site.images_since away first c.loop-attempt.desk c.pop.new.self.attempts kept.0 c.in-Some.attempt heard c.pop.new.self.halt
+      (subst (λ (h : HeldState). Under g.T.Terms.trust g.F.Commands.gives g.F.Commands.may_fail g.T.Terms.sources g.S.Site.tells g.T.Terms.kept (IsSurePool g.B.Terms.fits) g.S.Site.files g.S.Site.may_leave g.S.Site.moment g.S.Site.images_since away first c.loop-attempt.desk h.attempts kept.0 None heard h.halt) c.in-Some.ensures.some kept.1) in (
         loose.0,
-        subst (λ (h : HeldState). Under g.T.Terms.trust g.F.Commands.gives g.F.Commands.may_fail g.T.Terms.sources g.S.Site.tells g.T.Terms.kept (IsSurePool g.B.Terms.fits) g.S.Site.files g.S.Site.may_leave g.S.Site.moment g.S.Site.images_since first c.give_up-halt.new.desk h.attempts loose.0 None heard h.halt) (sym c.stop.ensures)
-            (c.give_up-halt.ensures.underway first c.pop.new.self.attempts loose.0 heard c.pop.new.self.halt loose.1 (λ fine. may_want g.S.Site.tells g.T.Terms.kept (IsSurePool g.B.Terms.fits) g.S.Site.files first c.loop-attempt.desk heard)),
+        subst (λ (h : HeldState). Under g.T.Terms.trust g.F.Commands.gives g.F.Commands.may_fail g.T.Terms.sources g.S.Site.tells g.T.Terms.kept (IsSurePool g.B.Terms.fits) g.S.Site.files g.S.Site.may_leave g.S.Site.moment g.S.Site.images_since away first c.give_up-halt.new.desk h.attempts loose.0 None heard h.halt) (sym c.stop.ensures)
+            (c.give_up-halt.ensures.underway away first c.pop.new.self.attempts loose.0 heard c.pop.new.self.halt loose.1 (λ fine. may_want g.S.Site.tells g.T.Terms.kept (IsSurePool g.B.Terms.fits) g.S.Site.files first c.loop-attempt.desk heard)),
       );
   same = λ none.
       let are = ap (λ (h : HeldState). length h.attempts) c.in-Some.ensures.some in
@@ -38,19 +38,19 @@ loop-attempt-preserved g c = record {
 }
 
 pub returns-in-Some-end-clause-underway : goal.returns-in-Some-end-clause-underway
-returns-in-Some-end-clause-underway g c first waiting heard u =
-    let kept = c.loop-attempt.invariant.underway first waiting heard u in
+returns-in-Some-end-clause-underway g c away first waiting heard u =
+    let kept = c.loop-attempt.invariant.underway away first waiting heard u in
     let stood : c.pop.new.self ≡ c.loop-attempt.held = search rules in
     let none : c.pop.new.self.attempts ≡ [] = search rules in
-    let rest = settles_on g.T.Terms.trust g.F.Commands.gives g.F.Commands.may_fail g.T.Terms.sources g.S.Site.tells g.T.Terms.kept (IsSurePool g.B.Terms.fits) g.S.Site.files g.S.Site.may_leave g.S.Site.moment g.S.Site.images_since first c.loop-attempt.desk c.pop.new.self.attempts kept.0 heard c.pop.new.self.halt none
-    (subst (λ (h : HeldState). Under g.T.Terms.trust g.F.Commands.gives g.F.Commands.may_fail g.T.Terms.sources g.S.Site.tells g.T.Terms.kept (IsSurePool g.B.Terms.fits) g.S.Site.files g.S.Site.may_leave g.S.Site.moment g.S.Site.images_since first c.loop-attempt.desk h.attempts kept.0 None heard h.halt) (sym stood) kept.1) in
-    (Some c.in-Some-end.why, refl, subst (λ (halt : Option Halt). Under g.T.Terms.trust g.F.Commands.gives g.F.Commands.may_fail g.T.Terms.sources g.S.Site.tells g.T.Terms.kept (IsSurePool g.B.Terms.fits) g.S.Site.files g.S.Site.may_leave g.S.Site.moment g.S.Site.images_since first c.loop-attempt.desk [] [] None heard halt) (sym c.in-Some-end.ensures) rest)
+    let rest = settles_on g.T.Terms.trust g.F.Commands.gives g.F.Commands.may_fail g.T.Terms.sources g.S.Site.tells g.T.Terms.kept (IsSurePool g.B.Terms.fits) g.S.Site.files g.S.Site.may_leave g.S.Site.moment g.S.Site.images_since away first c.loop-attempt.desk c.pop.new.self.attempts kept.0 heard c.pop.new.self.halt none
+    (subst (λ (h : HeldState). Under g.T.Terms.trust g.F.Commands.gives g.F.Commands.may_fail g.T.Terms.sources g.S.Site.tells g.T.Terms.kept (IsSurePool g.B.Terms.fits) g.S.Site.files g.S.Site.may_leave g.S.Site.moment g.S.Site.images_since away first c.loop-attempt.desk h.attempts kept.0 None heard h.halt) (sym stood) kept.1) in
+    (Some c.in-Some-end.why, refl, subst (λ (halt : Option Halt). Under g.T.Terms.trust g.F.Commands.gives g.F.Commands.may_fail g.T.Terms.sources g.S.Site.tells g.T.Terms.kept (IsSurePool g.B.Terms.fits) g.S.Site.files g.S.Site.may_leave g.S.Site.moment g.S.Site.images_since away first c.loop-attempt.desk [] [] None heard halt) (sym c.in-Some-end.ensures) rest)
 
 pub returns-in-None-clause-underway : goal.returns-in-None-clause-underway
-returns-in-None-clause-underway g c first waiting heard u =
-    let kept = c.loop-attempt.invariant.underway first waiting heard u in
+returns-in-None-clause-underway g c away first waiting heard u =
+    let kept = c.loop-attempt.invariant.underway away first waiting heard u in
     let stood : c.pop.new.self ≡ c.loop-attempt.held = search rules in
     let none : c.pop.new.self.attempts ≡ [] = search rules in
-    let rest = settles_on g.T.Terms.trust g.F.Commands.gives g.F.Commands.may_fail g.T.Terms.sources g.S.Site.tells g.T.Terms.kept (IsSurePool g.B.Terms.fits) g.S.Site.files g.S.Site.may_leave g.S.Site.moment g.S.Site.images_since first c.loop-attempt.desk c.pop.new.self.attempts kept.0 heard c.pop.new.self.halt none
-    (subst (λ (h : HeldState). Under g.T.Terms.trust g.F.Commands.gives g.F.Commands.may_fail g.T.Terms.sources g.S.Site.tells g.T.Terms.kept (IsSurePool g.B.Terms.fits) g.S.Site.files g.S.Site.may_leave g.S.Site.moment g.S.Site.images_since first c.loop-attempt.desk h.attempts kept.0 None heard h.halt) (sym stood) kept.1) in
-    (None, refl, subst (λ (halt : Option Halt). Under g.T.Terms.trust g.F.Commands.gives g.F.Commands.may_fail g.T.Terms.sources g.S.Site.tells g.T.Terms.kept (IsSurePool g.B.Terms.fits) g.S.Site.files g.S.Site.may_leave g.S.Site.moment g.S.Site.images_since first c.loop-attempt.desk [] [] None heard halt) (sym c.in-None.ensures) rest)
+    let rest = settles_on g.T.Terms.trust g.F.Commands.gives g.F.Commands.may_fail g.T.Terms.sources g.S.Site.tells g.T.Terms.kept (IsSurePool g.B.Terms.fits) g.S.Site.files g.S.Site.may_leave g.S.Site.moment g.S.Site.images_since away first c.loop-attempt.desk c.pop.new.self.attempts kept.0 heard c.pop.new.self.halt none
+    (subst (λ (h : HeldState). Under g.T.Terms.trust g.F.Commands.gives g.F.Commands.may_fail g.T.Terms.sources g.S.Site.tells g.T.Terms.kept (IsSurePool g.B.Terms.fits) g.S.Site.files g.S.Site.may_leave g.S.Site.moment g.S.Site.images_since away first c.loop-attempt.desk h.attempts kept.0 None heard h.halt) (sym stood) kept.1) in
+    (None, refl, subst (λ (halt : Option Halt). Under g.T.Terms.trust g.F.Commands.gives g.F.Commands.may_fail g.T.Terms.sources g.S.Site.tells g.T.Terms.kept (IsSurePool g.B.Terms.fits) g.S.Site.files g.S.Site.may_leave g.S.Site.moment g.S.Site.images_since away first c.loop-attempt.desk [] [] None heard halt) (sym c.in-None.ensures) rest)
