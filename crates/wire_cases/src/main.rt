@@ -1,4 +1,4 @@
-//! Frames, messages, a cache, a worker and a session by a table of cases, one a line.
+//! Frames, messages, a cache, a worker, a session and a peer by a table of cases, one a line.
 //!
 //! `== TITLE` is printed as it stands. `body HEX` tells what a body says and is written as; `stream
 //! HEX | HEX | ..` what a feeder answers after each piece; `changes HEX` tries each other value of
@@ -7,12 +7,17 @@
 //! `holds`, `pin`, `unpin` and `unlink` with RUN FILE), or of that worker: `hello`, `hears HEX` and
 //! `reports ATTEMPT success HEX ..` (or `status N`, or `none`). `session RUN` begins a session; the
 //! lines below it are its calls: `start HEX` with a task, `peer HEX` with what the peer sends,
-//! `cancel ATTEMPT` and `dropped FILE`.
+//! `cancel ATTEMPT` and `dropped FILE`. `link RUN; STEP; ..` begins a peer over a link that takes
+//! these steps: `give HEX`, `idle`, `close`, `fail` and `failsend`. The lines `call ..` below it are
+//! the peer's calls: `listen`, `hear`, `open HEX` and `ask HEX` with a task, `put RUN FILE HEX`,
+//! `cancel ATTEMPT`, `unlink FILE`, `bye`, `has ATTEMPT`, `idles` and `faults`. `ended` tells in hex
+//! all that was sent.
 #![tactic(auto)]
 
 mod bodies;
 mod changes;
 mod hex_words;
+mod peer_calls;
 mod sessions;
 mod streams;
 mod text;
@@ -21,6 +26,7 @@ mod workers;
 use crate::bodies::shown_body;
 use crate::changes::shown_changes;
 use crate::hex_words::bytes_of;
+use crate::peer_calls::{called, ended, met};
 use crate::sessions::{cancels, drops, starts, told};
 use crate::streams::shown_stream;
 use crate::text::shown_message;
@@ -93,6 +99,9 @@ fn answer(alloc: Global, room: &mut Room, line: &str) -> Result<String, AllocErr
         "hears" => hears(alloc, &mut room.worker, rest),
         "session" => begin_session(alloc, room, rest),
         "start" | "peer" | "cancel" | "dropped" => of_session(alloc, &mut room.session, word, rest),
+        "link" => met(alloc, &mut room.peer, rest),
+        "call" => called(alloc, &mut room.peer, rest),
+        "ended" => ended(alloc, &mut room.peer),
         _ => of_words(alloc, room, line),
     }
 }

@@ -6,11 +6,13 @@ use link_session::{Session, SessionFault, Word};
 use std::alloc::{AllocError, Global};
 use wq_messages::read_message;
 
-fn said(alloc: Global, word: &str) -> Result<String, AllocError> {
+/// A word alone.
+pub fn said(alloc: Global, word: &str) -> Result<String, AllocError> {
     String::from_str(alloc, word)
 }
 
-fn shown_files(alloc: Global, before: &str, files: &[FileNo]) -> Result<String, AllocError> {
+/// The numbers of files, behind a word.
+pub fn shown_files(alloc: Global, before: &str, files: &[FileNo]) -> Result<String, AllocError> {
     let mut text = said(alloc, before)?;
     for file in files {
         let file = file.0;
@@ -43,7 +45,8 @@ pub fn starts(alloc: Global, session: &mut Session, digits: &str) -> Result<Stri
     }
 }
 
-fn about(alloc: Global, word: &str, attempt: AttemptNo) -> Result<String, AllocError> {
+/// A word and the number of an attempt.
+pub fn about(alloc: Global, word: &str, attempt: AttemptNo) -> Result<String, AllocError> {
     let attempt = attempt.0;
     format!(in alloc; "{word} {attempt}")
 }

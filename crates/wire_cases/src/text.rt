@@ -33,7 +33,8 @@ pub fn shown_offer(
     format!(in alloc; "{word} {total} {largest} {cache}")
 }
 
-fn shown_content(alloc: Global, content: &[u8]) -> Result<String, AllocError> {
+/// Bytes in hex, none as `-`.
+pub fn shown_content(alloc: Global, content: &[u8]) -> Result<String, AllocError> {
     if content.is_empty() {
         return String::from_str(alloc, "-");
     }
@@ -108,7 +109,8 @@ pub fn shown_failure(alloc: Global, why: Failure) -> Result<String, AllocError> 
     }
 }
 
-fn shown_contents(alloc: Global, contents: &[Bytes]) -> Result<String, AllocError> {
+/// A success with its contents.
+pub fn shown_contents(alloc: Global, contents: &[Bytes]) -> Result<String, AllocError> {
     let mut text = String::from_str(alloc, "success")?;
     for content in contents {
         let content = shown_content(alloc, content.as_slice())?;

@@ -1,5 +1,6 @@
 //! A cache and a worker, step by step.
 use crate::hex_words::bytes_of;
+use crate::peer_calls::Met;
 use crate::text::{shown_message, shown_start};
 use flow_types::{Amounts, AttemptNo, Bytes, Failure, FileNo, Key, Memory, Outcome, Rows};
 use link_session::Session;
@@ -8,17 +9,18 @@ use worker_cache::{Cache, PutRefused};
 use worker_core::{Acts, WorkerCore};
 use wq_messages::{PeerFault, read_message};
 
-/// The cache, the worker and the session that the lines speak of.
+/// The cache, the worker, the session and the peer that the lines speak of.
 #[derive(Drop)]
 pub struct Room {
     pub cache: Cache,
     pub worker: WorkerCore,
     pub session: Session,
+    pub peer: Option<Met>,
 }
 
 impl Room {
-    /// A cache of so many bytes, a worker of 4 cores with a cache of as many, and a session of run
-    /// 0.
+    /// A cache of so many bytes, a worker of 4 cores with a cache of as many, a session of run 0,
+    /// and no peer.
     pub fn new(alloc: Global, cap: u64) -> Room {
         let total = Amounts {
             cores: 4,
@@ -29,6 +31,7 @@ impl Room {
             cache: Cache::new(alloc, cap),
             worker: WorkerCore::new(alloc, total, cap),
             session: Session::new(alloc, 0),
+            peer: None,
         }
     }
 }
