@@ -133,12 +133,7 @@ fn shown_sent(alloc: Global, answer: Result<(), Leave>, word: &str) -> Result<St
 }
 
 // Opens or asks the task that a body in hex spells.
-fn of_task(
-    alloc: Global,
-    peer: &mut Met,
-    word: &str,
-    digits: &str,
-) -> Result<String, AllocError> {
+fn of_task(alloc: Global, peer: &mut Met, word: &str, digits: &str) -> Result<String, AllocError> {
     let body = bytes_of(alloc, digits)?;
     if body.len() > MOST_BODY {
         return said(alloc, "too long");
@@ -196,7 +191,14 @@ fn unlinks(alloc: Global, peer: &mut Met, file: &str) -> Result<String, AllocErr
 
 fn has(alloc: Global, peer: &Met, attempt: &str) -> Result<String, AllocError> {
     let attempt = AttemptNo(attempt.parse::<u64>().unwrap_or(0));
-    said(alloc, if peer.has(attempt) { "open" } else { "not open" })
+    said(
+        alloc,
+        if peer.has(attempt) {
+            "open"
+        } else {
+            "not open"
+        },
+    )
 }
 
 // How often the link was idle, or how often it failed.
