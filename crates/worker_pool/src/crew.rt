@@ -3,6 +3,7 @@ ghost use Rattle.std.specs.Prelude.{◌≡◌, ◌≤◌, ◌<◌, ◌-◌, ◌/
 ghost use Rattle.std.specs.Thread.{IsSync};
 ghost use Rattle.crossbeam_queue.specs.Passes.{view, IsPassOf, IsSamePass};
 ghost use Rattle.worker_pool.specs.Courses.{MayReport};
+ghost use Rattle.worker_pool.specs.Crews.{AllSure};
 ghost use Rattle.worker_pool.specs.Hands.{Crew};
 ghost use Rattle.worker_pool.specs.Tallies.{plus, GrowsWith};
 
@@ -31,6 +32,7 @@ fn work_first<B: Terms, F: Commands, W: Wait, R: Runner<F>, G: Gate>(
     ensures counted { GrowsWith (view token.old).put (view token.new).put
         (sum_by R.count runners.old) (sum_by R.count runners.new)
         (sum_by R.failures runners.old) (sum_by R.failures runners.new) }
+    ensures sure { AllSure R.sure runners.old → AllSure R.sure runners.new }
 {
     if let Some(runner) = runners.first_mut() {
         work::<B, F, W, R, G>(rt, line, token, runner, gate);
@@ -55,6 +57,7 @@ pub fn work_all<
     ensures counted { GrowsWith (view token.old).put (view token.new).put
         (sum_by R.count runners.old) (sum_by R.count runners.new)
         (sum_by R.failures runners.old) (sum_by R.failures runners.new) }
+    ensures sure { AllSure R.sure runners.old → AllSure R.sure runners.new }
 {
     if runners.len() <= 1 {
         work_first::<B, F, W, R, G>(rt, line, gate, token, runners);
@@ -89,6 +92,7 @@ fn work_halves<
         (plus (view token.new).put (view other.new).put)
         (sum_by R.count runners.old) (sum_by R.count runners.new)
         (sum_by R.failures runners.old) (sum_by R.failures runners.new) }
+    ensures sure { AllSure R.sure runners.old → AllSure R.sure runners.new }
 {
     let (front, back) = runners.split_at_mut(runners.len() / 2);
     join_mut(
@@ -104,6 +108,7 @@ fn work_halves<
             ensures counted { GrowsWith (view other.entry.now).put (view other.exit.now).put
                 (sum_by R.count front.entry.now) (sum_by R.count front.exit.now)
                 (sum_by R.failures front.entry.now) (sum_by R.failures front.exit.now) }
+            ensures sure { AllSure R.sure front.entry.now → AllSure R.sure front.exit.now }
         { work_all::<B, F, W, R, G>(rt, line, gate, other, front) },
         &mut ||
             requires rows { IsSync W.row }
@@ -116,6 +121,7 @@ fn work_halves<
             ensures counted { GrowsWith (view token.entry.now).put (view token.exit.now).put
                 (sum_by R.count back.entry.now) (sum_by R.count back.exit.now)
                 (sum_by R.failures back.entry.now) (sum_by R.failures back.exit.now) }
+            ensures sure { AllSure R.sure back.entry.now → AllSure R.sure back.exit.now }
         { work_all::<B, F, W, R, G>(rt, line, gate, token, back) },
     );
 }
