@@ -134,6 +134,13 @@ impl<F: Commands, L: Link<F>> Peer<F, L> {
         self.session.has(attempt)
     }
 
+    /// Whether `listen` would answer at once with more than that nothing came.
+    pub fn ready(&mut self) -> bool
+        ensures { self.new ≡ self.old }
+    {
+        self.way.ready()
+    }
+
     /// Waits a while for bytes. After an error the link is to be left.
     pub fn listen(&mut self, alloc: Global) -> Result<Listened, Leave>
         ensures session { self.new.session ≡ self.old.session }
