@@ -9,7 +9,6 @@ use Rattle.flow_types.specs.Names.{most_name_bytes, name_of}
 use Rattle.flow_types.specs.declared.numbers.Amounts.{Amounts}
 use Rattle.command_words.specs.Command.{command}
 use Rattle.command_words.specs.Values.{number, optional_number, flag}
-use Rattle.command_words.specs.Unbuilt.{asks_unbuilt}
 use Rattle.command_words.specs.declared.options.Transport.{Transport}
 use Rattle.command_words.specs.declared.options.Transport.TheVariants.{Local, WorkQueue}
 use Rattle.command_words.specs.declared.options.Mode.{Mode}
@@ -129,7 +128,6 @@ options_in rows = do
     work = work;
     flow = flow;
     log = log;
-    unbuilt = asks_unbuilt rows;
   })
 
 -- what the words choose by this command, none where they are no command line of it

@@ -1,8 +1,10 @@
 -- Worked command lines.
-use Rattle.std.specs.Prelude.{◌≡◌, ℕ, Bool, true, false, List, [], ◌∷◌, Option, None, Some, option_map, codes, is_some}
+use Rattle.std.specs.Prelude.{◌≡◌, ℕ, Bool, false, List, [], ◌∷◌, Option, None, Some, option_map, codes, is_some}
 use Rattle.clap.specs.Walk.{Text}
 use Rattle.command_words.specs.Choices.{options_of}
 use Rattle.command_words.specs.Peers.{foreman_options_of, worker_options_of}
+use Rattle.command_words.specs.declared.options.Transport.{Transport}
+use Rattle.command_words.specs.declared.options.Transport.TheVariants.{Local, WorkQueue}
 
 -- a command line of `makeflow` with these words behind the program's name
 abbrev makeflow : List Text → List Text
@@ -20,9 +22,13 @@ jobs words = option_map (λ o. o.service.jobs) (options_of (makeflow words))
 abbrev log : List Text → Option Text
 log words = option_map (λ o. o.log) (options_of (makeflow words))
 
--- whether an option is given that isn't built yet
-abbrev unbuilt : List Text → Option Bool
-unbuilt words = option_map (λ o. o.unbuilt) (options_of (makeflow words))
+-- where jobs run, and the port at which workers are met
+abbrev service : List Text → Option (Transport × ℕ)
+service words = option_map (λ o. (o.service.transport, o.service.port)) (options_of (makeflow words))
+
+-- how often the wait for workers may end with nothing heard
+abbrev idle_limit : List Text → Option ℕ
+idle_limit words = option_map (λ o. o.limits.idle) (options_of (makeflow words))
 
 -- the worker's cache
 abbrev worker_cache : List Text → Option ℕ
@@ -42,6 +48,9 @@ CommandLines =
     × (log (codes "./a//flow" ∷ []) ≡ Some (codes "a/flow.makeflowlog"))
     × (log (codes "-l=-x" ∷ codes "--" ∷ codes "-flow" ∷ []) ≡ Some (codes "-x"))
     × (log (codes "--generate=3" ∷ []) ≡ Some (codes "generated.makeflowlog"))
+    × (service (codes "flow" ∷ []) ≡ Some (Local, 9123))
+    × (service (codes "-T" ∷ codes "wq" ∷ codes "-p19123" ∷ codes "flow" ∷ []) ≡ Some (WorkQueue, 19123))
+    × (idle_limit (codes "-T" ∷ codes "wq" ∷ codes "--idle-limit" ∷ codes "3" ∷ codes "flow" ∷ []) ≡ Some 3)
 
 -- words that are none
 abbrev pub NoCommandLines : Type 0
@@ -55,18 +64,6 @@ NoCommandLines =
     × (is_command_line (codes "--generate" ∷ codes "3" ∷ codes "flow" ∷ []) ≡ false)
     × (is_command_line (codes "-c" ∷ codes "--print-log" ∷ codes "flow" ∷ []) ≡ false)
     × (is_command_line (codes "--help" ∷ []) ≡ false)
-
--- what isn't built yet goes by what is given: a default that is given doesn't count, nor does what goes by the log
-abbrev pub UnbuiltCommandLines : Type 0
-UnbuiltCommandLines =
-    (unbuilt (codes "-j2" ∷ codes "flow" ∷ []) ≡ Some false)
-    × (unbuilt (codes "-g" ∷ codes "none" ∷ codes "-T" ∷ codes "local" ∷ codes "flow" ∷ []) ≡ Some false)
-    × (unbuilt (codes "-r" ∷ codes "2" ∷ codes "-l" ∷ codes "log" ∷ codes "-c" ∷ codes "flow" ∷ []) ≡ Some false)
-    × (unbuilt (codes "--jx" ∷ codes "--print-log" ∷ codes "flow" ∷ []) ≡ Some false)
-    × (unbuilt (codes "-g" ∷ codes "on_demand" ∷ codes "flow" ∷ []) ≡ Some false)
-    × (unbuilt (codes "--storage-limit" ∷ codes "0" ∷ codes "-c" ∷ codes "flow" ∷ []) ≡ Some false)
-    × (unbuilt (codes "-T" ∷ codes "wq" ∷ codes "flow" ∷ []) ≡ Some true)
-    × (unbuilt (codes "--generate" ∷ codes "3" ∷ []) ≡ Some false)
 
 -- command lines of the worker and the foreman
 abbrev pub PeerCommandLines : Type 0

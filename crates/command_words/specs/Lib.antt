@@ -1,7 +1,6 @@
 pub mod Found
 pub mod Numbers
 pub mod Values
-pub mod Unbuilt
 pub mod Command
 pub mod Choices
 pub mod Peers

@@ -1,6 +1,5 @@
 //! Worked command lines, which the definitions decide.
-ghost use Rattle.command_words.specs.Examples.{CommandLines, NoCommandLines};
-ghost use Rattle.command_words.specs.Examples.{UnbuiltCommandLines, PeerCommandLines};
+ghost use Rattle.command_words.specs.Examples.{CommandLines, NoCommandLines, PeerCommandLines};
 
 /// Command lines of `makeflow`, and what they choose.
 pub fn command_lines()
@@ -10,11 +9,6 @@ pub fn command_lines()
 /// Words that are no command line of `makeflow`.
 pub fn words_that_are_no_command_line()
     ensures { NoCommandLines }
-{}
-
-/// Which command lines give an option that isn't built yet.
-pub fn unbuilt_command_lines()
-    ensures { UnbuiltCommandLines }
 {}
 
 /// Command lines of `work_queue_worker` and `work_queue_foreman`.

@@ -18,15 +18,12 @@ mod names;
 mod numbers;
 mod options;
 mod peers;
-mod unbuilt;
 mod values;
 mod words;
 
 pub use choices::language_in;
 pub use command::{with_long_flag, with_place};
-pub use examples::{
-    command_lines, peer_command_lines, unbuilt_command_lines, words_that_are_no_command_line,
-};
+pub use examples::{command_lines, peer_command_lines, words_that_are_no_command_line};
 pub use fault::WordsFault;
 pub use names::name_of;
 pub use numbers::number_in;

@@ -91,8 +91,6 @@ pub struct Options {
     pub flow: Flow,
     /// The log's name, by `-l`: by default FILE and `.makeflowlog`, or `generated.makeflowlog`.
     pub log: Name,
-    /// Whether an option is given that isn't built yet.
-    pub unbuilt: bool,
 }
 
 /// What a command line of `work_queue_worker` chooses.

@@ -8,14 +8,12 @@ ghost use Rattle.command_words.specs.Command.{is_plain};
 ghost use Rattle.command_words.specs.Choices.{options_in, options_of, chosen_by};
 ghost use Rattle.command_words.specs.Found.{rows_in};
 ghost use Rattle.command_words.specs.Ranges.{IsInRange};
-ghost use Rattle.command_words.specs.Unbuilt.{IsBuilt};
 
 use crate::choices::{limits_in, local_amounts_in, mode_in, service_in, work_in};
 use crate::command::command_of;
 use crate::fault::WordsFault;
 use crate::names::{flow_in, log_in};
 use crate::options::Options;
-use crate::unbuilt::asks_unbuilt;
 use clap::error::ErrorKind;
 use clap::{ArgMatches, Command};
 use std::alloc::Global;
@@ -25,7 +23,6 @@ fn options_in(alloc: Global, matches: &ArgMatches<'_>) -> Result<Options, WordsF
     ensures ok { IfOk result (λ options. options_in (rows_in matches.now) ≡ Some options) }
     ensures usage { IsErrOf result WordsFault.Usage → options_in (rows_in matches.now) ≡ None }
     ensures range { IfOk result IsInRange }
-    ensures built { IfOk result (λ options. options.unbuilt ≡ false → IsBuilt options) }
 {
     let Some(service) = service_in(matches) else {
         return Err(WordsFault::Usage);
@@ -52,7 +49,6 @@ fn options_in(alloc: Global, matches: &ArgMatches<'_>) -> Result<Options, WordsF
         work,
         flow,
         log,
-        unbuilt: asks_unbuilt(matches),
     })
 }
 
@@ -89,7 +85,6 @@ fn options_by<'a>(
     ensures usage { IsErrOf result WordsFault.Usage →
         chosen_by (app_of command.entry) options_in (map string_bytes words.entry.now) ≡ None }
     ensures range { IfOk result IsInRange }
-    ensures built { IfOk result (λ options. options.unbuilt ≡ false → IsBuilt options) }
 {
     let matches = parse(command, words)?;
     options_in(alloc, &matches)
@@ -102,7 +97,6 @@ pub fn read_words(alloc: Global, words: &[String]) -> Result<Options, WordsFault
     ensures usage { IsErrOf result WordsFault.Usage →
         options_of (map string_bytes words.now) ≡ None }
     ensures range { IfOk result IsInRange }
-    ensures built { IfOk result (λ options. options.unbuilt ≡ false → IsBuilt options) }
 {
     let command = command_of(alloc)?;
     options_by(alloc, command, words)

@@ -97,8 +97,7 @@ fn shown_options(alloc: Global, options: &Options) -> Result<String, AllocError>
     let (mode, work) = (mode_word(options.mode), work_word(options.work));
     let flow = shown_flow(alloc, &options.flow)?;
     let log = shown_name(alloc, &options.log)?;
-    let built = if options.unbuilt { "unbuilt" } else { "built" };
-    format!(in alloc; "{service}; {limits}; {local}; {mode} {work}; {flow}; {log}; {built}")
+    format!(in alloc; "{service}; {limits}; {local}; {mode} {work}; {flow}; {log}")
 }
 
 fn shown_worker(alloc: Global, options: &WorkerOptions) -> Result<String, AllocError> {
