@@ -1,9 +1,9 @@
 -- The kinds of causes, their exit statuses, and what a call that ended so may have done.
 use Rattle.std.specs.Prelude.{ℕ, Bool, true, false}
 use Rattle.report.specs.declared.cause.Cause.{Cause}
-use Rattle.report.specs.declared.cause.Cause.TheVariants.{Complete, Cleaned, Printed, CommandFailed, Usage, FlowMissing, FlowRefused, LogNameTaken, Unbuilt, NeedsTooMuch, LogDamaged, OtherFlow, NotLegal, StoredAboveLimit, SourceMissing, SourceTooLarge, SourceChanged, FileDamaged, SiteFault, RunnerFault, SinkFault, NoRoom, InputsTooLarge, Memory, LogFull}
+use Rattle.report.specs.declared.cause.Cause.TheVariants.{Complete, Cleaned, Printed, CommandFailed, Usage, FlowMissing, FlowRefused, LogNameTaken, NeedsTooMuch, LogDamaged, OtherFlow, NotLegal, StoredAboveLimit, SourceMissing, SourceTooLarge, SourceChanged, FileDamaged, SiteFault, RunnerFault, HallFault, SinkFault, NoRoom, InputsTooLarge, Waited, Memory, LogFull}
 use Rattle.report.specs.declared.cause.Kind.{Kind}
-use Rattle.report.specs.declared.cause.Kind.TheVariants.{Completed, Told, LogPrinted, RuleFailed, WrongWords, WrongFlow, WrongLog, WrongFile, PastLimit, LogFilled, SiteBroke, RunnerBroke, SinkBroke, NoMemory}
+use Rattle.report.specs.declared.cause.Kind.TheVariants.{Completed, Told, LogPrinted, RuleFailed, WrongWords, WrongFlow, WrongLog, WrongFile, PastLimit, LogFilled, SiteBroke, RunnerBroke, HallBroke, SinkBroke, WaitedOut, NoMemory}
 
 -- the kind of a cause
 abbrev pub kind_of : Cause → Kind
@@ -15,7 +15,6 @@ kind_of Usage = WrongWords
 kind_of (FlowMissing name) = WrongFlow
 kind_of (FlowRefused flow fault) = WrongFlow
 kind_of (LogNameTaken file) = WrongFlow
-kind_of (Unbuilt line) = WrongFlow
 kind_of (NeedsTooMuch rule need total) = WrongFlow
 kind_of (LogDamaged at) = WrongLog
 kind_of (OtherFlow logged found) = WrongLog
@@ -27,9 +26,11 @@ kind_of (SourceChanged file logged found) = WrongFile
 kind_of (FileDamaged file logged found) = WrongFile
 kind_of (SiteFault before after) = SiteBroke
 kind_of (RunnerFault before after) = RunnerBroke
+kind_of (HallFault before after) = HallBroke
 kind_of (SinkFault before after) = SinkBroke
 kind_of (NoRoom rule need stored limit) = PastLimit
 kind_of (InputsTooLarge rule total) = PastLimit
+kind_of (Waited wait) = WaitedOut
 kind_of Memory = NoMemory
 kind_of (LogFull records) = LogFilled
 
@@ -45,8 +46,10 @@ status_of_kind WrongLog = 4
 status_of_kind WrongFile = 4
 status_of_kind SiteBroke = 5
 status_of_kind RunnerBroke = 5
+status_of_kind HallBroke = 5
 status_of_kind SinkBroke = 5
 status_of_kind PastLimit = 6
+status_of_kind WaitedOut = 7
 status_of_kind NoMemory = 8
 status_of_kind LogFilled = 9
 
@@ -73,14 +76,16 @@ is_end Told = true
 is_end LogPrinted = true
 is_end RuleFailed = true
 is_end PastLimit = true
+is_end WaitedOut = true
 is_end LogFilled = true
 is_end _ = false
 
--- a run that was stopped at once: by a file that isn't what it has to be, by what runs the commands, by the folder or by want of memory
+-- a run that was stopped at once: by a file that isn't what it has to be, by what runs the commands, by the network where workers are met, by the folder or by want of memory
 abbrev pub is_stopped : Kind → Bool
 is_stopped WrongFile = true
 is_stopped SiteBroke = true
 is_stopped RunnerBroke = true
+is_stopped HallBroke = true
 is_stopped NoMemory = true
 is_stopped _ = false
 
@@ -100,7 +105,7 @@ was_read SiteBroke = false
 was_read NoMemory = false
 was_read _ = true
 
--- only where a call ended so an attempt was given up
+-- only where a call ended so an attempt on this machine was given up
 abbrev pub may_lose : Kind → Bool
 may_lose kind = is_stopped kind
 

@@ -20,7 +20,7 @@ use Rattle.jx_flow.specs.declared.fault.JxFlowFault.{JxFlowFault}
 use Rattle.jx_flow.specs.declared.fault.JxFlowFault.TheVariants as jx
 use Rattle.report.specs.declared.cause.FlowFault.TheVariants.{Make, Jx, Graph}
 use Rattle.report.specs.declared.cause.Cause.{Cause}
-use Rattle.report.specs.declared.cause.Cause.TheVariants.{Complete, Cleaned, Printed, CommandFailed, Usage, FlowMissing, FlowRefused, LogNameTaken, Unbuilt, NeedsTooMuch, LogDamaged, OtherFlow, NotLegal, StoredAboveLimit, SourceMissing, SourceTooLarge, SourceChanged, FileDamaged, SiteFault, RunnerFault, SinkFault, NoRoom, InputsTooLarge, Memory, LogFull}
+use Rattle.report.specs.declared.cause.Cause.TheVariants.{Complete, Cleaned, Printed, CommandFailed, Usage, FlowMissing, FlowRefused, LogNameTaken, NeedsTooMuch, LogDamaged, OtherFlow, NotLegal, StoredAboveLimit, SourceMissing, SourceTooLarge, SourceChanged, FileDamaged, SiteFault, RunnerFault, HallFault, SinkFault, NoRoom, InputsTooLarge, Waited, Memory, LogFull}
 use Rattle.report.specs.Causes.{kind_of, is_printed}
 
 -- the plan's name of a file; no bytes where the plan has no such file
@@ -143,6 +143,10 @@ room_text rule need stored limit = codes "no room for rule " ++ decimal rule ++ 
 abbrev pub inputs_text : ℕ → ℕ → List ℕ
 inputs_text rule total = codes "inputs of rule " ++ decimal rule ++ (codes " too large: " ++ decimal total)
 
+-- for which rule nobody came, and for how many idle looks
+abbrev pub wait_text : ℕ → ℕ → List ℕ
+wait_text idles rule = codes "waited, " ++ decimal idles ++ (codes " idle, rule " ++ decimal rule)
+
 -- what is said of a file that no rule makes
 abbrev pub source_text : Plan → ℕ → List ℕ → List ℕ
 source_text plan file what = codes "source " ++ file_name plan file ++ what
@@ -158,7 +162,6 @@ text_of plan Usage = codes "usage: makeflow [options] FILE"
 text_of plan (FlowMissing name) = codes "no flow file " ++ name
 text_of plan (FlowRefused flow fault) = flow ++ codes ": " ++ fault_text fault
 text_of plan (LogNameTaken file) = codes "the log's name is in the flow"
-text_of plan (Unbuilt line) = codes "line " ++ decimal line ++ codes ": not built yet"
 text_of plan (NeedsTooMuch rule need total) = needs_text rule.0 need total
 text_of plan (LogDamaged at) = codes "log damaged at " ++ decimal at
 text_of plan (OtherFlow logged found) = codes "the log is of another flow"
@@ -170,9 +173,11 @@ text_of plan (SourceChanged file logged found) = source_text plan file.0 (codes 
 text_of plan (FileDamaged file logged found) = codes "file " ++ file_name plan file.0 ++ codes " damaged"
 text_of plan (SiteFault before after) = codes "folder fault"
 text_of plan (RunnerFault before after) = codes "runner fault"
+text_of plan (HallFault before after) = codes "network fault"
 text_of plan (SinkFault before after) = []
 text_of plan (NoRoom rule need stored limit) = room_text rule.0 need stored limit
 text_of plan (InputsTooLarge rule total) = inputs_text rule.0 total
+text_of plan (Waited wait) = wait_text wait.idles wait.rule.0
 text_of plan Memory = codes "out of memory"
 text_of plan (LogFull records) = codes "log full"
 

@@ -9,7 +9,7 @@ use flow_types::{Bytes, Content, Digest, Failure, FileNo, Memory, Name, Plan, Ru
 use jx_flow::JxFlowFault;
 use mf_text::MakeFault;
 use rule_graph::GraphFault;
-use run_history::Found;
+use run_history::{Found, Wait};
 use std::alloc::Global;
 
 /// Why a flow is refused.
@@ -59,11 +59,6 @@ pub enum Cause {
     /// two with a slash behind it begins the other.
     LogNameTaken {
         file: Name,
-    },
-    /// Something that isn't built yet is asked for: at this line of the flow, or, where it is 0, by
-    /// the words.
-    Unbuilt {
-        line: u32,
     },
     /// A rule needs more of a resource than there is in all. Cores are counted, memory and disk are
     /// in megabytes.
@@ -121,6 +116,11 @@ pub enum Cause {
         before: u64,
         after: u64,
     },
+    /// Where workers are met, the network failed: its count of faults before the call and now.
+    HallFault {
+        before: u64,
+        after: u64,
+    },
     /// What takes the printed lines failed: its count of faults before the call and now.
     SinkFault {
         before: u64,
@@ -139,6 +139,8 @@ pub enum Cause {
         rule: RuleNo,
         total: u64,
     },
+    /// Nobody came who can run this rule, for so many idle looks for workers.
+    Waited(Wait),
     /// Want of memory.
     Memory,
     /// The log has no room for what comes next. It has so many records.
@@ -175,8 +177,12 @@ pub enum Kind {
     SiteBroke,
     /// What runs the commands failed.
     RunnerBroke,
+    /// Where workers are met, the network failed.
+    HallBroke,
     /// What takes the printed lines failed.
     SinkBroke,
+    /// Nobody came who can run the next rules, for longer than the wait's limit.
+    WaitedOut,
     /// Want of memory.
     NoMemory,
 }
@@ -192,8 +198,9 @@ impl Kind {
             Kind::WrongWords => 2,
             Kind::WrongFlow => 3,
             Kind::WrongLog | Kind::WrongFile => 4,
-            Kind::SiteBroke | Kind::RunnerBroke | Kind::SinkBroke => 5,
+            Kind::SiteBroke | Kind::RunnerBroke | Kind::HallBroke | Kind::SinkBroke => 5,
             Kind::PastLimit => 6,
+            Kind::WaitedOut => 7,
             Kind::NoMemory => 8,
             Kind::LogFilled => 9,
         }
@@ -219,6 +226,7 @@ impl Kind {
                 | Kind::LogPrinted
                 | Kind::RuleFailed
                 | Kind::PastLimit
+                | Kind::WaitedOut
                 | Kind::LogFilled
         )
     }
@@ -238,7 +246,6 @@ impl Cause {
             Cause::FlowMissing { .. }
             | Cause::FlowRefused { .. }
             | Cause::LogNameTaken { .. }
-            | Cause::Unbuilt { .. }
             | Cause::NeedsTooMuch { .. } => Kind::WrongFlow,
             Cause::LogDamaged { .. } | Cause::OtherFlow { .. } | Cause::NotLegal { .. } => {
                 Kind::WrongLog
@@ -250,8 +257,10 @@ impl Cause {
             | Cause::FileDamaged { .. } => Kind::WrongFile,
             Cause::SiteFault { .. } => Kind::SiteBroke,
             Cause::RunnerFault { .. } => Kind::RunnerBroke,
+            Cause::HallFault { .. } => Kind::HallBroke,
             Cause::SinkFault { .. } => Kind::SinkBroke,
             Cause::NoRoom { .. } | Cause::InputsTooLarge { .. } => Kind::PastLimit,
+            Cause::Waited(_) => Kind::WaitedOut,
             Cause::Memory => Kind::NoMemory,
             Cause::LogFull { .. } => Kind::LogFilled,
         }

@@ -14,7 +14,7 @@ ghost use Rattle.report.specs.declared.cause.Cause.TheVariants.{LogNameTaken, Lo
 ghost use Rattle.report.specs.declared.cause.Cause.TheVariants.{OtherFlow, NotLegal};
 ghost use Rattle.report.specs.declared.cause.Cause.TheVariants.{StoredAboveLimit};
 ghost use Rattle.report.specs.declared.cause.Cause.TheVariants.{SourceChanged, FileDamaged};
-ghost use Rattle.report.specs.declared.cause.Cause.TheVariants.{Unbuilt, NeedsTooMuch};
+ghost use Rattle.report.specs.declared.cause.Cause.TheVariants.{NeedsTooMuch, HallFault, Waited};
 ghost use Rattle.report.specs.declared.cause.Cause.TheVariants.{SourceTooLarge, InputsTooLarge};
 ghost use Rattle.report.specs.declared.cause.Cause.TheVariants.{SiteFault, RunnerFault};
 ghost use Rattle.report.specs.declared.cause.Cause.TheVariants.{SinkFault, Memory};
@@ -41,6 +41,8 @@ pub fn lines_of_a_run()
         ≡ codes "makeflow: inputs of rule 0 too large: 134217729\n" }
     ensures no_room { line_of one_rule (NoRoom (record { 0 = 2 }) 40 80 100)
         ≡ codes "makeflow: no room for rule 2: needs 40, stored 80, limit 100\n" }
+    ensures waited { line_of one_rule (Waited (record { idles = 3; rule = record { 0 = 0 } }))
+        ≡ codes "makeflow: waited, 3 idle, rule 0\n" }
     ensures too_long { line_of one_rule (rule_failed 0 (TooLong 0 4))
         ≡ codes "makeflow: rule 0 failed: output out too long, 4 bytes\n" }
 {}
@@ -50,7 +52,6 @@ pub fn lines_of_refusals()
     ensures usage { line_of one_rule Usage ≡ codes "makeflow: usage: makeflow [options] FILE\n" }
     ensures flow { line_of one_rule (FlowMissing (codes "flow"))
         ≡ codes "makeflow: no flow file flow\n" }
-    ensures unbuilt { line_of one_rule (Unbuilt 1) ≡ codes "makeflow: line 1: not built yet\n" }
     ensures needs { line_of one_rule (NeedsTooMuch (record { 0 = 0 }) 65 64)
         ≡ codes "makeflow: rule 0 needs 65, there is 64\n" }
     ensures source { line_of one_rule (source_missing 0) ≡ codes "makeflow: source in missing\n" }
@@ -129,6 +130,7 @@ pub fn lines_of_rules()
 pub fn lines_of_faults()
     ensures site { line_of one_rule (SiteFault 0 1) ≡ codes "makeflow: folder fault\n" }
     ensures runner { line_of one_rule (RunnerFault 0 1) ≡ codes "makeflow: runner fault\n" }
+    ensures hall { line_of one_rule (HallFault 0 1) ≡ codes "makeflow: network fault\n" }
     ensures sink { line_of one_rule (SinkFault 0 1) ≡ [] }
     ensures memory { line_of one_rule Memory ≡ codes "makeflow: out of memory\n" }
 {}

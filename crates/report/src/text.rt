@@ -3,7 +3,7 @@ ghost use Rattle.std.specs.Prelude.{◌≡◌, ◌++◌, IfOk, codes};
 ghost use Rattle.std.specs.Fmt.{decimal};
 ghost use Rattle.report.specs.Lines.{failure_text, file_name, output_name, output_name_in};
 ghost use Rattle.report.specs.Lines.{rule_text, text_of, fault_text, needs_text, inputs_text};
-ghost use Rattle.report.specs.Lines.{room_text, source_text, stored_text};
+ghost use Rattle.report.specs.Lines.{room_text, source_text, stored_text, wait_text};
 
 use crate::cause::{Cause, FlowFault};
 use crate::flow_text::{graph_text, make_text};
@@ -24,7 +24,6 @@ pub(crate) fn text_of(alloc: Global, plan: &Plan, cause: &Cause) -> Result<Vec<u
         Cause::FlowMissing { name } => around(alloc, b"no flow file ", name.as_bytes(), b""),
         Cause::FlowRefused { flow, fault } => refusal_text(alloc, flow, fault),
         Cause::LogNameTaken { .. } => Vec::from_slice(alloc, b"the log's name is in the flow"),
-        Cause::Unbuilt { line } => numbered(alloc, b"line ", *line, b": not built yet"),
         Cause::NeedsTooMuch { rule, need, total } => needs_text(alloc, *rule, *need, *total),
         Cause::LogDamaged { at } => damage_text(alloc, *at),
         Cause::OtherFlow { .. } => Vec::from_slice(alloc, b"the log is of another flow"),
@@ -38,6 +37,7 @@ pub(crate) fn text_of(alloc: Global, plan: &Plan, cause: &Cause) -> Result<Vec<u
         }
         Cause::SiteFault { .. } => Vec::from_slice(alloc, b"folder fault"),
         Cause::RunnerFault { .. } => Vec::from_slice(alloc, b"runner fault"),
+        Cause::HallFault { .. } => Vec::from_slice(alloc, b"network fault"),
         Cause::NoRoom {
             rule,
             need,
@@ -45,6 +45,7 @@ pub(crate) fn text_of(alloc: Global, plan: &Plan, cause: &Cause) -> Result<Vec<u
             limit,
         } => room_text(alloc, *rule, *need, *stored, *limit),
         Cause::InputsTooLarge { rule, total } => inputs_text(alloc, *rule, *total),
+        Cause::Waited(wait) => wait_text(alloc, wait.idles, wait.rule),
         Cause::Memory => Vec::from_slice(alloc, b"out of memory"),
         Cause::LogFull { .. } => Vec::from_slice(alloc, b"log full"),
     }
@@ -114,6 +115,15 @@ fn inputs_text(alloc: Global, rule: RuleNo, total: u64) -> Result<Vec<u8>, Alloc
 {
     let number = rule.0;
     let text = format!(in alloc; "inputs of rule {number} too large: {total}")?;
+    Ok(text.into_bytes())
+}
+
+// For which rule nobody came, and for how many idle looks.
+fn wait_text(alloc: Global, idles: u64, rule: RuleNo) -> Result<Vec<u8>, AllocError>
+    ensures { IfOk result (λ text. text.items ≡ wait_text idles rule.0) }
+{
+    let number = rule.0;
+    let text = format!(in alloc; "waited, {idles} idle, rule {number}")?;
     Ok(text.into_bytes())
 }
 

@@ -1,14 +1,16 @@
 //! Causes by their words: `complete RULES COLLECTED`, `cleaned REMOVED` and `printed LINES`; `failed
 //! RULE status STATUS`, `failed RULE missing OUTPUT` and `failed RULE long OUTPUT SIZE`; `usage`;
-//! `missing FLOW`; `unbuilt LINE`; `source FILE` and `large FILE SIZE`; `needs RULE NEED TOTAL`;
-//! `inputs RULE TOTAL`; `stored STORED LIMIT`; `room RULE NEED STORED LIMIT`; `site BEFORE AFTER`,
-//! `runner ..` and `sink ..`; `memory`; for a log, and for a file that isn't what was logged, the
-//! words of `log_faults.rt`; and, for a flow that is refused, those of `flow_faults.rt`.
+//! `missing FLOW`; `source FILE` and `large FILE SIZE`; `needs RULE NEED TOTAL`; `inputs RULE
+//! TOTAL`; `waited IDLES RULE`; `stored STORED LIMIT`; `room RULE NEED STORED LIMIT`; `site BEFORE
+//! AFTER`, `runner ..`, `hall ..` and `sink ..`; `memory`; for a log, and for a file that isn't
+//! what was logged, the words of `log_faults.rt`; and, for a flow that is refused, those of
+//! `flow_faults.rt`.
 use crate::flow_faults::{graph_fault, jx_fault, make_fault};
 use crate::log_faults::{log_fault, unlike};
 use crate::words::{first, name, number, rule, two, whole};
 use flow_types::{Failure, FileNo};
 use report::{Cause, FlowFault};
+use run_history::Wait;
 use std::alloc::Global;
 
 fn failure_of(line: &str) -> Option<Failure> {
@@ -87,12 +89,21 @@ fn inputs(line: &str) -> Option<Cause> {
     })
 }
 
+fn waited(line: &str) -> Option<Cause> {
+    let (idles, word) = first(line);
+    Some(Cause::Waited(Wait {
+        idles: whole(idles)?,
+        rule: rule(word)?,
+    }))
+}
+
 // A fault of this part, with its counts.
 fn broken(part: &str, line: &str) -> Option<Cause> {
     let (before, after) = two(line)?;
     match part {
         "site" => Some(Cause::SiteFault { before, after }),
         "runner" => Some(Cause::RunnerFault { before, after }),
+        "hall" => Some(Cause::HallFault { before, after }),
         "sink" => Some(Cause::SinkFault { before, after }),
         _ => None,
     }
@@ -126,9 +137,6 @@ pub fn cause_of(alloc: Global, line: &str) -> Option<Cause> {
         "missing" => Some(Cause::FlowMissing {
             name: name(alloc, rest)?,
         }),
-        "unbuilt" => Some(Cause::Unbuilt {
-            line: number(rest)?,
-        }),
         "source" => Some(Cause::SourceMissing {
             file: FileNo(number(rest)?),
         }),
@@ -137,6 +145,7 @@ pub fn cause_of(alloc: Global, line: &str) -> Option<Cause> {
         "room" => room(rest),
         "needs" => needs(rest),
         "inputs" => inputs(rest),
+        "waited" => waited(rest),
         "memory" => Some(Cause::Memory),
         "log" => log_fault(alloc, rest),
         "changed" | "damaged" => unlike(word, rest),

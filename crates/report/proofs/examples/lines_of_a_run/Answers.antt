@@ -31,6 +31,10 @@ pub returns-clause-too_large : goal.returns-clause-too_large
 unfolding digits
 returns-clause-too_large c = refl
 
+pub returns-clause-waited : goal.returns-clause-waited
+unfolding digits
+returns-clause-waited c = refl
+
 pub returns-clause-no_room : goal.returns-clause-no_room
 unfolding digits
 returns-clause-no_room c = refl
