@@ -13,7 +13,7 @@ use Rattle.local_run.specs.declared.halt.Halt.TheVariants as halts
 use Rattle.local_run.specs.declared.ended.Stopped.{Stopped}
 use Rattle.local_run.specs.declared.ended.Stopped.TheVariants as stopped
 use Rattle.local_run.specs.Ends.{HasFailed, IsCompleteEnd, IsDone, IsFoundDamaged, IsSureEnd, IsSureHalt, IsWholeHalt, IsWholeRun, RunDamage, StartEnds}
-use Rattle.local_run.specs.Runs.{HasCauses, ended_by}
+use Rattle.local_run.specs.Runs.{HasCauses, IsHallEnd, ended_by}
 
 pub if_ended : (r : Result Check Halt) (Q : Check → Type 0) → IfOk r Q → IfOk (ended_by r) Q
 if_ended (Ok check) Q h = h
@@ -62,19 +62,20 @@ not_refused expected why none some = true≢false (sym (ap is_some some) ∙ ap 
 
 -- A run that nothing stops is done.
 pub all_done : (limit : Option ℕ) (expected : Option StartFault) (how : Result Check Stopped) (before after first now : ℕ) → StartEnds expected how → expected ≡ None → IsWholeRun how → IsSureEnd how → HasCauses before after first now how → after ≤ before
-    → IfOk how (IsCompleteEnd limit) → IsDone limit how
-all_done limit expected (Ok check) before after first now starts none whole sure causes stood complete = complete_done limit check complete
-all_done limit expected (Err (stopped.Refused (faults.OtherFlow logged found))) before after first now starts none whole sure causes stood complete = absurd (not_refused expected _ none (starts tt))
-all_done limit expected (Err (stopped.Refused (faults.NotLegal at))) before after first now starts none whole sure causes stood complete = absurd (not_refused expected _ none (starts tt))
-all_done limit expected (Err (stopped.Refused (faults.LogFull records))) before after first now starts none whole sure causes stood complete = absurd (not_refused expected _ none (starts tt))
-all_done limit expected (Err (stopped.Refused (faults.StoredAboveLimit stored most))) before after first now starts none whole sure causes stood complete = absurd (not_refused expected _ none (starts tt))
-all_done limit expected (Err (stopped.Refused (faults.SourceMissing file))) before after first now starts none whole sure causes stood complete = absurd (not_refused expected _ none (starts tt))
-all_done limit expected (Err (stopped.Refused (faults.SourceTooLarge file size))) before after first now starts none whole sure causes stood complete = absurd (not_refused expected _ none (starts tt))
-all_done limit expected (Err (stopped.Refused (faults.SourceChanged file logged found))) before after first now starts none whole sure causes stood complete = absurd (not_refused expected _ none (starts tt))
-all_done limit expected (Err (stopped.Refused (faults.FileDamaged file logged found))) before after first now starts none whole sure causes stood complete = absurd (not_refused expected _ none (starts tt))
-all_done limit expected (Err (stopped.Refused (faults.Site one other))) before after first now starts none whole sure causes stood complete = let wrong : ⊥ = omega (arith, causes, stood) in absurd wrong
-all_done limit expected (Err (stopped.Refused faults.Memory)) before after first now starts none whole sure causes stood complete = tt
-all_done limit expected (Err (stopped.Halted (halts.Damaged file logged found))) before after first now starts none whole sure causes stood complete = absurd whole
-all_done limit expected (Err (stopped.Halted halts.Runner)) before after first now starts none whole sure causes stood complete = absurd sure
-all_done limit expected (Err (stopped.Halted halts.Site)) before after first now starts none whole sure causes stood complete = let wrong : ⊥ = omega (arith, causes, stood) in absurd wrong
-all_done limit expected (Err (stopped.Halted halts.Memory)) before after first now starts none whole sure causes stood complete = tt
+    → (IsHallEnd how → ⊥) → IfOk how (IsCompleteEnd limit) → IsDone limit how
+all_done limit expected (Ok check) before after first now starts none whole sure causes stood manned complete = complete_done limit check complete
+all_done limit expected (Err (stopped.Refused (faults.OtherFlow logged found))) before after first now starts none whole sure causes stood manned complete = absurd (not_refused expected _ none (starts tt))
+all_done limit expected (Err (stopped.Refused (faults.NotLegal at))) before after first now starts none whole sure causes stood manned complete = absurd (not_refused expected _ none (starts tt))
+all_done limit expected (Err (stopped.Refused (faults.LogFull records))) before after first now starts none whole sure causes stood manned complete = absurd (not_refused expected _ none (starts tt))
+all_done limit expected (Err (stopped.Refused (faults.StoredAboveLimit stored most))) before after first now starts none whole sure causes stood manned complete = absurd (not_refused expected _ none (starts tt))
+all_done limit expected (Err (stopped.Refused (faults.SourceMissing file))) before after first now starts none whole sure causes stood manned complete = absurd (not_refused expected _ none (starts tt))
+all_done limit expected (Err (stopped.Refused (faults.SourceTooLarge file size))) before after first now starts none whole sure causes stood manned complete = absurd (not_refused expected _ none (starts tt))
+all_done limit expected (Err (stopped.Refused (faults.SourceChanged file logged found))) before after first now starts none whole sure causes stood manned complete = absurd (not_refused expected _ none (starts tt))
+all_done limit expected (Err (stopped.Refused (faults.FileDamaged file logged found))) before after first now starts none whole sure causes stood manned complete = absurd (not_refused expected _ none (starts tt))
+all_done limit expected (Err (stopped.Refused (faults.Site one other))) before after first now starts none whole sure causes stood manned complete = let wrong : ⊥ = omega (arith, causes, stood) in absurd wrong
+all_done limit expected (Err (stopped.Refused faults.Memory)) before after first now starts none whole sure causes stood manned complete = tt
+all_done limit expected (Err (stopped.Halted (halts.Damaged file logged found))) before after first now starts none whole sure causes stood manned complete = absurd whole
+all_done limit expected (Err (stopped.Halted halts.Runner)) before after first now starts none whole sure causes stood manned complete = absurd sure
+all_done limit expected (Err (stopped.Halted halts.Site)) before after first now starts none whole sure causes stood manned complete = let wrong : ⊥ = omega (arith, causes, stood) in absurd wrong
+all_done limit expected (Err (stopped.Halted halts.Memory)) before after first now starts none whole sure causes stood manned complete = tt
+all_done limit expected (Err stopped.Hall) before after first now starts none whole sure causes stood manned complete = absurd (manned tt)

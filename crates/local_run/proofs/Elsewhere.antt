@@ -69,6 +69,17 @@ live_named O M k beyond lives = by_test (list_any (names_link k) M) refl
         let dead : is_live O M k ≡ false = ap is_some (row (filter (names_link k) M) ∙ ap (λ (l : List Move). option_and_then row_in (last_or None l)) empty) in
         absurd (true≢false (sym lives ∙ dead))
 
+named_links : (k : ℕ) (M : List Move) → filter (names_link k) M ≡ filter (names_link k) (link_moves M)
+named_links k [] = refl
+named_links k (moves.Logged x ∷ rest) = named_links k rest
+named_links k (moves.Joined link total largest cache ∷ rest) = ap (λ (l : List Move). cond (link.0 == k) (moves.Joined link total largest cache ∷ l) l) (named_links k rest)
+named_links k (moves.Changed link total largest cache ∷ rest) = ap (λ (l : List Move). cond (link.0 == k) (moves.Changed link total largest cache ∷ l) l) (named_links k rest)
+named_links k (moves.Left link ∷ rest) = ap (λ (l : List Move). cond (link.0 == k) (moves.Left link ∷ l) l) (named_links k rest)
+
+-- which links live is told by the moves of links
+pub live_links : (O : Options) (M : List Move) (k : ℕ) → is_live O M k ≡ is_live O (link_moves M) k
+live_links O M k = ap (λ (l : List Move). is_some (cond (k == 0) (Some (local_row O)) (option_and_then row_in (last_or None l)))) (named_links k M)
+
 -- ---- attempts that were started
 
 -- each attempt that runs on a link other than the local place was started there

@@ -11,8 +11,9 @@ use Rattle.run_history.specs.declared.links.JoinRefused.{JoinRefused}
 use Rattle.run_history.specs.declared.links.JoinRefused.TheVariants as refused
 use Rattle.run_history.specs.declared.moves.Move.{Move}
 use Rattle.run_history.specs.declared.moves.Move.TheVariants as moves
+use Rattle.run_history.specs.declared.options.Options.{Options}
 use Rattle.run_history.specs.Answers.{has_ended}
-use Rattle.run_history.specs.Links.{records_of}
+use Rattle.run_history.specs.Links.{is_live, records_of}
 use Rattle.run_history.specs.Storage.{running_rules}
 use Rattle.run_history.proofs.Grows.{records-same}
 use Rattle.outside.specs.Disk.{Outcomes}
@@ -29,7 +30,8 @@ use Rattle.local_run.specs.Ends.{IsFoundDamaged, failed_count, records_due}
 use Rattle.local_run.specs.Links.{link_moves}
 use Rattle.local_run.specs.Underway.{AwayState, IsLoose, Matches, RunsAt, Underway, loose_count}
 use Rattle.local_run.proofs.Beyond.{away_on, runs_away_on}
-use Rattle.local_run.proofs.Going.{goes_then, passes}
+use Rattle.local_run.proofs.Elsewhere.{live_links}
+use Rattle.local_run.proofs.Going.{goes_links, goes_then, passes}
 use Rattle.local_run.proofs.UnderClosed.{stopped_on}
 
 module _ {S : Type 0} (trust : Type 0) (gives : Function) (may_fail : Job → Failure → Type 0) (sources : Contents) (tells kept sure : Type 0) (files : S → Files) (may_leave : S → Outcomes) (moment : S → ℕ)
@@ -95,3 +97,9 @@ module _ {S : Type 0} (trust : Type 0) (gives : Function) (may_fail : Job → Fa
   pub leaves_on : (first d after : DeskState S) (link : LinkNo) (held : List Attempt) (waiting : List Start) (loose : Option Attempt) (heard : Tally) (halt : Option Halt) → Alone d → Leaves d link after
       → UnderBy away first d held waiting loose heard halt → UnderBy (left_by link away) first after held waiting loose heard halt
   leaves_on first d after link held waiting loose heard halt others h u = linked_on first d after (moves.Left link) held waiting loose heard halt h refl refl others u
+
+  -- Which links live is told by the moves of links since the run began.
+  pub lives_by : (first now : DeskState S) (held : List Attempt) (waiting : List Start) (loose : Option Attempt) (heard : Tally) (halt : Option Halt) (O : Options) (k : ℕ) → UnderBy away first now held waiting loose heard halt
+      → is_live O now.moves k ≡ is_live O (link_moves first.moves ++ away.links) k
+  lives_by first now held waiting loose heard halt O k u =
+      live_links O now.moves k ∙ ap (λ (M : List Move). is_live O M k) (goes_links trust gives may_fail sources tells files may_leave moment images_since away.links first now u.goes)

@@ -68,12 +68,14 @@ closed_whole (Err (stopped.Halted (halts.Damaged file logged found))) closed cut
 closed_whole (Err (stopped.Halted halts.Runner)) closed cut = cut
 closed_whole (Err (stopped.Halted halts.Site)) closed cut = closed
 closed_whole (Err (stopped.Halted halts.Memory)) closed cut = closed
+closed_whole (Err stopped.Hall) closed cut = cut
 
 -- and nothing was wrong with its records
 pub closed_admitted : (how : Result Check Stopped) → IsClosedRun how → IsAdmitted how
 closed_admitted (Ok check) closed = tt
 closed_admitted (Err (stopped.Refused why)) closed = absurd closed
 closed_admitted (Err (stopped.Halted halt)) closed = tt
+closed_admitted (Err stopped.Hall) closed = tt
 
 none_left : (xs : List ℕ) → length xs ≤ 0 → is_empty xs ≡ true
 none_left [] le = refl
@@ -100,6 +102,7 @@ causes_since first before now b n (Err (stopped.Halted (halts.Damaged file logge
 causes_since first before now b n (Err (stopped.Halted halts.Runner)) le h = h
 causes_since first before now b n (Err (stopped.Halted halts.Site)) le h = let up : before < now = h in omega (arith, le, up)
 causes_since first before now b n (Err (stopped.Halted halts.Memory)) le h = tt
+causes_since first before now b n (Err stopped.Hall) le h = tt
 
 pub on_ok : {A E : Type 0} (r : Result A E) (P Q : Type 0) → (P → Q) → OnOk r P → OnOk r Q
 on_ok (Ok x) P Q f p = f p

@@ -44,6 +44,7 @@ abbrev pub StartEnds : Option StartFault → Result Check Stopped → Type 0
 StartEnds expected (Ok check) = expected ≡ None
 StartEnds expected (Err (stopped.Refused found)) = IsUncutBy found → expected ≡ Some found
 StartEnds expected (Err (stopped.Halted halt)) = expected ≡ None
+StartEnds expected (Err stopped.Hall) = expected ≡ None
 
 -- All rules run here, and none needs more than there is here.
 pub record FitsHere (P : Plan) (O : Options) : Type 0 where

@@ -56,12 +56,14 @@ IsCutRun (Err (stopped.Halted (halts.Damaged file logged found))) = ⊥
 IsCutRun (Err (stopped.Halted halts.Runner)) = ⊥
 IsCutRun (Err (stopped.Halted halts.Site)) = Unit {0}
 IsCutRun (Err (stopped.Halted halts.Memory)) = Unit {0}
+IsCutRun (Err stopped.Hall) = ⊥
 
 -- The start of the run was cut short: its site failed, or memory was wanting.
 abbrev pub IsCutAtStart : Result Check Stopped → Type 0
 IsCutAtStart (Ok check) = ⊥
 IsCutAtStart (Err (stopped.Refused why)) = IsCutBy why
 IsCutAtStart (Err (stopped.Halted halt)) = ⊥
+IsCutAtStart (Err stopped.Hall) = ⊥
 
 -- The run was started, and stopped in no append.
 abbrev pub IsClosedRun : Result Check Stopped → Type 0
@@ -71,6 +73,7 @@ IsClosedRun (Err (stopped.Halted (halts.Damaged file logged found))) = Unit {0}
 IsClosedRun (Err (stopped.Halted halts.Runner)) = Unit {0}
 IsClosedRun (Err (stopped.Halted halts.Site)) = ⊥
 IsClosedRun (Err (stopped.Halted halts.Memory)) = ⊥
+IsClosedRun (Err stopped.Hall) = Unit {0}
 
 -- The records of the log were looked at, and nothing was wrong with them.
 abbrev pub IsAdmitted : Result Check Stopped → Type 0
@@ -80,6 +83,7 @@ IsAdmitted (Err (stopped.Refused (faults.NotLegal at))) = ⊥
 IsAdmitted (Err (stopped.Refused faults.Memory)) = ⊥
 IsAdmitted (Err (stopped.Refused why)) = Unit {0}
 IsAdmitted (Err (stopped.Halted halt)) = Unit {0}
+IsAdmitted (Err stopped.Hall) = Unit {0}
 
 -- The name is neither the log's nor that of a file that a rule makes. Where the start was cut short it isn't that of a source either.
 abbrev pub IsSparedName : Plan → List ℕ → Result Check Stopped → List ℕ → Type 0
@@ -108,12 +112,14 @@ HasCauses site_before site_now runner_before runner_now (Err (stopped.Halted (ha
 HasCauses site_before site_now runner_before runner_now (Err (stopped.Halted halts.Runner)) = runner_before < runner_now
 HasCauses site_before site_now runner_before runner_now (Err (stopped.Halted halts.Site)) = site_before < site_now
 HasCauses site_before site_now runner_before runner_now (Err (stopped.Halted halts.Memory)) = Unit {0}
+HasCauses site_before site_now runner_before runner_now (Err stopped.Hall) = Unit {0}
 
 -- The run didn't start.
 abbrev pub IsRefusedRun : Result Check Stopped → Type 0
 IsRefusedRun (Ok check) = ⊥
 IsRefusedRun (Err (stopped.Refused why)) = Unit {0}
 IsRefusedRun (Err (stopped.Halted halt)) = ⊥
+IsRefusedRun (Err stopped.Hall) = ⊥
 
 -- The run didn't start, since its records are of another plan or may not stand so.
 abbrev pub IsEarlyBy : StartFault → Type 0
@@ -121,8 +127,16 @@ IsEarlyBy (faults.OtherFlow logged found) = Unit {0}
 IsEarlyBy (faults.NotLegal at) = Unit {0}
 IsEarlyBy why = ⊥
 
+-- The run stopped since the place where peers come failed.
+abbrev pub IsHallEnd : Result Check Stopped → Type 0
+IsHallEnd (Ok check) = ⊥
+IsHallEnd (Err (stopped.Refused why)) = ⊥
+IsHallEnd (Err (stopped.Halted halt)) = ⊥
+IsHallEnd (Err stopped.Hall) = Unit {0}
+
 -- the same of how a run ended
 abbrev pub IsEarlyRun : Result Check Stopped → Type 0
 IsEarlyRun (Ok check) = ⊥
 IsEarlyRun (Err (stopped.Refused why)) = IsEarlyBy why
 IsEarlyRun (Err (stopped.Halted halt)) = ⊥
+IsEarlyRun (Err stopped.Hall) = ⊥

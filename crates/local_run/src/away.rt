@@ -1,12 +1,13 @@
 //! Links, and the attempts that run there.
 ghost use Rattle.std.specs.Prelude.{◌≡◌, ◌<◌, ◌++◌, ◌∷◌, List, None, Option, Some};
-ghost use Rattle.std.specs.Prelude.{IfOk, length, slice_get, true};
+ghost use Rattle.std.specs.Prelude.{IfOk, OnOk, length, slice_get, true};
 ghost use Rattle.flow_types.specs.declared.job.Start.{Start as StartValue};
 ghost use Rattle.flow_types.specs.declared.plan.Rule.{Rule};
 ghost use Rattle.flow_types.specs.Plans.{IsValid, makes};
 ghost use Rattle.flow_types.specs.Serial.{job_of, serial};
 ghost use Rattle.run_history.specs.Legal.{is_failure_at};
 ghost use Rattle.run_history.specs.Links.{is_live, records_of};
+ghost use Rattle.run_history.specs.Storage.{is_present};
 ghost use Rattle.worker_pool.specs.declared.hand.Tally.{Tally};
 ghost use Rattle.desk.specs.declared.attempt.Attempt.{Attempt as AttemptValue};
 ghost use Rattle.desk.specs.Links.{Changes, Joins, Leaves};
@@ -20,14 +21,16 @@ ghost use Rattle.local_run.specs.Underway.{halt_after};
 
 use crate::Halt;
 use crate::closing::finish;
+use crate::next::halt_by;
 use desk::{Attempt, Claim, ClaimRefused, CloseRefused, Desk, Terms};
-use flow_types::{Amounts, Bytes, Failure, LinkNo, Rows};
+use flow_types::{Amounts, Bytes, Failure, FileNo, LinkNo, Rows};
 use outside::{Commands, Site};
 use run_history::JoinRefused;
+use std::alloc::Global;
 use worker_pool::Terms as PoolTerms;
 
 /// A link joins with these amounts, the largest of one of its places, and a cache of so many bytes.
-pub(crate) fn join<B: PoolTerms, F: Commands, S: Site, T: Terms>(
+pub fn join<B: PoolTerms, F: Commands, S: Site, T: Terms>(
     desk: &mut Desk<F, S, T>,
     total: Amounts,
     largest: Amounts,
@@ -48,7 +51,7 @@ pub(crate) fn join<B: PoolTerms, F: Commands, S: Site, T: Terms>(
 }
 
 /// A link states other amounts and another cache, in bytes. Condition: it lives.
-pub(crate) fn change<B: PoolTerms, F: Commands, S: Site, T: Terms>(
+pub fn change<B: PoolTerms, F: Commands, S: Site, T: Terms>(
     desk: &mut Desk<F, S, T>,
     link: LinkNo,
     total: Amounts,
@@ -73,10 +76,7 @@ pub(crate) fn change<B: PoolTerms, F: Commands, S: Site, T: Terms>(
 
 /// A link leaves, on which none of the attempts on links runs. Conditions: the desk works, the link
 /// isn't the local place, and it lives.
-pub(crate) fn leave<B: PoolTerms, F: Commands, S: Site, T: Terms>(
-    desk: &mut Desk<F, S, T>,
-    link: LinkNo,
-)
+pub fn leave<B: PoolTerms, F: Commands, S: Site, T: Terms>(desk: &mut Desk<F, S, T>, link: LinkNo)
     requires fine { IsFine desk.old.trouble }
     requires apart { 0 < link.0 }
     requires lives { is_live desk.old.options desk.old.moves link.0 ≡ true }
@@ -102,7 +102,7 @@ pub(crate) fn leave<B: PoolTerms, F: Commands, S: Site, T: Terms>(
 
 /// Starts a rule on a link, if a claim for it gives one. Conditions: the link isn't the local
 /// place, and it lives.
-pub(crate) fn claim_away<B: PoolTerms, F: Commands, S: Site, T: Terms>(
+pub fn claim_away<B: PoolTerms, F: Commands, S: Site, T: Terms>(
     desk: &mut Desk<F, S, T>,
     link: LinkNo,
     moment: u64,
@@ -129,8 +129,32 @@ pub(crate) fn claim_away<B: PoolTerms, F: Commands, S: Site, T: Terms>(
     }
 }
 
+/// The content of a file, as it was logged. Conditions: the desk works, and the file is present.
+pub fn read_away<B: PoolTerms, F: Commands, S: Site, T: Terms>(
+    alloc: Global,
+    desk: &mut Desk<F, S, T>,
+    file: FileNo,
+) -> Result<Bytes, Halt>
+    requires fine { IsFine desk.old.trouble }
+    requires present { is_present desk.old.plan (records_of desk.old.moves) file.0 ≡ true }
+    ensures underway { (away : AwayState) (first : DeskState S) (held : List AttemptValue)
+        (waiting : List StartValue) (loose : Option AttemptValue) (heard : Tally)
+        → Underway T.trust F.gives F.may_fail T.sources S.tells T.kept (IsSurePool B.fits)
+        S.files S.may_leave S.moment S.images_since away first
+        desk.old held waiting loose heard None
+        → Underway T.trust F.gives F.may_fail T.sources S.tells T.kept (IsSurePool B.fits)
+        S.files S.may_leave S.moment S.images_since away first
+        desk.new held waiting loose heard (halt_after result None) }
+    ensures same { OnOk result (desk.new ≡ record desk.old { site = desk.new.site }) }
+{
+    match desk.read_input(alloc, file) {
+        Ok(bytes) => Ok(bytes),
+        Err(why) => Err(halt_by(why)),
+    }
+}
+
 /// Finishes an attempt on a link with what its job gave.
-pub(crate) fn finish_away<B: PoolTerms, F: Commands, S: Site, T: Terms>(
+pub fn finish_away<B: PoolTerms, F: Commands, S: Site, T: Terms>(
     desk: &mut Desk<F, S, T>,
     attempt: Attempt,
     outs: &Rows<Bytes>,
@@ -157,7 +181,7 @@ pub(crate) fn finish_away<B: PoolTerms, F: Commands, S: Site, T: Terms>(
 }
 
 /// Closes an attempt on a link, whose command failed there.
-pub(crate) fn fail_away<B: PoolTerms, F: Commands, S: Site, T: Terms>(
+pub fn fail_away<B: PoolTerms, F: Commands, S: Site, T: Terms>(
     desk: &mut Desk<F, S, T>,
     attempt: Attempt,
     why: Failure,
@@ -190,7 +214,7 @@ pub(crate) fn fail_away<B: PoolTerms, F: Commands, S: Site, T: Terms>(
 }
 
 /// Gives an attempt on a link up.
-pub(crate) fn lose_away<B: PoolTerms, F: Commands, S: Site, T: Terms>(
+pub fn lose_away<B: PoolTerms, F: Commands, S: Site, T: Terms>(
     desk: &mut Desk<F, S, T>,
     attempt: Attempt,
     moment: u64,

@@ -4,6 +4,7 @@ ghost use Rattle.std.specs.Fn.{CalledAtMut};
 ghost use Rattle.std.specs.Thread.{IsSync};
 ghost use Rattle.crossbeam_queue.specs.Passes.{view, IsPassOf, IsSamePass};
 ghost use Rattle.worker_pool.specs.Courses.{MayReport};
+ghost use Rattle.worker_pool.specs.Crews.{AllSure};
 ghost use Rattle.worker_pool.specs.Hands.{Crew};
 ghost use Rattle.worker_pool.specs.Tallies.{GrowsWith};
 ghost use Rattle.local_run.specs.Calls.{TakesAtMut};
@@ -23,7 +24,7 @@ fn call_at<D, K: FnMut(&mut D)>(call: &mut K, desk: &mut D)
 
 /// Calls it at the desk, while each runner runs what the line has on a thread of its own, and waits
 /// for all.
-pub(crate) fn call_beside<
+pub fn call_beside<
     B: PoolTerms + Send + Sync,
     W: Threads + Wait + Sync,
     G: Gate,
@@ -51,6 +52,7 @@ pub(crate) fn call_beside<
     ensures counted { GrowsWith (view token.old).put (view token.new).put
         (sum_by R.count runners.old) (sum_by R.count runners.new)
         (sum_by R.failures runners.old) (sum_by R.failures runners.new) }
+    ensures sure { AllSure R.sure runners.old → AllSure R.sure runners.new }
     ensures called { CalledAtMut K.FnMut call.old desk.old tt call.new desk.new }
 {
     join_mut(
@@ -66,6 +68,7 @@ pub(crate) fn call_beside<
             ensures counted { GrowsWith (view token.entry.now).put (view token.exit.now).put
                 (sum_by R.count runners.entry.now) (sum_by R.count runners.exit.now)
                 (sum_by R.failures runners.entry.now) (sum_by R.failures runners.exit.now) }
+            ensures sure { AllSure R.sure runners.entry.now → AllSure R.sure runners.exit.now }
         { work_all::<B, F, W, R, G>(rt, line, gate, token, runners) },
         &mut ||
             requires takes { TakesAtMut K.FnMut call.now desk.now }

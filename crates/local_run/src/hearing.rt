@@ -55,7 +55,7 @@ fn close<B: PoolTerms, F: Commands, S: Site, T: Terms, C: Clock>(
 
 /// Takes one report, where one is ready, and closes its attempt by how the job ended. It answers
 /// whether there was one.
-pub(crate) fn hear<B: PoolTerms, F: Commands, S: Site, T: Terms, C: Clock>(
+pub fn hear<B: PoolTerms, F: Commands, S: Site, T: Terms, C: Clock>(
     desk: &mut Desk<F, S, T>,
     held: &mut Held,
     pool: &mut Pool<B>,

@@ -12,7 +12,7 @@ use std::alloc::Global;
 use std::marker::Model;
 
 /// The attempts that run, each at a start that the pool has, and why the run stopped, if it did.
-pub(crate) struct Held {
+pub struct Held {
     attempts: Vec<Attempt>,
     halt: Option<Halt>,
 }

@@ -27,7 +27,8 @@ use std::alloc::Global;
 use std::sync::Wait;
 use worker_pool::{Pool, Terms as PoolTerms};
 
-fn halt_by(why: InputRefused) -> Halt
+/// Why a run stops whose input isn't read.
+pub(crate) fn halt_by(why: InputRefused) -> Halt
     ensures { result ≡ halt_by why }
 {
     match why {

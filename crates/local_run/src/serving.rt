@@ -36,7 +36,7 @@ use worker_pool::{Gate, Line, Pool, Terms as PoolTerms, Ticket, Tickets, Token, 
 
 /// Does what comes next, if nothing stopped the run and fewer rules run than these, and answers
 /// whether there was something.
-fn go_on<B: PoolTerms, W: Wait, F: Commands, S: Site, T: Terms, C: Clock>(
+pub fn go_on<B: PoolTerms, W: Wait, F: Commands, S: Site, T: Terms, C: Clock>(
     rt: &W,
     alloc: Global,
     desk: &mut Desk<F, S, T>,
@@ -162,7 +162,7 @@ fn serve_and_close<B: PoolTerms, W: Wait, F: Commands, S: Site, T: Terms, C: Clo
 
 /// Gives up what is still held, which is something only where memory was wanting, and tells why the
 /// run stopped.
-fn settle<B: PoolTerms, F: Commands, S: Site, T: Terms, C: Clock>(
+pub fn settle<B: PoolTerms, F: Commands, S: Site, T: Terms, C: Clock>(
     desk: &mut Desk<F, S, T>,
     held: Held,
     clock: &C,

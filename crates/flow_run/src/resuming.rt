@@ -1,6 +1,6 @@
 //! A run that goes on where the log ends.
 ghost use Rattle.std.specs.Prelude.{◌≡◌, ◌≢◌, ◌≤◌, ◌⊎◌, ℕ, List, IfErr, IfOk, OnOk};
-ghost use Rattle.std.specs.Prelude.{◌<◌, None, Option, length, sum_by};
+ghost use Rattle.std.specs.Prelude.{◌<◌, ◌-◌, None, Option, length, sum_by, true, false};
 ghost use Rattle.flow_types.specs.declared.records.Record.{Record as RecordValue};
 ghost use Rattle.flow_types.specs.Plans.{IsValid};
 ghost use Rattle.flow_types.specs.Serial.{serial};
@@ -25,13 +25,15 @@ ghost use Rattle.local_run.specs.Moments.{IsDamageFault, IsMoment, IsResumable, 
 ghost use Rattle.local_run.specs.Moments.{KeepsSome};
 ghost use Rattle.local_run.specs.Runs.{Adds, IsEarlyRun, IsRefusedRun};
 ghost use Rattle.local_run.specs.Runs.{BeginsWith, HasCauses, Held, IsAdmitted, IsClosedRun};
-ghost use Rattle.local_run.specs.Runs.{IsCutRun, IsSparedName, LosesNone, SerialFits};
+ghost use Rattle.local_run.specs.Runs.{IsCutRun, IsHallEnd, IsSparedName, LosesNone, SerialFits};
 ghost use Rattle.local_run.specs.Runs.{read_sources};
+ghost use Rattle.wq_run.specs.Ends.{AreBack, EndsWaiting, IsSparedRunners, LosesOnLinks};
+ghost use Rattle.flow_run.specs.Places.{PlacedBy};
 
-use crate::Born;
-use crate::ended::{ResumeRefused, RunEnded};
 use crate::runs::run;
 use flow_types::{Name, Plan};
+use links::Hall;
+use local_run::{Born, ResumeRefused, RunEnded};
 use log_recover::{files_spell_one_list, recover};
 use outside::{Clock, Commands, Runner, Site};
 use run_history::Options;
@@ -39,6 +41,7 @@ use std::alloc::Global;
 use std::sync::Wait;
 use std::thread::Threads;
 use worker_pool::Gate;
+use wq_run::Workers;
 
 /// Reads the log under this name, and runs the plan over it.
 ///
@@ -49,6 +52,7 @@ pub fn resume<
     G: Gate,
     F: Commands,
     S: Site,
+    H: Hall<F>,
     R: Runner<F>,
     C: Clock,
     B: Born,
@@ -59,6 +63,8 @@ pub fn resume<
     site: S,
     name: Name,
     options: Options,
+    hall: &mut H,
+    workers: Workers,
     runners: &mut [R],
     gate: &G,
     clock: &C,
@@ -85,7 +91,7 @@ pub fn resume<
         → Spells H (S.files site «name») → IsRefusedRun ended.how → ended.records ≡ H) }
     ensures quiet { IfOk result (λ ended. S.tells → IsEarlyRun ended.how
         → (m : List ℕ) → S.files ended.site m ≡ S.files site m) }
-    ensures honest { IfOk result (λ ended. S.tells → (H : List RecordValue)
+    ensures honest { IfOk result (λ ended. options.wq ≡ false → S.tells → (H : List RecordValue)
         → Spells H (S.files site «name»)
         → let sources = read_sources plan (S.files site) in
         IsResumable (SerialFits F.gives sources) plan «name» H (S.may_leave site)
@@ -98,10 +104,17 @@ pub fn resume<
     ensures legal { IfOk result (λ ended. IsAdmitted ended.how → IsLegal plan ended.records) }
     ensures spent { IfOk result (λ ended. IsClosedRun ended.how
         → SpentOnce (since_opening ended.records)) }
-    ensures lost { IfOk result (λ ended. OnOk ended.how (S.tells → (H : List RecordValue)
-        → Spells H (S.files site «name») → LosesNone H ended.records)) }
-    ensures ends { IfOk result (λ ended. IfOk ended.how (λ check. check
+    ensures lost { IfOk result (λ ended. options.wq ≡ false → OnOk ended.how (S.tells
+        → (H : List RecordValue) → Spells H (S.files site «name»)
+        → LosesNone H ended.records)) }
+    ensures lost_away { IfOk result (λ ended. OnOk ended.how (S.tells
+        → (H : List RecordValue) → Spells H (S.files site «name»)
+        → LosesOnLinks H ended.records)) }
+    ensures ends { IfOk result (λ ended. options.wq ≡ false → IfOk ended.how (λ check. check
         ≡ end_over plan options (before_end ended.records) None)) }
+    ensures waited { IfOk result (λ ended. options.wq ≡ true → IfOk ended.how
+        (EndsWaiting plan options workers.limit
+        (H.idle_count hall.new - H.idle_count hall.old) ended.records)) }
     ensures others { IfOk result (λ ended. S.tells → StaysBeside S.may_leave S.moment
         S.images_since (IsUnmade plan «name») site ended.site) }
     ensures reads { IfOk result (λ ended. S.tells
@@ -119,7 +132,7 @@ pub fn resume<
         → KeepsSome Held plan «name» image)
         → (image : Files) → S.images_since ended.site B.born image
         → S.images_since site B.born image ⊎ KeepsSome Held plan «name» image) }
-    ensures contents { IfOk result (λ ended. S.tells → (H : List RecordValue)
+    ensures contents { IfOk result (λ ended. options.wq ≡ false → S.tells → (H : List RecordValue)
         → Spells H (S.files site «name»)
         → let sources = read_sources plan (S.files site) in
         IsResumable (SerialFits F.gives sources) plan «name» H (S.may_leave site)
@@ -141,6 +154,9 @@ pub fn resume<
         → CollectsBy plan options.mode H ended.records) }
     ensures collects { IfOk result (λ ended. (IsRefusedRun ended.how → ⊥)
         → RunCollects plan options.mode ended.records) }
+    ensures places { IfOk result (λ ended. S.tells → (H : List RecordValue)
+        → Spells H (S.files site «name»)
+        → PlacedBy plan options H ended.records) }
     ensures gone { IfOk result (λ ended. S.tells → (IsCutRun ended.how → ⊥)
         → (H : List RecordValue) → Spells H (S.files site «name»)
         → AreGone plan (S.files ended.site) H ended.records) }
@@ -154,10 +170,22 @@ pub fn resume<
     ensures whole { IfOk result (λ ended. S.tells → (H : List RecordValue)
         → Spells H (S.files site «name»)
         → IsResumable Held plan «name» H (S.may_leave site) → IsWholeRun ended.how) }
-    ensures sure { IfOk result (λ ended. AllSure R.sure runners.old → IsSureEnd ended.how) }
-    ensures failed { IfOk result (λ ended.
-        HasFailed (sum_by R.failures runners.old) (sum_by R.failures runners.new) ended.how) }
-    ensures failures { IfOk result (λ ended. IsClosedRun ended.how → S.tells
+    ensures never { IfOk result (λ ended. AllSure R.sure runners.old
+        → IsSparedRunners ended.how) }
+    ensures sure { IfOk result (λ ended. options.wq ≡ false → AllSure R.sure runners.old
+        → IsSureEnd ended.how) }
+    ensures risen { sum_by R.failures runners.old ≤ sum_by R.failures runners.new }
+    ensures failed { IfOk result (λ ended. options.wq ≡ false
+        → HasFailed (sum_by R.failures runners.old) (sum_by R.failures runners.new) ended.how) }
+    ensures hall { IfOk result (λ ended. IsHallEnd ended.how
+        → (options.wq ≡ true) × (H.count hall.old < H.count hall.new)) }
+    ensures met { H.count hall.old ≤ H.count hall.new }
+    ensures alone { options.wq ≡ false → hall.new ≡ hall.old }
+    ensures unmet { IfOk result (λ ended. IsRefusedRun ended.how → hall.new ≡ hall.old) }
+    ensures unopened { IfErr result (λ refused. hall.new ≡ hall.old) }
+    ensures back { IfOk result (λ ended. (IsCutRun ended.how → ⊥)
+        → AreBack (H.got hall.old) (H.got hall.new) (H.given hall.old) (H.given hall.new)) }
+    ensures failures { IfOk result (λ ended. options.wq ≡ false → IsClosedRun ended.how → S.tells
         → (H : List RecordValue) → Spells H (S.files site «name»)
         → LogsFailures H ended.records (sum_by R.failures runners.old)
         (sum_by R.failures runners.new)) }
@@ -174,8 +202,8 @@ pub fn resume<
     files_spell_one_list();
     let mut site = site;
     match recover(alloc, &mut site, name) {
-        Ok((log, history)) => Ok(run::<W, G, F, S, R, C, B>(
-            rt, alloc, plan, site, log, history, options, runners, gate, clock,
+        Ok((log, history)) => Ok(run::<W, G, F, S, H, R, C, B>(
+            rt, alloc, plan, site, log, history, options, hall, workers, runners, gate, clock,
         )),
         Err(why) => Err(ResumeRefused { why, site }),
     }

@@ -1,4 +1,4 @@
-use Rattle.std.proofs.Common.{◌≡◌, ◌≢◌, ◌+◌, ◌∙◌, ◌≤◌, ℕ, List, Option, length, refl, subst, sym}
+use Rattle.std.proofs.Common.{◌≡◌, ◌≢◌, ◌+◌, ◌-◌, ◌∙◌, ◌≤◌, ℕ, List, Option, ap, length, refl, subst, sym}
 use Rattle.std.specs.Prelude.{sum_by, IfOk, None}
 use Rattle.flow_types.specs.declared.records.Record.{Record}
 use Rattle.run_history.specs.declared.options.Options.{Options}
@@ -26,7 +26,12 @@ use Rattle.local_run.proofs.Refused.{early_refused, early_same}
 use Rattle.local_run.proofs.Starts.{refused_ends, started_free}
 use Rattle.local_run.proofs.Started.{IsBegun, adds_more, adds_nothing, begun, begun_kept, begun_loses, begun_now, refused_causes, refused_kept, refused_legal, refused_now}
 use Rattle.local_run.proofs.Openings.{opens_by}
-use Rattle.local_run.proofs.runs.run_by.Goals as goal
+use Rattle.wq_run.specs.Ends.{EndsWaiting, LosesOnLinks}
+use Rattle.flow_run.specs.Places.{PlacedBy}
+use Rattle.flow_run.proofs.Losses.{loses_begun}
+use Rattle.flow_run.proofs.Placed.{placed_none}
+use Rattle.flow_run.proofs.Stops.{back_same}
+use Rattle.flow_run.proofs.runs.run_by.Goals as goal
 
 pub run_desk-requires-clause-valid : goal.run_desk-requires-clause-valid
 run_desk-requires-clause-valid g c κs within = subst IsValid (sym (begun g.S.Site.count c.args.plan c.args.options c.args.log.name c.args.history c.now.result g.S.Site.tells (g.S.Site.files c.args.site) c.args.site g.F.Commands.may_fail (serial c.args.plan g.F.Commands.gives g.T.Terms.sources) c.in-Ok.desk c.in-Ok.ensures.reply).plan) c.requires.valid
@@ -77,16 +82,77 @@ returns-in-Ok-clause-idle g c closed =
     subst (λ (P : Plan). length (running_rules P c.run_desk.result.records) ≤ 0) (begun g.S.Site.count c.args.plan c.args.options c.args.log.name c.args.history c.now.result g.S.Site.tells (g.S.Site.files c.args.site) c.args.site g.F.Commands.may_fail (serial c.args.plan g.F.Commands.gives g.T.Terms.sources) c.in-Ok.desk c.in-Ok.ensures.reply).plan (c.run_desk.ensures.idle (closed_whole c.run_desk.result.how closed))
 
 pub returns-in-Ok-clause-lost : goal.returns-in-Ok-clause-lost
-returns-in-Ok-clause-lost g c =
+returns-in-Ok-clause-lost g c alone =
     let b = begun g.S.Site.count c.args.plan c.args.options c.args.log.name c.args.history c.now.result g.S.Site.tells (g.S.Site.files c.args.site) c.args.site g.F.Commands.may_fail (serial c.args.plan g.F.Commands.gives g.T.Terms.sources) c.in-Ok.desk c.in-Ok.ensures.reply in
     on_ok c.run_desk.result.how (LosesNone (records_of c.in-Ok.desk.moves) c.run_desk.result.records) (LosesNone c.args.history c.run_desk.result.records)
     (begun_loses (g.S.Site.count c.args.site) c.args.plan c.args.options c.args.log.name c.args.history c.run_desk.result.records g.F.Commands.may_fail (serial c.args.plan g.F.Commands.gives g.T.Terms.sources) c.in-Ok.desk b)
-    (c.run_desk.ensures.lost c.args.history b.over)
+    (c.run_desk.ensures.lost (ap (λ (O : Options). O.wq) b.options ∙ alone) c.args.history b.over)
 
 pub returns-in-Ok-clause-ends : goal.returns-in-Ok-clause-ends
-returns-in-Ok-clause-ends g c =
-    subst (λ (P : Plan). IfOk c.run_desk.result.how (λ check. check ≡ end_over P c.args.options (before_end c.run_desk.result.records) None)) (begun g.S.Site.count c.args.plan c.args.options c.args.log.name c.args.history c.now.result g.S.Site.tells (g.S.Site.files c.args.site) c.args.site g.F.Commands.may_fail (serial c.args.plan g.F.Commands.gives g.T.Terms.sources) c.in-Ok.desk c.in-Ok.ensures.reply).plan
-    (subst (λ (O : Options). IfOk c.run_desk.result.how (λ check. check ≡ end_over c.in-Ok.desk.plan O (before_end c.run_desk.result.records) None)) (begun g.S.Site.count c.args.plan c.args.options c.args.log.name c.args.history c.now.result g.S.Site.tells (g.S.Site.files c.args.site) c.args.site g.F.Commands.may_fail (serial c.args.plan g.F.Commands.gives g.T.Terms.sources) c.in-Ok.desk c.in-Ok.ensures.reply).options c.run_desk.ensures.ends)
+returns-in-Ok-clause-ends g c alone =
+    let b : IsBegun (g.S.Site.count c.args.site) c.args.plan c.args.options c.args.log.name c.args.history g.F.Commands.may_fail (serial c.args.plan g.F.Commands.gives g.T.Terms.sources) c.in-Ok.desk = (begun g.S.Site.count c.args.plan c.args.options c.args.log.name c.args.history c.now.result g.S.Site.tells (g.S.Site.files c.args.site) c.args.site g.F.Commands.may_fail (serial c.args.plan g.F.Commands.gives g.T.Terms.sources) c.in-Ok.desk c.in-Ok.ensures.reply) in
+    subst (λ (P : Plan). IfOk c.run_desk.result.how (λ check. check ≡ end_over P c.args.options (before_end c.run_desk.result.records) None)) b.plan
+    (subst (λ (O : Options). IfOk c.run_desk.result.how (λ check. check ≡ end_over c.in-Ok.desk.plan O (before_end c.run_desk.result.records) None)) b.options (c.run_desk.ensures.ends (ap (λ (O : Options). O.wq) b.options ∙ alone)))
+
+pub returns-in-Ok-clause-waited : goal.returns-in-Ok-clause-waited
+returns-in-Ok-clause-waited g c alone =
+    let b : IsBegun (g.S.Site.count c.args.site) c.args.plan c.args.options c.args.log.name c.args.history g.F.Commands.may_fail (serial c.args.plan g.F.Commands.gives g.T.Terms.sources) c.in-Ok.desk = (begun g.S.Site.count c.args.plan c.args.options c.args.log.name c.args.history c.now.result g.S.Site.tells (g.S.Site.files c.args.site) c.args.site g.F.Commands.may_fail (serial c.args.plan g.F.Commands.gives g.T.Terms.sources) c.in-Ok.desk c.in-Ok.ensures.reply) in
+    let limit = c.args.workers.limit in
+    let rise = g.H.Hall.idle_count c.run_desk.new.hall - g.H.Hall.idle_count c.args.hall.now in
+    subst (λ (P : Plan). IfOk c.run_desk.result.how (EndsWaiting P c.args.options limit rise c.run_desk.result.records)) b.plan
+    (subst (λ (O : Options). IfOk c.run_desk.result.how (EndsWaiting c.in-Ok.desk.plan O limit rise c.run_desk.result.records)) b.options (c.run_desk.ensures.waited (ap (λ (O : Options). O.wq) b.options ∙ alone)))
+
+pub returns-in-Ok-clause-lost_away : goal.returns-in-Ok-clause-lost_away
+returns-in-Ok-clause-lost_away g c =
+    let b : IsBegun (g.S.Site.count c.args.site) c.args.plan c.args.options c.args.log.name c.args.history g.F.Commands.may_fail (serial c.args.plan g.F.Commands.gives g.T.Terms.sources) c.in-Ok.desk = (begun g.S.Site.count c.args.plan c.args.options c.args.log.name c.args.history c.now.result g.S.Site.tells (g.S.Site.files c.args.site) c.args.site g.F.Commands.may_fail (serial c.args.plan g.F.Commands.gives g.T.Terms.sources) c.in-Ok.desk c.in-Ok.ensures.reply) in
+    on_ok c.run_desk.result.how (LosesOnLinks (records_of c.in-Ok.desk.moves) c.run_desk.result.records) (LosesOnLinks c.args.history c.run_desk.result.records)
+    (loses_begun c.args.history (records_of c.in-Ok.desk.moves) c.run_desk.result.records b.entry b.records b.kept) c.run_desk.ensures.lost_away
+
+pub run_desk-requires-clause-asked : goal.run_desk-requires-clause-asked
+run_desk-requires-clause-asked g c κs within =
+    let b : IsBegun (g.S.Site.count c.args.site) c.args.plan c.args.options c.args.log.name c.args.history g.F.Commands.may_fail (serial c.args.plan g.F.Commands.gives g.T.Terms.sources) c.in-Ok.desk = (begun g.S.Site.count c.args.plan c.args.options c.args.log.name c.args.history c.now.result g.S.Site.tells (g.S.Site.files c.args.site) c.args.site g.F.Commands.may_fail (serial c.args.plan g.F.Commands.gives g.T.Terms.sources) c.in-Ok.desk c.in-Ok.ensures.reply) in
+    sym (ap (λ (O : Options). O.wq) b.options)
+
+pub run_desk-requires-clause-here : goal.run_desk-requires-clause-here
+run_desk-requires-clause-here g c κs within trusted =
+    let b : IsBegun (g.S.Site.count c.args.site) c.args.plan c.args.options c.args.log.name c.args.history g.F.Commands.may_fail (serial c.args.plan g.F.Commands.gives g.T.Terms.sources) c.in-Ok.desk = (begun g.S.Site.count c.args.plan c.args.options c.args.log.name c.args.history c.now.result g.S.Site.tells (g.S.Site.files c.args.site) c.args.site g.F.Commands.may_fail (serial c.args.plan g.F.Commands.gives g.T.Terms.sources) c.in-Ok.desk c.in-Ok.ensures.reply) in
+    ap (λ (O : Options). O.wq) b.options ∙ c.requires.here trusted
+
+pub returns-in-Ok-clause-sure : goal.returns-in-Ok-clause-sure
+returns-in-Ok-clause-sure g c alone sure =
+    let b : IsBegun (g.S.Site.count c.args.site) c.args.plan c.args.options c.args.log.name c.args.history g.F.Commands.may_fail (serial c.args.plan g.F.Commands.gives g.T.Terms.sources) c.in-Ok.desk = (begun g.S.Site.count c.args.plan c.args.options c.args.log.name c.args.history c.now.result g.S.Site.tells (g.S.Site.files c.args.site) c.args.site g.F.Commands.may_fail (serial c.args.plan g.F.Commands.gives g.T.Terms.sources) c.in-Ok.desk c.in-Ok.ensures.reply) in
+    c.run_desk.ensures.sure (ap (λ (O : Options). O.wq) b.options ∙ alone) sure
+
+pub returns-in-Ok-clause-failed : goal.returns-in-Ok-clause-failed
+returns-in-Ok-clause-failed g c alone =
+    let b : IsBegun (g.S.Site.count c.args.site) c.args.plan c.args.options c.args.log.name c.args.history g.F.Commands.may_fail (serial c.args.plan g.F.Commands.gives g.T.Terms.sources) c.in-Ok.desk = (begun g.S.Site.count c.args.plan c.args.options c.args.log.name c.args.history c.now.result g.S.Site.tells (g.S.Site.files c.args.site) c.args.site g.F.Commands.may_fail (serial c.args.plan g.F.Commands.gives g.T.Terms.sources) c.in-Ok.desk c.in-Ok.ensures.reply) in
+    c.run_desk.ensures.failed (ap (λ (O : Options). O.wq) b.options ∙ alone)
+
+pub returns-in-Ok-clause-hall : goal.returns-in-Ok-clause-hall
+returns-in-Ok-clause-hall g c is =
+    let b : IsBegun (g.S.Site.count c.args.site) c.args.plan c.args.options c.args.log.name c.args.history g.F.Commands.may_fail (serial c.args.plan g.F.Commands.gives g.T.Terms.sources) c.in-Ok.desk = (begun g.S.Site.count c.args.plan c.args.options c.args.log.name c.args.history c.now.result g.S.Site.tells (g.S.Site.files c.args.site) c.args.site g.F.Commands.may_fail (serial c.args.plan g.F.Commands.gives g.T.Terms.sources) c.in-Ok.desk c.in-Ok.ensures.reply) in
+    let told = c.run_desk.ensures.hall is in
+    (sym (ap (λ (O : Options). O.wq) b.options) ∙ told.0, told.1)
+
+pub returns-in-Ok-clause-alone : goal.returns-in-Ok-clause-alone
+returns-in-Ok-clause-alone g c alone =
+    let b : IsBegun (g.S.Site.count c.args.site) c.args.plan c.args.options c.args.log.name c.args.history g.F.Commands.may_fail (serial c.args.plan g.F.Commands.gives g.T.Terms.sources) c.in-Ok.desk = (begun g.S.Site.count c.args.plan c.args.options c.args.log.name c.args.history c.now.result g.S.Site.tells (g.S.Site.files c.args.site) c.args.site g.F.Commands.may_fail (serial c.args.plan g.F.Commands.gives g.T.Terms.sources) c.in-Ok.desk c.in-Ok.ensures.reply) in
+    c.run_desk.ensures.alone (ap (λ (O : Options). O.wq) b.options ∙ alone)
+
+pub returns-in-Ok-clause-unmet : goal.returns-in-Ok-clause-unmet
+returns-in-Ok-clause-unmet g c refused = absurd (c.run_desk.ensures.started refused)
+
+pub returns-in-Err-clause-back : goal.returns-in-Err-clause-back
+returns-in-Err-clause-back g c whole = back_same (g.H.Hall.got c.args.hall.now) (g.H.Hall.given c.args.hall.now)
+
+pub returns-in-Ok-clause-places : goal.returns-in-Ok-clause-places
+returns-in-Ok-clause-places g c =
+    let b : IsBegun (g.S.Site.count c.args.site) c.args.plan c.args.options c.args.log.name c.args.history g.F.Commands.may_fail (serial c.args.plan g.F.Commands.gives g.T.Terms.sources) c.in-Ok.desk = (begun g.S.Site.count c.args.plan c.args.options c.args.log.name c.args.history c.now.result g.S.Site.tells (g.S.Site.files c.args.site) c.args.site g.F.Commands.may_fail (serial c.args.plan g.F.Commands.gives g.T.Terms.sources) c.in-Ok.desk c.in-Ok.ensures.reply) in
+    subst (λ (P : Plan). PlacedBy P c.args.options c.args.history c.run_desk.result.records) b.plan
+    (subst (λ (O : Options). PlacedBy c.in-Ok.desk.plan O c.args.history c.run_desk.result.records) b.options (c.run_desk.ensures.places c.args.history b.over))
+
+pub returns-in-Err-clause-places : goal.returns-in-Err-clause-places
+returns-in-Err-clause-places g c = placed_none c.args.plan c.args.options c.args.history c.in-Err.refused.history c.in-Err.ensures.reply.0
 
 pub returns-in-Ok-clause-others : goal.returns-in-Ok-clause-others
 returns-in-Ok-clause-others g c told =
@@ -157,12 +223,12 @@ returns-in-Ok-clause-damage g c told =
     (c.run_desk.ensures.damage told (subst (λ (P : Plan). IsApart P c.in-Ok.desk.log) (sym b.plan) (subst (λ (n : List ℕ). IsApart c.args.plan n) (sym b.log_is) c.requires.apart)))
 
 pub returns-in-Ok-clause-failures : goal.returns-in-Ok-clause-failures
-returns-in-Ok-clause-failures g c closed =
+returns-in-Ok-clause-failures g c alone closed =
     let b : IsBegun (g.S.Site.count c.args.site) c.args.plan c.args.options c.args.log.name c.args.history g.F.Commands.may_fail (serial c.args.plan g.F.Commands.gives g.T.Terms.sources) c.in-Ok.desk = (begun g.S.Site.count c.args.plan c.args.options c.args.log.name c.args.history c.now.result g.S.Site.tells (g.S.Site.files c.args.site) c.args.site g.F.Commands.may_fail (serial c.args.plan g.F.Commands.gives g.T.Terms.sources) c.in-Ok.desk c.in-Ok.ensures.reply) in
-    logs_then c.args.history (records_of c.in-Ok.desk.moves) c.run_desk.result.records _ _ _ (logs_plain c.args.history (records_of c.in-Ok.desk.moves) b.entry _ _ b.records b.failed refl) (c.run_desk.ensures.failures closed)
+    logs_then c.args.history (records_of c.in-Ok.desk.moves) c.run_desk.result.records _ _ _ (logs_plain c.args.history (records_of c.in-Ok.desk.moves) b.entry _ _ b.records b.failed refl) (c.run_desk.ensures.failures (ap (λ (O : Options). O.wq) b.options ∙ alone) closed)
 
 pub returns-in-Err-clause-failures : goal.returns-in-Err-clause-failures
-returns-in-Err-clause-failures g c closed = absurd closed
+returns-in-Err-clause-failures g c alone closed = absurd closed
 
 pub returns-in-Ok-clause-completes : goal.returns-in-Ok-clause-completes
 returns-in-Ok-clause-completes g c here told kept trusted fit room sure =

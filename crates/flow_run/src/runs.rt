@@ -1,6 +1,6 @@
 //! A run over a log, from its start to its end.
 ghost use Rattle.std.specs.Prelude.{◌≡◌, ◌≢◌, ◌≤◌, ◌+◌, ◌⊎◌, ℕ, List, length, IfOk, OnOk, None};
-ghost use Rattle.std.specs.Prelude.{◌<◌, sum_by, true};
+ghost use Rattle.std.specs.Prelude.{◌<◌, ◌-◌, sum_by, true, false};
 ghost use Rattle.flow_types.specs.declared.records.Record.{Record as RecordValue};
 ghost use Rattle.flow_types.specs.Plans.{IsValid, is_empty, is_source};
 ghost use Rattle.flow_types.specs.Serial.{serial};
@@ -27,31 +27,25 @@ ghost use Rattle.local_run.specs.Ends.{IsFresh, IsRunEnd, IsSureEnd, IsWholeRun,
 ghost use Rattle.local_run.specs.Ends.{OpensBy, RunDamage, StartEnds, records_due, run_fault};
 ghost use Rattle.local_run.specs.Runs.{Adds, BeginsWith, HasCauses, Held, IsAdmitted, IsClosedRun};
 ghost use Rattle.local_run.specs.Runs.{IsEarlyRun, IsRefusedRun};
-ghost use Rattle.local_run.specs.Runs.{IsCutRun, IsKeeping, IsSparedName, IsStanding, LosesNone};
-ghost use Rattle.local_run.specs.Runs.{SerialFits, ended_by, read_sources};
+ghost use Rattle.local_run.specs.Runs.{IsCutRun, IsHallEnd, IsKeeping, IsSparedName, IsStanding};
+ghost use Rattle.local_run.specs.Runs.{LosesNone, SerialFits, read_sources};
+ghost use Rattle.wq_run.specs.Ends.{AreBack, EndsWaiting, IsSparedRunners, LosesOnLinks};
+ghost use Rattle.flow_run.specs.Places.{PlacedBy};
 
 use crate::course::work;
-use crate::ended::{RunEnded, Stopped};
-use crate::{Born, Halt};
 use desk::{Desk, StartRefused, Terms};
 use flow_types::{Plan, Record, Rows};
+use links::Hall;
+use local_run::{Born, RunEnded, Stopped};
 use outside::{Clock, Commands, Runner, Site};
-use run_history::{Check, Options};
+use run_history::Options;
 use std::alloc::Global;
 use std::marker::Brand;
 use std::sync::Wait;
 use std::thread::Threads;
 use txn_log::Log;
 use worker_pool::Gate;
-
-fn ended_by(done: Result<Check, Halt>) -> Result<Check, Stopped>
-    ensures { result ≡ ended_by done }
-{
-    match done {
-        Ok(check) => Ok(check),
-        Err(halt) => Err(Stopped::Halted(halt)),
-    }
-}
+use wq_run::Workers;
 
 /// The run of a desk that was just started.
 fn run_desk<
@@ -59,11 +53,23 @@ fn run_desk<
     G: Gate,
     F: Commands,
     S: Site,
+    H: Hall<F>,
     R: Runner<F>,
     C: Clock,
     T: Terms,
->(rt: &W, alloc: Global, desk: Desk<F, S, T>, runners: &mut [R], gate: &G, clock: &C) -> RunEnded<S>
+>(
+    rt: &W,
+    alloc: Global,
+    wq: bool,
+    desk: Desk<F, S, T>,
+    hall: &mut H,
+    workers: Workers,
+    runners: &mut [R],
+    gate: &G,
+    clock: &C,
+) -> RunEnded<S>
     requires some { 0 < length runners.old }
+    requires asked { wq ≡ desk.options.wq }
     requires valid { IsValid desk.plan }
     requires fine { IsFine desk.trouble }
     requires unset { desk.stop ≡ None }
@@ -71,6 +77,8 @@ fn run_desk<
     requires idle { length (running_rules desk.plan (records_of desk.moves)) ≤ 0 }
     requires base { T.trust → S.tells × T.kept
         × TellsJobs desk.plan (AllTell R.tells runners.old) (serial desk.plan F.gives T.sources) }
+    requires here { T.trust → desk.options.wq ≡ false }
+    requires keen { (k : ℕ) → 0 < k → T.keen k → ⊥ }
     ensures more { Adds T.trust F.gives F.may_fail T.sources desk.plan (records_of desk.moves)
         result.records }
     ensures legal { IsLegal desk.plan result.records }
@@ -78,10 +86,15 @@ fn run_desk<
         (sum_by R.count runners.new) result.how }
     ensures idle { (IsCutRun result.how → ⊥)
         → length (running_rules desk.plan result.records) ≤ 0 }
-    ensures lost { (H : List RecordValue) → BeganOver desk H
+    ensures lost { desk.options.wq ≡ false → (H : List RecordValue) → BeganOver desk H
         → OnOk result.how (LosesNone (records_of desk.moves) result.records) }
-    ensures ends { IfOk result.how (λ check. check
+    ensures lost_away { OnOk result.how
+        (LosesOnLinks (records_of desk.moves) result.records) }
+    ensures ends { desk.options.wq ≡ false → IfOk result.how (λ check. check
         ≡ end_over desk.plan desk.options (before_end result.records) None) }
+    ensures waited { desk.options.wq ≡ true → IfOk result.how
+        (EndsWaiting desk.plan desk.options workers.limit
+        (H.idle_count hall.new - H.idle_count hall.old) result.records) }
     ensures others { S.tells → LeavesAlone S.files S.may_leave S.moment S.images_since
         (IsUnmade desk.plan desk.log) desk.site result.site }
     ensures kept { S.tells → T.kept → (image : Files)
@@ -97,6 +110,8 @@ fn run_desk<
         → CollectsBy desk.plan desk.options.mode H result.records }
     ensures collects { (H : List RecordValue) → BeganOver desk H
         → RunCollects desk.plan desk.options.mode result.records }
+    ensures places { (H : List RecordValue) → BeganOver desk H
+        → PlacedBy desk.plan desk.options H result.records }
     ensures gone { S.tells → (IsCutRun result.how → ⊥) → IsApart desk.plan desk.log
         → AreGone desk.plan (S.files result.site) (records_of desk.moves) result.records }
     ensures opened { (O : OptionsValue) → OpensBy O (records_of desk.moves)
@@ -106,18 +121,30 @@ fn run_desk<
     ensures damage { S.tells → IsApart desk.plan desk.log
         → RunDamage desk.plan result.records (S.files result.site) result.how }
     ensures whole { S.tells → T.kept → IsWholeRun result.how }
-    ensures sure { AllSure R.sure runners.old → IsSureEnd result.how }
-    ensures failed { HasFailed (sum_by R.failures runners.old) (sum_by R.failures runners.new)
-        result.how }
-    ensures failures { IsClosedRun result.how → LogsFailures (records_of desk.moves)
-        result.records (sum_by R.failures runners.old) (sum_by R.failures runners.new) }
+    ensures never { AllSure R.sure runners.old → IsSparedRunners result.how }
+    ensures sure { desk.options.wq ≡ false → AllSure R.sure runners.old
+        → IsSureEnd result.how }
+    ensures risen { sum_by R.failures runners.old ≤ sum_by R.failures runners.new }
+    ensures failed { desk.options.wq ≡ false
+        → HasFailed (sum_by R.failures runners.old) (sum_by R.failures runners.new) result.how }
+    ensures failures { desk.options.wq ≡ false → IsClosedRun result.how
+        → LogsFailures (records_of desk.moves) result.records
+        (sum_by R.failures runners.old) (sum_by R.failures runners.new) }
+    ensures hall { IsHallEnd result.how
+        → (desk.options.wq ≡ true) × (H.count hall.old < H.count hall.new) }
+    ensures met { H.count hall.old ≤ H.count hall.new }
+    ensures alone { desk.options.wq ≡ false → hall.new ≡ hall.old }
+    ensures back { (IsCutRun result.how → ⊥)
+        → AreBack (H.got hall.old) (H.got hall.new) (H.given hall.old) (H.given hall.new) }
     ensures completes { FitsHere desk.plan desk.options → S.tells → T.kept → T.trust
         → SerialInputsFit desk.plan F.gives T.sources → AllSure R.sure runners.old
         → records_due desk.plan (records_of desk.moves) + 1 ≤ most_records
         → IfOk result.how (IsCompleteEnd desk.options.limit) }
 {
     let mut desk = desk;
-    let how = ended_by(work(rt, alloc, &mut desk, runners, gate, clock));
+    let how = work(
+        rt, alloc, wq, &mut desk, hall, workers, runners, gate, clock,
+    );
     let _works = desk.works();
     let (site, records) = desk.into_parts();
     RunEnded { site, records, how }
@@ -129,6 +156,7 @@ fn run_by<
     G: Gate,
     F: Commands,
     S: Site,
+    H: Hall<F>,
     R: Runner<F>,
     C: Clock,
     T: Terms,
@@ -140,6 +168,8 @@ fn run_by<
     log: Log,
     history: Rows<Record>,
     options: Options,
+    hall: &mut H,
+    workers: Workers,
     runners: &mut [R],
     gate: &G,
     clock: &C,
@@ -158,15 +188,20 @@ fn run_by<
         → (f : ℕ) → is_source plan f ≡ true → S.files site (file_name plan f) ≡ T.sources f }
     requires base { T.trust → S.tells × T.kept
         × TellsJobs plan (AllTell R.tells runners.old) (serial plan F.gives T.sources) }
+    requires here { T.trust → options.wq ≡ false }
+    requires keen { (k : ℕ) → 0 < k → T.keen k → ⊥ }
     ensures more { Adds T.trust F.gives F.may_fail T.sources plan history result.records }
     ensures causes { HasCauses (S.count site) (S.count result.site) (sum_by R.count runners.old)
         (sum_by R.count runners.new) result.how }
     ensures legal { IsAdmitted result.how → IsLegal plan result.records }
     ensures idle { IsClosedRun result.how
         → length (running_rules plan result.records) ≤ 0 }
-    ensures lost { OnOk result.how (LosesNone history result.records) }
-    ensures ends { IfOk result.how (λ check. check
+    ensures lost { options.wq ≡ false → OnOk result.how (LosesNone history result.records) }
+    ensures lost_away { OnOk result.how (LosesOnLinks history result.records) }
+    ensures ends { options.wq ≡ false → IfOk result.how (λ check. check
         ≡ end_over plan options (before_end result.records) None) }
+    ensures waited { options.wq ≡ true → IfOk result.how (EndsWaiting plan options workers.limit
+        (H.idle_count hall.new - H.idle_count hall.old) result.records) }
     ensures others { S.tells → StaysBeside S.may_leave S.moment S.images_since
         (IsUnmade plan log.name) site result.site }
     ensures reads { S.tells
@@ -185,6 +220,7 @@ fn run_by<
     ensures modes { CollectsBy plan options.mode history result.records }
     ensures collects { (IsRefusedRun result.how → ⊥)
         → RunCollects plan options.mode result.records }
+    ensures places { PlacedBy plan options history result.records }
     ensures gone { S.tells → (IsCutRun result.how → ⊥)
         → AreGone plan (S.files result.site) history result.records }
     ensures unused { IsRefusedRun result.how → runners.new ≡ runners.old }
@@ -193,17 +229,29 @@ fn run_by<
     ensures damage { S.tells
         → RunDamage plan result.records (S.files result.site) result.how }
     ensures whole { S.tells → T.kept → IsWholeRun result.how }
-    ensures sure { AllSure R.sure runners.old → IsSureEnd result.how }
-    ensures failed { HasFailed (sum_by R.failures runners.old) (sum_by R.failures runners.new)
-        result.how }
-    ensures failures { IsClosedRun result.how → LogsFailures history result.records
+    ensures never { AllSure R.sure runners.old → IsSparedRunners result.how }
+    ensures sure { options.wq ≡ false → AllSure R.sure runners.old → IsSureEnd result.how }
+    ensures risen { sum_by R.failures runners.old ≤ sum_by R.failures runners.new }
+    ensures failed { options.wq ≡ false
+        → HasFailed (sum_by R.failures runners.old) (sum_by R.failures runners.new) result.how }
+    ensures failures { options.wq ≡ false → IsClosedRun result.how
+        → LogsFailures history result.records
         (sum_by R.failures runners.old) (sum_by R.failures runners.new) }
+    ensures hall { IsHallEnd result.how
+        → (options.wq ≡ true) × (H.count hall.old < H.count hall.new) }
+    ensures met { H.count hall.old ≤ H.count hall.new }
+    ensures alone { options.wq ≡ false → hall.new ≡ hall.old }
+    ensures unmet { IsRefusedRun result.how → hall.new ≡ hall.old }
+    ensures back { (IsCutRun result.how → ⊥)
+        → AreBack (H.got hall.old) (H.got hall.new) (H.given hall.old) (H.given hall.new) }
     ensures completes { FitsHere plan options → S.tells → T.kept → T.trust
         → SerialInputsFit plan F.gives T.sources → HasRecordRoom plan history
         → AllSure R.sure runners.old → IfOk result.how (IsCompleteEnd options.limit) }
 {
     match Desk::<F, S, T>::start(alloc, plan, site, log, history, options, clock.now()) {
-        Ok(desk) => run_desk(rt, alloc, desk, runners, gate, clock),
+        Ok(desk) => run_desk(
+            rt, alloc, options.wq, desk, hall, workers, runners, gate, clock,
+        ),
         Err(refused) => {
             let StartRefused { why, site, history } = refused;
             RunEnded {
@@ -215,8 +263,9 @@ fn run_by<
     }
 }
 
-/// Runs a plan over a log that was just read, on this machine. A file that the mode of the options
-/// wants collected is dropped before another rule starts.
+/// Runs a plan over a log that was just read: on this machine, or where the options ask for workers
+/// also at those that come to the hall. A file that the mode of the options wants collected is
+/// dropped before another rule starts.
 ///
 /// At any moment of the call a crash leaves the records of the log, or these and some that the run
 /// added, each present file with what was logged, and where the commands are functions of their
@@ -227,6 +276,7 @@ pub fn run<
     G: Gate,
     F: Commands,
     S: Site,
+    H: Hall<F>,
     R: Runner<F>,
     C: Clock,
     B: Born,
@@ -238,6 +288,8 @@ pub fn run<
     log: Log,
     history: Rows<Record>,
     options: Options,
+    hall: &mut H,
+    workers: Workers,
     runners: &mut [R],
     gate: &G,
     clock: &C,
@@ -255,9 +307,12 @@ pub fn run<
     ensures idle { IsClosedRun result.how
         → length (running_rules plan result.records) ≤ 0 }
     ensures spent { IsClosedRun result.how → SpentOnce (since_opening result.records) }
-    ensures lost { OnOk result.how (LosesNone history result.records) }
-    ensures ends { IfOk result.how (λ check. check
+    ensures lost { options.wq ≡ false → OnOk result.how (LosesNone history result.records) }
+    ensures lost_away { OnOk result.how (LosesOnLinks history result.records) }
+    ensures ends { options.wq ≡ false → IfOk result.how (λ check. check
         ≡ end_over plan options (before_end result.records) None) }
+    ensures waited { options.wq ≡ true → IfOk result.how (EndsWaiting plan options workers.limit
+        (H.idle_count hall.new - H.idle_count hall.old) result.records) }
     ensures others { S.tells → StaysBeside S.may_leave S.moment S.images_since
         (IsUnmade plan log.name) site result.site }
     ensures reads { S.tells
@@ -269,14 +324,14 @@ pub fn run<
     ensures now { S.tells → IsKeeping plan log.name history (S.may_leave site)
         → (IsCutRun result.how → ⊥) → (image : Files) → IsImage (S.may_leave result.site) image
         → Keeps Held plan log.name result.records image }
-    ensures serial { S.tells
+    ensures serial { options.wq ≡ false → S.tells
         → let sources = read_sources plan (S.files site) in
         IsStanding F.gives sources plan log.name history (S.may_leave site)
         → TellsJobs plan (AllTell R.tells runners.old) (serial plan F.gives sources)
         → (image : Files) → S.images_since result.site B.born image
         → S.images_since site B.born image ⊎ WasKept (SerialFits F.gives sources) plan log.name
         (length history) result.records (IsCutRun result.how) image }
-    ensures more { S.tells
+    ensures more { options.wq ≡ false → S.tells
         → let sources = read_sources plan (S.files site) in
         IsStanding F.gives sources plan log.name history (S.may_leave site)
         → TellsJobs plan (AllTell R.tells runners.old) (serial plan F.gives sources)
@@ -288,6 +343,7 @@ pub fn run<
     ensures modes { CollectsBy plan options.mode history result.records }
     ensures collects { (IsRefusedRun result.how → ⊥)
         → RunCollects plan options.mode result.records }
+    ensures places { PlacedBy plan options history result.records }
     ensures gone { S.tells → (IsCutRun result.how → ⊥)
         → AreGone plan (S.files result.site) history result.records }
     ensures unused { IsRefusedRun result.how → runners.new ≡ runners.old }
@@ -297,11 +353,21 @@ pub fn run<
         → RunDamage plan result.records (S.files result.site) result.how }
     ensures whole { S.tells → IsKeeping plan log.name history (S.may_leave site)
         → IsWholeRun result.how }
-    ensures sure { AllSure R.sure runners.old → IsSureEnd result.how }
-    ensures failed { HasFailed (sum_by R.failures runners.old) (sum_by R.failures runners.new)
-        result.how }
-    ensures failures { IsClosedRun result.how → LogsFailures history result.records
+    ensures never { AllSure R.sure runners.old → IsSparedRunners result.how }
+    ensures sure { options.wq ≡ false → AllSure R.sure runners.old → IsSureEnd result.how }
+    ensures risen { sum_by R.failures runners.old ≤ sum_by R.failures runners.new }
+    ensures failed { options.wq ≡ false
+        → HasFailed (sum_by R.failures runners.old) (sum_by R.failures runners.new) result.how }
+    ensures failures { options.wq ≡ false → IsClosedRun result.how
+        → LogsFailures history result.records
         (sum_by R.failures runners.old) (sum_by R.failures runners.new) }
+    ensures hall { IsHallEnd result.how
+        → (options.wq ≡ true) × (H.count hall.old < H.count hall.new) }
+    ensures met { H.count hall.old ≤ H.count hall.new }
+    ensures alone { options.wq ≡ false → hall.new ≡ hall.old }
+    ensures unmet { IsRefusedRun result.how → hall.new ≡ hall.old }
+    ensures back { (IsCutRun result.how → ⊥)
+        → AreBack (H.got hall.old) (H.got hall.new) (H.given hall.old) (H.given hall.new) }
     ensures completes { S.tells
         → let sources = read_sources plan (S.files site) in
         IsStanding F.gives sources plan log.name history (S.may_leave site)
@@ -311,7 +377,7 @@ pub fn run<
         → AllSure R.sure runners.old → S.count result.site ≤ S.count site
         → IsDone options.limit result.how }
 {
-    run_by::<W, G, F, S, R, C, Brand>(
-        rt, alloc, plan, site, log, history, options, runners, gate, clock,
+    run_by::<W, G, F, S, H, R, C, Brand>(
+        rt, alloc, plan, site, log, history, options, hall, workers, runners, gate, clock,
     )
 }

@@ -17,7 +17,9 @@ use Rattle.local_run.proofs.Starts.{fault_joined, starts_joined}
 use Rattle.local_run.proofs.Joining.{each_moment, goes_on_from, is_named, keeping, others_joined, reads_joined}
 use Rattle.log_recover.specs.Recovery.{IsDamage}
 use Rattle.local_run.proofs.Refused.{damage_told, early_over, reads_same}
-use Rattle.local_run.proofs.resuming.resume.Goals as goal
+use Rattle.wq_run.specs.Ends.{LosesOnLinks}
+use Rattle.flow_run.specs.Places.{PlacedBy}
+use Rattle.flow_run.proofs.resuming.resume.Goals as goal
 
 pub returns-in-Ok-clause-moments : goal.returns-in-Ok-clause-moments
 returns-in-Ok-clause-moments g c told H spelled resumable image left =
@@ -25,12 +27,12 @@ returns-in-Ok-clause-moments g c told H spelled resumable image left =
     (c.recover.ensures.any_moment told) (c.run.ensures.kept told (keeping g.S.Site.may_leave g.S.Site.moment g.S.Site.images_since c.args.plan c.args.name c.in-Ok.log.name c.in-Ok.ensures.named.same_name c.in-Ok.history H (c.in-Ok.ensures.exact told H spelled) (g.S.Site.files c.args.site) c.args.site c.recover.new.site Held c.requires.apart c.files_spell_one_list.ensures.one ((g.met.S.Site g.world.𝓛 g.world.𝓜 g.world.𝓡 ((λ s x. x), (λ x. x), (λ x. x), λ x. x)).reads_image told c.args.site c.args.name) (c.in-Ok.ensures.answer told) (c.in-Ok.ensures.stands told).at.each (c.recover.ensures.crash told) resumable) image left)
 
 pub returns-in-Ok-clause-contents : goal.returns-in-Ok-clause-contents
-returns-in-Ok-clause-contents g c told H spelled resumable tells image left =
+returns-in-Ok-clause-contents g c alone told H spelled resumable tells image left =
     let same : (read_sources c.args.plan (g.S.Site.files c.recover.new.site)) ≡ (read_sources c.args.plan (g.S.Site.files c.args.site)) = λ i f. (c.recover.ensures.others told (file_name c.args.plan f) (c.requires.apart f)) i in
     each_moment g.S.Site.may_leave g.S.Site.moment g.S.Site.images_since c.args.plan c.args.name c.in-Ok.log.name c.in-Ok.ensures.named.same_name c.in-Ok.history H (c.in-Ok.ensures.exact told H spelled) (g.S.Site.files c.args.site) c.args.site c.recover.new.site (SerialFits g.F.Commands.gives (read_sources c.args.plan (g.S.Site.files c.args.site))) c.run.result.records (IsCutRun c.run.result.how) g.B.Born.born image (c.requires.later told)
     (c.recover.ensures.any_moment told)
     (subst (λ (s : Contents). g.S.Site.images_since c.recover.new.site g.B.Born.born image ⊎ WasKept (SerialFits g.F.Commands.gives s) c.args.plan c.in-Ok.log.name (length c.in-Ok.history) c.run.result.records (IsCutRun c.run.result.how) image) same
-    (c.run.ensures.serial told
+    (c.run.ensures.serial alone told
     (subst (λ (s : Contents). IsStanding g.F.Commands.gives s c.args.plan c.in-Ok.log.name c.in-Ok.history (g.S.Site.may_leave c.recover.new.site)) (sym same) (keeping g.S.Site.may_leave g.S.Site.moment g.S.Site.images_since c.args.plan c.args.name c.in-Ok.log.name c.in-Ok.ensures.named.same_name c.in-Ok.history H (c.in-Ok.ensures.exact told H spelled) (g.S.Site.files c.args.site) c.args.site c.recover.new.site (SerialFits g.F.Commands.gives (read_sources c.args.plan (g.S.Site.files c.args.site))) c.requires.apart c.files_spell_one_list.ensures.one ((g.met.S.Site g.world.𝓛 g.world.𝓜 g.world.𝓡 ((λ s x. x), (λ x. x), (λ x. x), λ x. x)).reads_image told c.args.site c.args.name) (c.in-Ok.ensures.answer told) (c.in-Ok.ensures.stands told).at.each (c.recover.ensures.crash told) resumable))
     (subst (λ (s : Contents). TellsJobs c.args.plan (AllTell g.R.Runner.tells c.args.runners.now) (serial c.args.plan g.F.Commands.gives s)) (sym same) tells) image left))
 
@@ -55,10 +57,20 @@ pub returns-in-Ok-clause-grows : goal.returns-in-Ok-clause-grows
 returns-in-Ok-clause-grows g c told H spelled = subst (λ (G : List Record). BeginsWith G c.run.result.records) (c.in-Ok.ensures.exact told H spelled) c.run.ensures.grows
 
 pub returns-in-Ok-clause-lost : goal.returns-in-Ok-clause-lost
-returns-in-Ok-clause-lost g c =
+returns-in-Ok-clause-lost g c alone =
     on_ok c.run.result.how (LosesNone c.in-Ok.history c.run.result.records)
     (g.S.Site.tells → (H : List Record) → Spells H (g.S.Site.files c.args.site c.args.name) → LosesNone H c.run.result.records)
-    (λ loses told H spelled. subst (λ (G : List Record). LosesNone G c.run.result.records) (c.in-Ok.ensures.exact told H spelled) loses) c.run.ensures.lost
+    (λ loses told H spelled. subst (λ (G : List Record). LosesNone G c.run.result.records) (c.in-Ok.ensures.exact told H spelled) loses) (c.run.ensures.lost alone)
+
+pub returns-in-Ok-clause-lost_away : goal.returns-in-Ok-clause-lost_away
+returns-in-Ok-clause-lost_away g c =
+    on_ok c.run.result.how (LosesOnLinks c.in-Ok.history c.run.result.records)
+    (g.S.Site.tells → (H : List Record) → Spells H (g.S.Site.files c.args.site c.args.name) → LosesOnLinks H c.run.result.records)
+    (λ loses told H spelled. subst (λ (G : List Record). LosesOnLinks G c.run.result.records) (c.in-Ok.ensures.exact told H spelled) loses) c.run.ensures.lost_away
+
+pub returns-in-Ok-clause-places : goal.returns-in-Ok-clause-places
+returns-in-Ok-clause-places g c told H spelled =
+    subst (λ (G : List Record). PlacedBy c.args.plan c.args.options G c.run.result.records) (c.in-Ok.ensures.exact told H spelled) c.run.ensures.places
 
 pub returns-in-Ok-clause-others : goal.returns-in-Ok-clause-others
 returns-in-Ok-clause-others g c told =
@@ -82,8 +94,8 @@ pub returns-in-Ok-clause-whole : goal.returns-in-Ok-clause-whole
 returns-in-Ok-clause-whole g c told H spelled resumable = c.run.ensures.whole told (keeping g.S.Site.may_leave g.S.Site.moment g.S.Site.images_since c.args.plan c.args.name c.in-Ok.log.name c.in-Ok.ensures.named.same_name c.in-Ok.history H (c.in-Ok.ensures.exact told H spelled) (g.S.Site.files c.args.site) c.args.site c.recover.new.site Held c.requires.apart c.files_spell_one_list.ensures.one ((g.met.S.Site g.world.𝓛 g.world.𝓜 g.world.𝓡 ((λ s x. x), (λ x. x), (λ x. x), λ x. x)).reads_image told c.args.site c.args.name) (c.in-Ok.ensures.answer told) (c.in-Ok.ensures.stands told).at.each (c.recover.ensures.crash told) resumable)
 
 pub returns-in-Ok-clause-failures : goal.returns-in-Ok-clause-failures
-returns-in-Ok-clause-failures g c closed told H spelled =
-    subst (λ (G : List Record). LogsFailures G c.run.result.records (sum_by g.R.Runner.failures c.args.runners.now) (sum_by g.R.Runner.failures c.run.new.runners)) (c.in-Ok.ensures.exact told H spelled) (c.run.ensures.failures closed)
+returns-in-Ok-clause-failures g c alone closed told H spelled =
+    subst (λ (G : List Record). LogsFailures G c.run.result.records (sum_by g.R.Runner.failures c.args.runners.now) (sum_by g.R.Runner.failures c.run.new.runners)) (c.in-Ok.ensures.exact told H spelled) (c.run.ensures.failures alone closed)
 
 pub returns-in-Ok-clause-completes : goal.returns-in-Ok-clause-completes
 returns-in-Ok-clause-completes g c told H spelled resumable tells here fit room free sure stood =
@@ -111,11 +123,11 @@ returns-in-Ok-clause-quiet g c told early m =
     (c.files_spell_one_list.ensures.one c.in-Ok.history [] (g.S.Site.files c.args.site c.args.name) (c.in-Ok.ensures.answer told) (inl unbegun))) m
 
 pub returns-in-Ok-clause-honest : goal.returns-in-Ok-clause-honest
-returns-in-Ok-clause-honest g c told H spelled resumable tells =
+returns-in-Ok-clause-honest g c alone told H spelled resumable tells =
     let same : (read_sources c.args.plan (g.S.Site.files c.recover.new.site)) ≡ (read_sources c.args.plan (g.S.Site.files c.args.site)) = λ i f. (c.recover.ensures.others told (file_name c.args.plan f) (c.requires.apart f)) i in
     subst (λ (G : List Record). Adds (Unit {0}) g.F.Commands.gives g.F.Commands.may_fail (read_sources c.args.plan (g.S.Site.files c.args.site)) c.args.plan G c.run.result.records) (c.in-Ok.ensures.exact told H spelled)
     (subst (λ (s : Contents). Adds (Unit {0}) g.F.Commands.gives g.F.Commands.may_fail s c.args.plan c.in-Ok.history c.run.result.records) same
-    (c.run.ensures.more told
+    (c.run.ensures.more alone told
     (subst (λ (s : Contents). IsStanding g.F.Commands.gives s c.args.plan c.in-Ok.log.name c.in-Ok.history (g.S.Site.may_leave c.recover.new.site)) (sym same) (keeping g.S.Site.may_leave g.S.Site.moment g.S.Site.images_since c.args.plan c.args.name c.in-Ok.log.name c.in-Ok.ensures.named.same_name c.in-Ok.history H (c.in-Ok.ensures.exact told H spelled) (g.S.Site.files c.args.site) c.args.site c.recover.new.site (SerialFits g.F.Commands.gives (read_sources c.args.plan (g.S.Site.files c.args.site))) c.requires.apart c.files_spell_one_list.ensures.one ((g.met.S.Site g.world.𝓛 g.world.𝓜 g.world.𝓡 ((λ s x. x), (λ x. x), (λ x. x), λ x. x)).reads_image told c.args.site c.args.name) (c.in-Ok.ensures.answer told) (c.in-Ok.ensures.stands told).at.each (c.recover.ensures.crash told) resumable))
     (subst (λ (s : Contents). TellsJobs c.args.plan (AllTell g.R.Runner.tells c.args.runners.now) (serial c.args.plan g.F.Commands.gives s)) (sym same) tells)))
 
