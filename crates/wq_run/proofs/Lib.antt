@@ -1,0 +1,15 @@
+pub mod Told
+pub mod Places
+pub mod Shares
+pub mod Closes
+pub mod TaskShort
+pub mod Tasks
+pub mod Splits
+pub mod Counting
+pub mod Asks
+pub mod Visits
+pub mod Steps
+pub mod Companies
+pub mod Ending
+pub mod Services
+pub mod Working

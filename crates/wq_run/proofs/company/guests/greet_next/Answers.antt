@@ -1,0 +1,46 @@
+use Rattle.std.proofs.Common.{rules, ◌≡◌, ◌≢◌, ◌∙◌, ap, sym, arith, length, true≢false}
+use Rattle.std.specs.Prelude.{remove}
+use Rattle.std.proofs.lemmas.Bool.{eq-eqb}
+use Rattle.wq_run.proofs.Companies.{fewer_first, man_as, met_then, still_met}
+use Rattle.wq_run.proofs.company.guests.greet_next.Goals as goal
+
+pub returns-in-Ok-None-clause-met : goal.returns-in-Ok-None-clause-met
+returns-in-Ok-None-clause-met g c =
+    let behind : c.remove-peer.new.self.items ≡ remove c.company.inside.guests.items 0 = search rules in
+    let some : length c.company.inside.guests.items ≢ 0 = (λ none. true≢false (sym (eq-eqb (length c.company.inside.guests.items) 0 none) ∙ search rules)) in
+    let fewer = fewer_first c.company.inside.guests.items some in
+    let now = ap length behind in
+    let seats : length c.args.company.now.seats ≡ length c.company.inside.seats.items = search rules in
+    let guests : length c.args.company.now.guests ≡ length c.company.inside.guests.items = search rules in
+    let failed : c.company.inside.failed ≡ c.args.company.now.failed = search rules in
+    let lost : c.company.inside.lost ≡ c.args.company.now.lost = search rules in
+    met_then (still_met (omega (arith, fewer, now, seats, guests)) failed lost) c.stay.ensures.met
+
+pub returns-in-Ok-Some-clause-manned : goal.returns-in-Ok-Some-clause-manned
+returns-in-Ok-Some-clause-manned g c held first waiting heard m =
+    let seats : c.company.inside.seats.items ≡ c.args.company.now.seats = search rules in
+    c.seat_guest.ensures.manned held first waiting heard (man_as seats m)
+
+pub returns-in-Ok-Some-clause-met : goal.returns-in-Ok-Some-clause-met
+returns-in-Ok-Some-clause-met g c =
+    let behind : c.remove-peer.new.self.items ≡ remove c.company.inside.guests.items 0 = search rules in
+    let some : length c.company.inside.guests.items ≢ 0 = (λ none. true≢false (sym (eq-eqb (length c.company.inside.guests.items) 0 none) ∙ search rules)) in
+    let fewer = fewer_first c.company.inside.guests.items some in
+    let now = ap length behind in
+    let seats : length c.args.company.now.seats ≡ length c.company.inside.seats.items = search rules in
+    let guests : length c.args.company.now.guests ≡ length c.company.inside.guests.items = search rules in
+    let failed : c.company.inside.failed ≡ c.args.company.now.failed = search rules in
+    let lost : c.company.inside.lost ≡ c.args.company.now.lost = search rules in
+    met_then (still_met (omega (arith, fewer, now, seats, guests)) failed lost) c.seat_guest.ensures.met
+
+pub returns-in-Err-clause-met : goal.returns-in-Err-clause-met
+returns-in-Err-clause-met g c =
+    let behind : c.remove-peer.new.self.items ≡ remove c.company.inside.guests.items 0 = search rules in
+    let some : length c.company.inside.guests.items ≢ 0 = (λ none. true≢false (sym (eq-eqb (length c.company.inside.guests.items) 0 none) ∙ search rules)) in
+    let fewer = fewer_first c.company.inside.guests.items some in
+    let now = ap length behind in
+    let seats : length c.args.company.now.seats ≡ length c.company.inside.seats.items = search rules in
+    let guests : length c.args.company.now.guests ≡ length c.company.inside.guests.items = search rules in
+    let failed : c.company.inside.failed ≡ c.args.company.now.failed = search rules in
+    let lost : c.company.inside.lost ≡ c.args.company.now.lost = search rules in
+    met_then (still_met (omega (arith, fewer, now, seats, guests)) failed lost) c.hand_back.ensures.met

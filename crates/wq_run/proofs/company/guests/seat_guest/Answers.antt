@@ -1,0 +1,18 @@
+use Rattle.std.proofs.Common.{◌≡◌, None, Err, ap, sym, subst}
+use Rattle.local_run.specs.Underway.{IsSurePool}
+use Rattle.wq_run.specs.Seats.{IsGuest}
+use Rattle.wq_run.proofs.Companies.{man_as, seated}
+use Rattle.wq_run.proofs.Visits.{joins_none}
+use Rattle.wq_run.proofs.company.guests.seat_guest.Goals as goal
+
+pub returns-in-Ok-clause-manned : goal.returns-in-Ok-clause-manned
+returns-in-Ok-clause-manned g c held first waiting heard m =
+    seated c.args.desk.now c.join.new.desk c.args.offer.total c.args.offer.largest c.args.offer.cache c.in-Ok.link c.args.company.now.seats c.take_seat.new.company.seats c.new.result c.in-Ok.ensures.reply
+    (λ attempts halt away since starts tally under. c.in-Ok.ensures.underway away since attempts starts None tally halt under)
+    (ap (λ s. s.link) c.new.ensures) (ap (λ s. s.attempts) c.new.ensures) (subst IsGuest (sym (ap (λ s. s.peer) c.new.ensures)) c.requires.guest) c.take_seat.ensures.seats held first waiting heard m
+
+pub returns-in-Err-clause-manned : goal.returns-in-Err-clause-manned
+returns-in-Err-clause-manned g c held first waiting heard m =
+    man_as c.hand_back.ensures.seats
+    (joins_none g.T.Terms.trust g.F.Commands.gives g.F.Commands.may_fail g.T.Terms.sources g.S.Site.tells g.T.Terms.kept (IsSurePool g.B.Terms.fits) g.S.Site.files g.S.Site.may_leave g.S.Site.moment g.S.Site.images_since c.args.desk.now c.join.new.desk held c.args.offer.total c.args.offer.largest c.args.offer.cache (Err c.in-Err.field-0) c.args.company.now.seats c.in-Err.ensures.reply
+    (λ away since starts tally under. c.in-Err.ensures.underway away since held.attempts starts None tally held.halt under) first waiting heard m)

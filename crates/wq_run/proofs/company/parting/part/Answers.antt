@@ -1,0 +1,23 @@
+use Rattle.std.proofs.Common.{◌≡◌, ◌∙◌, None, sym, subst}
+use Rattle.desk.specs.State.{DeskState}
+use Rattle.local_run.specs.Underway.{IsSurePool}
+use Rattle.wq_run.specs.Seats.{Manned}
+use Rattle.wq_run.proofs.Companies.{leave_asks, parted_left, parted_still}
+use Rattle.wq_run.proofs.company.parting.part.Goals as goal
+use Rattle.wq_run.proofs.company.parting.part.Goals.{then-works, else-works}
+
+pub leave-requires-clause-lives : goal.leave-requires-clause-lives
+leave-requires-clause-lives g c κs within = (leave_asks c.args.desk.now c.abandon.new.desk c.args.held.now c.abandon.new.held c.args.company.now.seats c.args.seat c.abandon.new.self c.link-link.result c.requires.parting c.abandon.ensures.stays c.abandon.ensures.none c.abandon.ensures.keeps (c.link-link.ensures ∙ c.abandon.ensures.stays.link)).lives
+
+pub leave-requires-clause-none : goal.leave-requires-clause-none
+leave-requires-clause-none g c κs within = (leave_asks c.args.desk.now c.abandon.new.desk c.args.held.now c.abandon.new.held c.args.company.now.seats c.args.seat c.abandon.new.self c.link-link.result c.requires.parting c.abandon.ensures.stays c.abandon.ensures.none c.abandon.ensures.keeps (c.link-link.ensures ∙ c.abandon.ensures.stays.link)).none
+
+pub returns-clause-manned : goal.returns-clause-manned
+returns-clause-manned g c before behind first waiting heard are parts =
+    elim c.if-works.branch [
+      | then-works w ↦ subst (λ (d : DeskState g.row.S.Denot). Manned g.T.Terms.trust g.F.Commands.gives g.F.Commands.may_fail g.T.Terms.sources g.S.Site.tells g.T.Terms.kept (IsSurePool g.B.Terms.fits) g.S.Site.files g.S.Site.may_leave g.S.Site.moment g.S.Site.images_since first d c.abandon.new.held waiting heard c.hand_back.new.company.seats) (sym w.desk-is)
+          (parted_left c.abandon.ensures.stays c.abandon.ensures.none c.abandon.ensures.keeps (c.link-link.ensures ∙ c.abandon.ensures.stays.link) w.leave.ensures.reply
+          (λ away under. w.leave.ensures.underway away first c.abandon.new.held.attempts waiting None heard c.abandon.new.held.halt under) (c.hand_back.ensures.seats ∙ are) parts)
+      | else-works w ↦ subst (λ (d : DeskState g.row.S.Denot). Manned g.T.Terms.trust g.F.Commands.gives g.F.Commands.may_fail g.T.Terms.sources g.S.Site.tells g.T.Terms.kept (IsSurePool g.B.Terms.fits) g.S.Site.files g.S.Site.may_leave g.S.Site.moment g.S.Site.images_since first d c.abandon.new.held waiting heard c.hand_back.new.company.seats) (sym w.desk-is)
+          (parted_still c.abandon.ensures.stays c.abandon.ensures.none c.abandon.ensures.keeps (c.hand_back.ensures.seats ∙ are) parts)
+    ]

@@ -1,0 +1,36 @@
+use Rattle.std.proofs.Common.{rules, ◌≡◌, ◌∙◌, ◌++◌, ◌∷◌, [], ap, sym, arith, length, length-append}
+use Rattle.std.proofs.lemmas.List.{append-nil}
+use Rattle.wq_run.specs.Seats.{links_in}
+use Rattle.wq_run.proofs.Companies.{last_is, last_parts, met_then, still_met}
+use Rattle.wq_run.proofs.company.rounds.dismiss_last.Goals as goal
+
+pub part-requires-clause-parting : goal.part-requires-clause-parting
+part-requires-clause-parting g c κs within =
+    let are : c.args.company.now.seats ≡ c.pop.new.self.items ++ (c.in-Some.seat ∷ []) = search rules in
+    last_is c.args.company.now.seats c.pop.new.self.items c.in-Some.seat c.farewell.new.self are c.farewell.ensures.link c.farewell.ensures.attempts c.requires.manned
+
+pub returns-in-Some-clause-manned : goal.returns-in-Some-clause-manned
+returns-in-Some-clause-manned g c first waiting heard m =
+    let are : c.args.company.now.seats ≡ c.pop.new.self.items ++ (c.in-Some.seat ∷ []) = search rules in
+    c.part.ensures.manned c.pop.new.self.items [] first waiting heard (sym (append-nil c.pop.new.self.items))
+    (last_parts c.args.company.now.seats c.pop.new.self.items c.in-Some.seat c.farewell.new.self are c.farewell.ensures.link c.farewell.ensures.attempts m)
+
+pub returns-in-Some-clause-met : goal.returns-in-Some-clause-met
+returns-in-Some-clause-met g c =
+    let are : c.args.company.now.seats ≡ c.pop.new.self.items ++ (c.in-Some.seat ∷ []) = search rules in
+    let many = ap length are in
+    let both = length-append c.pop.new.self.items (c.in-Some.seat ∷ []) in
+    let guests : length c.args.company.now.guests ≡ length c.company.inside.guests.items = search rules in
+    let failed : c.company.inside.failed ≡ c.args.company.now.failed = search rules in
+    let lost : c.company.inside.lost ≡ c.args.company.now.lost = search rules in
+    met_then (still_met (omega (arith, many, both, guests)) failed lost) c.part.ensures.met
+
+pub returns-in-None-clause-met : goal.returns-in-None-clause-met
+returns-in-None-clause-met g c =
+    let are : c.args.company.now.seats ≡ c.pop.new.self.items ++ [] = search rules in
+    let many = ap length are in
+    let both = length-append c.pop.new.self.items [] in
+    let guests : length c.args.company.now.guests ≡ length c.company.inside.guests.items = search rules in
+    let failed : c.company.inside.failed ≡ c.args.company.now.failed = search rules in
+    let lost : c.company.inside.lost ≡ c.args.company.now.lost = search rules in
+    still_met (omega (arith, many, both, guests)) failed lost

@@ -1,0 +1,34 @@
+use Rattle.std.proofs.Common.{rules, ◌≡◌, ◌∙◌, ap, sym}
+use Rattle.wq_run.proofs.Companies.{man_as, met_same, met_then}
+use Rattle.wq_run.proofs.company.rounds.round.Goals as goal
+use Rattle.wq_run.proofs.company.rounds.round.Goals.{else-not-is_turn-via-then-not-is_turn+else-not-asks_hall, else-not-is_turn-via-else-not-is_turn}
+
+pub returns-then-not-asks_hall-clause-manned : goal.returns-then-not-asks_hall-clause-manned
+returns-then-not-asks_hall-clause-manned g c first waiting heard m =
+    man_as (ap (λ x. x.seats) c.asks_hall.ensures)
+    (c.greet_all-joined.ensures.manned c.visit_all-told.new.held first waiting heard (c.visit_all-told.ensures.manned first waiting heard (man_as (ap (λ x. x.seats) c.has_turn-is_turn.ensures) m)))
+
+pub returns-then-not-asks_hall-clause-met : goal.returns-then-not-asks_hall-clause-met
+returns-then-not-asks_hall-clause-met g c = met_then (met_then (met_then (met_same c.has_turn-is_turn.ensures) c.visit_all-told.ensures.met) c.greet_all-joined.ensures.met) (met_same c.asks_hall.ensures)
+
+pub returns-then-did-clause-manned : goal.returns-then-did-clause-manned
+returns-then-did-clause-manned g c first waiting heard m =
+    let same : c.else-not-is_turn.company ≡ c.greet_all-joined.new.company = elim c.else-not-is_turn.branch [ else-not-is_turn-via-then-not-is_turn+else-not-asks_hall w ↦ w.company-is ∙ w.asks_hall.ensures | else-not-is_turn-via-else-not-is_turn w ↦ w.company-is ] in
+    man_as (c.meet-came.ensures.seats ∙ ap (λ x. x.seats) same)
+    (c.greet_all-joined.ensures.manned c.visit_all-told.new.held first waiting heard (c.visit_all-told.ensures.manned first waiting heard (man_as (ap (λ x. x.seats) c.has_turn-is_turn.ensures) m)))
+
+pub returns-then-did-clause-met : goal.returns-then-did-clause-met
+returns-then-did-clause-met g c =
+    let same : c.else-not-is_turn.company ≡ c.greet_all-joined.new.company = elim c.else-not-is_turn.branch [ else-not-is_turn-via-then-not-is_turn+else-not-asks_hall w ↦ w.company-is ∙ w.asks_hall.ensures | else-not-is_turn-via-else-not-is_turn w ↦ w.company-is ] in
+    met_then (met_then (met_then (met_then (met_same c.has_turn-is_turn.ensures) c.visit_all-told.ensures.met) c.greet_all-joined.ensures.met) (met_same same)) c.meet-came.ensures.met
+
+pub returns-else-did-clause-manned : goal.returns-else-did-clause-manned
+returns-else-did-clause-manned g c first waiting heard m =
+    let same : c.else-not-is_turn.company ≡ c.greet_all-joined.new.company = elim c.else-not-is_turn.branch [ else-not-is_turn-via-then-not-is_turn+else-not-asks_hall w ↦ w.company-is ∙ w.asks_hall.ensures | else-not-is_turn-via-else-not-is_turn w ↦ w.company-is ] in
+    man_as (c.meet-came.ensures.seats ∙ ap (λ x. x.seats) same)
+    (c.greet_all-joined.ensures.manned c.visit_all-told.new.held first waiting heard (c.visit_all-told.ensures.manned first waiting heard (man_as (ap (λ x. x.seats) c.has_turn-is_turn.ensures) m)))
+
+pub returns-else-did-clause-met : goal.returns-else-did-clause-met
+returns-else-did-clause-met g c =
+    let same : c.else-not-is_turn.company ≡ c.greet_all-joined.new.company = elim c.else-not-is_turn.branch [ else-not-is_turn-via-then-not-is_turn+else-not-asks_hall w ↦ w.company-is ∙ w.asks_hall.ensures | else-not-is_turn-via-else-not-is_turn w ↦ w.company-is ] in
+    met_then (met_then (met_then (met_then (met_same c.has_turn-is_turn.ensures) c.visit_all-told.ensures.met) c.greet_all-joined.ensures.met) (met_same same)) c.meet-came.ensures.met

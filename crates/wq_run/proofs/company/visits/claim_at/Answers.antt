@@ -1,0 +1,46 @@
+use Rattle.std.proofs.Common.{rules, ◌≡◌, List, Option, None, Some, true, true≢false, refl, ◌∙◌, ap, sym, length}
+use Rattle.std.specs.Prelude.{is_none, slice_get, slice_set}
+use Rattle.local_run.specs.Underway.{IsSurePool}
+use Rattle.wq_run.specs.Seats.{SeatState}
+use Rattle.wq_run.proofs.Companies.{got_at, set_many, visited}
+use Rattle.wq_run.proofs.Splits.{split_at}
+use Rattle.wq_run.proofs.Visits.{visit_at}
+use Rattle.wq_run.proofs.company.visits.claim_at.Goals as goal
+
+none_of : {X : Type 0} (o : Option X) → is_none o ≡ true → o ≡ None
+none_of None is = refl
+none_of (Some x) is = absurd (true≢false (sym is))
+
+pub claim-requires-clause-going : goal.claim-requires-clause-going
+claim-requires-clause-going g c κs within =
+    let going : c.is_going.result ≡ true = search rules in
+    none_of c.args.held.now.halt (sym c.is_going.ensures ∙ going)
+
+pub claim-requires-clause-at : goal.claim-requires-clause-at
+claim-requires-clause-at g c κs within =
+    let are : c.company.inside.seats.items ≡ c.args.company.now.seats = search rules in
+    let there : slice_get c.args.company.now.seats c.args.at ≡ Some c.in-Some.seat.now =
+    ap (λ (xs : List (SeatState g.row.H-Way.Denot)). slice_get xs c.args.at) (sym are) ∙ got_at c.company.inside.seats.items c.args.at c.in-Some.seat.now c.in-Some.ensures.item.0 c.in-Some.ensures.item.1 in
+    visit_at g.T.Terms.trust g.F.Commands.gives g.F.Commands.may_fail g.T.Terms.sources g.S.Site.tells g.T.Terms.kept (IsSurePool g.B.Terms.fits) g.S.Site.files g.S.Site.may_leave g.S.Site.moment g.S.Site.images_since c.args.desk.now c.args.held.now c.args.company.now.seats c.args.at c.in-Some.seat.now (split_at c.args.company.now.seats c.args.at c.in-Some.seat.now there) c.requires.manned
+
+pub returns-clause-manned : goal.returns-clause-manned
+returns-clause-manned g c =
+    let are : c.company.inside.seats.items ≡ c.args.company.now.seats = search rules in
+    let there : slice_get c.args.company.now.seats c.args.at ≡ Some c.in-Some.seat.now =
+    ap (λ (xs : List (SeatState g.row.H-Way.Denot)). slice_get xs c.args.at) (sym are) ∙ got_at c.company.inside.seats.items c.args.at c.in-Some.seat.now c.in-Some.ensures.item.0 c.in-Some.ensures.item.1 in
+    visited g.T.Terms.trust g.F.Commands.gives g.F.Commands.may_fail g.T.Terms.sources g.S.Site.tells g.T.Terms.kept (IsSurePool g.B.Terms.fits) g.S.Site.files g.S.Site.may_leave g.S.Site.moment g.S.Site.images_since c.args.desk.now c.claim.new.desk c.args.held.now c.claim.new.held c.args.company.now.seats (slice_set c.company.inside.seats.items c.args.at c.claim.new.self) c.args.at c.in-Some.seat.now c.claim.new.self c.claim.result
+    there (ap (λ (xs : List (SeatState g.row.H-Way.Denot)). slice_set xs c.args.at c.claim.new.self) are) c.claim.ensures.keeps
+
+pub returns-clause-many : goal.returns-clause-many
+returns-clause-many g c =
+    let are : c.company.inside.seats.items ≡ c.args.company.now.seats = search rules in
+    set_many c.company.inside.seats.items c.args.at c.in-Some.seat.now c.claim.new.self (got_at c.company.inside.seats.items c.args.at c.in-Some.seat.now c.in-Some.ensures.item.0 c.in-Some.ensures.item.1) ∙ ap length are
+
+pub returns-clause-guests : goal.returns-clause-guests
+returns-clause-guests g c = search rules
+
+pub returns-clause-failed : goal.returns-clause-failed
+returns-clause-failed g c = search rules
+
+pub returns-clause-lost : goal.returns-clause-lost
+returns-clause-lost g c = search rules

@@ -1,0 +1,115 @@
+use Rattle.std.proofs.Common.{◌≡◌, ◌≤◌, ◌+◌, ◌∙◌, ◌++◌, [], None, arith, ap, refl, rules, subst, sym, true≢false}
+use Rattle.std.specs.Prelude.{sum_by}
+use Rattle.std.proofs.lemmas.List.{append-nil}
+use Rattle.worker_pool.specs.Crews.{AllSure}
+use Rattle.wq_run.specs.Seats.{AreSeats, CompanyState, gathered, links_in}
+use Rattle.wq_run.proofs.Services.{met_then}
+use Rattle.wq_run.proofs.Working.{are_back, damage_by, ends_by_waiting, spared_by, stands_begins, stops_by, whole_by}
+use Rattle.wq_run.proofs.course.work.Goals as goal
+
+pub returns-in-Err-Failed : goal.returns-in-Err-Failed
+returns-in-Err-Failed g c =
+    let s = stands_begins g.T.Terms.trust g.F.Commands.gives g.F.Commands.may_fail g.T.Terms.sources g.S.Site.tells g.T.Terms.kept g.S.Site.files g.S.Site.may_leave g.S.Site.moment g.S.Site.images_since c.args.desk.now (sum_by g.R.Runner.count c.args.runners.now) (sum_by g.R.Runner.failures c.args.runners.now) (record { fine = c.requires.fine; unset = c.requires.unset; unended = c.requires.unended }) c.requires.idle c.requires.valid (λ told image. (g.met.S.Site g.world.𝓛 g.world.𝓜 g.world.𝓡 ((λ s x. x), (λ x. x), (λ x. x), λ x. x)).only_now told c.args.desk.now.site image) in
+    let rose = c.listen.ensures.cause.later in
+    record {
+      goes = (s.links, s.goes);
+      idle = λ fine. c.requires.idle;
+      stops = (c.requires.fine, c.listen.ensures.cause.failed (search rules));
+      later = omega arith;
+      risen = omega arith;
+      met = rose;
+      damage = λ told apart. tt;
+      whole = λ told keeps. tt;
+      never = λ is. tt;
+      lost = tt;
+      ends = tt;
+      back = λ uncut. record { more = []; are = c.listen.ensures.got ∙ sym (append-nil (g.H.Hall.got c.args.hall.now)); many = (let given = c.listen.ensures.given in omega (arith, given)) };
+    }
+
+pub returns-in-Err-Memory : goal.returns-in-Err-Memory
+returns-in-Err-Memory g c =
+    let s = stands_begins g.T.Terms.trust g.F.Commands.gives g.F.Commands.may_fail g.T.Terms.sources g.S.Site.tells g.T.Terms.kept g.S.Site.files g.S.Site.may_leave g.S.Site.moment g.S.Site.images_since c.args.desk.now (sum_by g.R.Runner.count c.args.runners.now) (sum_by g.R.Runner.failures c.args.runners.now) (record { fine = c.requires.fine; unset = c.requires.unset; unended = c.requires.unended }) c.requires.idle c.requires.valid (λ told image. (g.met.S.Site g.world.𝓛 g.world.𝓜 g.world.𝓡 ((λ s x. x), (λ x. x), (λ x. x), λ x. x)).only_now told c.args.desk.now.site image) in
+    let rose = c.listen.ensures.cause.later in
+    record {
+      goes = (s.links, s.goes);
+      idle = λ fine. c.requires.idle;
+      stops = tt;
+      later = omega arith;
+      risen = omega arith;
+      met = rose;
+      damage = λ told apart. tt;
+      whole = λ told keeps. tt;
+      never = λ is. tt;
+      lost = tt;
+      ends = tt;
+      back = λ uncut. absurd (uncut tt);
+    }
+
+pub run_all-done-requires-clause-on : goal.run_all-done-requires-clause-on
+run_all-done-requires-clause-on g c κs within = record { fine = c.requires.fine; unset = c.requires.unset; unended = c.requires.unended }
+
+pub run_all-done-requires-clause-seats : goal.run_all-done-requires-clause-seats
+run_all-done-requires-clause-seats g c κs within = subst (λ (x : CompanyState g.row.H-Way.Denot). AreSeats c.args.desk.now.plan c.args.desk.now.options c.args.desk.now.moves x.seats) (sym c.new-company.ensures) tt
+
+pub run_all-done-requires-clause-none : goal.run_all-done-requires-clause-none
+run_all-done-requires-clause-none g c κs within = ap (λ (x : CompanyState g.row.H-Way.Denot). gathered x.seats) c.new-company.ensures
+
+pub disband-requires-clause-none : goal.disband-requires-clause-none
+disband-requires-clause-none g c κs within = c.run_all-done.ensures.none
+
+pub returns-then-has_lost : goal.returns-then-has_lost
+returns-then-has_lost g c =
+    let w = c.run_all-done.ensures.works (g.H.Hall.count c.listen.new.self) (omega arith) (λ failed. absurd (true≢false (sym failed ∙ ap (λ (x : CompanyState g.row.H-Way.Denot). x.failed) c.new-company.ensures))) in
+    let heard = c.in-Ok.ensures.cause.later in
+    let met = w.met in
+    let last = c.disband.ensures.met.later in
+    let idles = c.listen.ensures.idles in
+    let looks = w.looks in
+    let looked = c.disband.ensures.met.idles_later in
+    record {
+      goes = (w.links, w.goes);
+      idle = w.idle;
+      stops = tt;
+      later = w.later;
+      risen = w.risen;
+      met = omega (arith, heard, met, last);
+      damage = λ told apart. tt;
+      whole = λ told keeps. tt;
+      never = λ is. tt;
+      lost = tt;
+      ends = tt;
+      back = λ uncut. absurd (uncut tt);
+    }
+
+pub returns : goal.returns
+returns g c =
+    let w = c.run_all-done.ensures.works (g.H.Hall.count c.listen.new.self) (omega arith) (λ failed. absurd (true≢false (sym failed ∙ ap (λ (x : CompanyState g.row.H-Way.Denot). x.failed) c.new-company.ensures))) in
+    let heard = c.in-Ok.ensures.cause.later in
+    let met = w.met in
+    let last = c.disband.ensures.met.later in
+    let idles = c.listen.ensures.idles in
+    let looks = w.looks in
+    let looked = c.disband.ensures.met.idles_later in
+    record {
+      goes = (w.links, w.goes);
+      idle = w.idle;
+      stops = stops_by g.S.Site.tells g.T.Terms.kept (AllSure g.R.Runner.sure c.args.runners.now) g.S.Site.files c.args.workers.limit c.run_all-done.new.desk (sum_by g.R.Runner.count c.args.runners.now) (sum_by g.R.Runner.count c.run_all-done.new.runners) (g.H.Hall.count c.listen.new.self) (g.H.Hall.count c.run_all-done.new.hall) (g.H.Hall.idle_count c.listen.new.self) (g.H.Hall.idle_count c.run_all-done.new.hall) (g.H.Hall.count c.args.hall.now) (g.H.Hall.count c.disband.new.hall) c.run_all-done.result (omega (arith, heard)) (omega (arith, last)) w.ended;
+      later = w.later;
+      risen = w.risen;
+      met = omega (arith, heard, met, last);
+      damage = damage_by g.S.Site.tells g.T.Terms.kept (AllSure g.R.Runner.sure c.args.runners.now) g.S.Site.files c.args.workers.limit c.run_all-done.new.desk (sum_by g.R.Runner.count c.args.runners.now) (sum_by g.R.Runner.count c.run_all-done.new.runners) (g.H.Hall.count c.listen.new.self) (g.H.Hall.count c.run_all-done.new.hall) (g.H.Hall.idle_count c.listen.new.self) (g.H.Hall.idle_count c.run_all-done.new.hall) c.run_all-done.result w.ended;
+      whole = whole_by g.S.Site.tells g.T.Terms.kept (AllSure g.R.Runner.sure c.args.runners.now) g.S.Site.files c.args.workers.limit c.run_all-done.new.desk (sum_by g.R.Runner.count c.args.runners.now) (sum_by g.R.Runner.count c.run_all-done.new.runners) (g.H.Hall.count c.listen.new.self) (g.H.Hall.count c.run_all-done.new.hall) (g.H.Hall.idle_count c.listen.new.self) (g.H.Hall.idle_count c.run_all-done.new.hall) c.run_all-done.result w.ended;
+      never = spared_by g.S.Site.tells g.T.Terms.kept (AllSure g.R.Runner.sure c.args.runners.now) g.S.Site.files c.args.workers.limit c.run_all-done.new.desk (sum_by g.R.Runner.count c.args.runners.now) (sum_by g.R.Runner.count c.run_all-done.new.runners) (g.H.Hall.count c.listen.new.self) (g.H.Hall.count c.run_all-done.new.hall) (g.H.Hall.idle_count c.listen.new.self) (g.H.Hall.idle_count c.run_all-done.new.hall) c.run_all-done.result w.ended;
+      lost = w.lost;
+      ends = ends_by_waiting g.S.Site.tells g.T.Terms.kept (AllSure g.R.Runner.sure c.args.runners.now) g.S.Site.files c.args.workers.limit c.run_all-done.new.desk (sum_by g.R.Runner.count c.args.runners.now) (sum_by g.R.Runner.count c.run_all-done.new.runners) (g.H.Hall.count c.listen.new.self) (g.H.Hall.count c.run_all-done.new.hall) (g.H.Hall.idle_count c.listen.new.self) (g.H.Hall.idle_count c.run_all-done.new.hall) (g.H.Hall.idle_count c.args.hall.now) (g.H.Hall.idle_count c.disband.new.hall) c.run_all-done.result (omega (arith, idles)) (omega (arith, looked)) w.ended;
+      back = λ uncut.
+          let company : CompanyState g.row.H-Way.Denot = c.new-company.result in
+          let met = met_then c.run_all-done.ensures.met c.disband.ensures.met in
+          let empty : links_in company ≡ 0 = ap links_in c.new-company.ensures in
+          let b = are_back (g.H.Hall.count c.listen.new.self) (g.H.Hall.count c.disband.new.hall) (g.H.Hall.got c.listen.new.self) (g.H.Hall.got c.disband.new.hall) (g.H.Hall.given c.listen.new.self) (g.H.Hall.given c.disband.new.hall) (g.H.Hall.idle_count c.listen.new.self) (g.H.Hall.idle_count c.disband.new.hall)
+          company c.disband.new.company c.disband.ensures.seats c.disband.ensures.guests empty (search rules) met in
+          record { more = b.0; are = b.1 ∙ ap (λ l. l ++ b.0) c.listen.ensures.got; many = (let all = b.2 in let given = c.listen.ensures.given in omega (arith, all, given)) };
+    }
+
+pub run_all-done-requires-clause-going : goal.run_all-done-requires-clause-going
+run_all-done-requires-clause-going g c κs within = ap (λ (x : CompanyState g.row.H-Way.Denot). x.failed) c.new-company.ensures

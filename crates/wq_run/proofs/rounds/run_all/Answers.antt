@@ -1,0 +1,138 @@
+use Rattle.std.proofs.Common.{◌≡◌, ◌≤◌, ◌<◌, ◌+◌, ◌∙◌, [], Option, None, Some, Ok, Err, length, arith, ap, refl, rules, subst, sym, true, false, true≢false}
+use Rattle.std.specs.Prelude.{is_some, sum_by}
+use Rattle.run_history.specs.declared.answers.Stop.{Stop}
+use Rattle.run_history.specs.declared.answers.Stop.TheVariants as stops
+use Rattle.run_history.specs.Answers.{has_ended, is_in_vain, stop_of}
+use Rattle.run_history.specs.Links.{records_of}
+use Rattle.run_history.specs.Storage.{running_rules}
+use Rattle.desk.specs.State.{DeskState, IsFine}
+use Rattle.worker_pool.specs.Crews.{AllSure}
+use Rattle.wq_run.specs.declared.rounds.Turn.{Turn}
+use Rattle.wq_run.specs.declared.rounds.Turn.TheVariants as turns
+use Rattle.wq_run.specs.Seats.{AreSeats}
+use Rattle.wq_run.specs.Works.{IsOn, Rounds}
+use Rattle.wq_run.proofs.Services.{met_none, met_then}
+use Rattle.wq_run.proofs.Working.{Stands, hall_rose, seats_goes, stands_begins, stands_then, stop_waited, unstopped, works_over, works_stopped, works_vain}
+use Rattle.wq_run.proofs.rounds.run_all.Goals as goal
+
+pub loop-init : goal.loop-init
+loop-init g c = record {
+  some = c.requires.some;
+  stands = stands_begins g.T.Terms.trust g.F.Commands.gives g.F.Commands.may_fail g.T.Terms.sources g.S.Site.tells g.T.Terms.kept g.S.Site.files g.S.Site.may_leave g.S.Site.moment g.S.Site.images_since c.args.desk.now (sum_by g.R.Runner.count c.args.runners.now) (sum_by g.R.Runner.failures c.args.runners.now) c.requires.on c.requires.idle c.requires.valid (λ told image. (g.met.S.Site g.world.𝓛 g.world.𝓜 g.world.𝓡 ((λ s x. x), (λ x. x), (λ x. x), λ x. x)).only_now told c.args.desk.now.site image);
+  sure = λ is. is;
+  listens = c.requires.listens;
+  seats = c.requires.seats;
+  none = c.requires.none;
+  met = met_none;
+}
+
+pub go_round-requires-clause-valid : goal.go_round-requires-clause-valid
+go_round-requires-clause-valid g c κs within = c.loop.invariant.stands.valid
+
+pub go_round-requires-clause-on : goal.go_round-requires-clause-on
+go_round-requires-clause-on g c κs within = c.loop.invariant.stands.on
+
+pub go_round-requires-clause-idle : goal.go_round-requires-clause-idle
+go_round-requires-clause-idle g c κs within = c.loop.invariant.stands.idle
+
+pub returns-in-Ok-Over : goal.returns-in-Ok-Over
+returns-in-Ok-Over g c = record {
+  works = λ k less failed. works_over g.T.Terms.trust g.F.Commands.gives g.F.Commands.may_fail g.T.Terms.sources g.S.Site.tells g.T.Terms.kept g.S.Site.files g.S.Site.may_leave g.S.Site.moment g.S.Site.images_since (AllSure g.R.Runner.sure c.loop.runners) (AllSure g.R.Runner.sure c.args.runners.now) c.args.limit c.args.desk.now c.loop.desk c.go_round.new.desk (sum_by g.R.Runner.count c.args.runners.now) (sum_by g.R.Runner.count c.loop.runners) (sum_by g.R.Runner.count c.go_round.new.runners) (sum_by g.R.Runner.failures c.args.runners.now) (sum_by g.R.Runner.failures c.loop.runners) (sum_by g.R.Runner.failures c.go_round.new.runners) k (g.H.Hall.count c.go_round.new.hall) (g.H.Hall.idle_count c.args.hall.now) (g.H.Hall.idle_count c.loop.hall) (g.H.Hall.idle_count c.go_round.new.hall) c.in-Ok-Over.check c.loop.invariant.sure c.loop.invariant.stands c.loop.invariant.met.idles_later
+      (subst (λ (t : Turn). Rounds g.T.Terms.trust g.F.Commands.gives g.F.Commands.may_fail g.T.Terms.sources g.S.Site.tells g.T.Terms.kept (AllSure g.R.Runner.sure c.loop.runners) g.S.Site.files g.S.Site.may_leave g.S.Site.moment g.S.Site.images_since c.args.limit c.loop.desk c.go_round.new.desk (sum_by g.R.Runner.count c.loop.runners) (sum_by g.R.Runner.count c.go_round.new.runners) (sum_by g.R.Runner.failures c.loop.runners) (sum_by g.R.Runner.failures c.go_round.new.runners) k (g.H.Hall.count c.go_round.new.hall) (g.H.Hall.idle_count c.loop.hall) (g.H.Hall.idle_count c.go_round.new.hall) (Ok t)) c.in-Ok-Over.field-0-is (c.in-Ok-Over.ensures.rounds k (let later = c.loop.invariant.met.later in omega (arith, less, later)) (hall_rose k (g.H.Hall.count c.args.hall.now) (g.H.Hall.count c.loop.hall) c.args.company.now.failed c.loop.company.failed less failed c.loop.invariant.met.fails c.loop.invariant.met.later)));
+  seats = c.go_round.ensures.seats;
+  none = c.go_round.ensures.none;
+  met = met_then c.loop.invariant.met c.go_round.ensures.met;
+}
+
+pub returns-in-Err : goal.returns-in-Err
+returns-in-Err g c = record {
+  works = λ k less failed. works_stopped g.T.Terms.trust g.F.Commands.gives g.F.Commands.may_fail g.T.Terms.sources g.S.Site.tells g.T.Terms.kept g.S.Site.files g.S.Site.may_leave g.S.Site.moment g.S.Site.images_since (AllSure g.R.Runner.sure c.loop.runners) (AllSure g.R.Runner.sure c.args.runners.now) c.args.limit c.args.desk.now c.loop.desk c.go_round.new.desk (sum_by g.R.Runner.count c.args.runners.now) (sum_by g.R.Runner.count c.loop.runners) (sum_by g.R.Runner.count c.go_round.new.runners) (sum_by g.R.Runner.failures c.args.runners.now) (sum_by g.R.Runner.failures c.loop.runners) (sum_by g.R.Runner.failures c.go_round.new.runners) k (g.H.Hall.count c.go_round.new.hall) (g.H.Hall.idle_count c.args.hall.now) (g.H.Hall.idle_count c.loop.hall) (g.H.Hall.idle_count c.go_round.new.hall) c.in-Err.why c.loop.invariant.sure c.loop.invariant.stands c.loop.invariant.met.idles_later
+      (c.in-Err.ensures.rounds k (let later = c.loop.invariant.met.later in omega (arith, less, later)) (hall_rose k (g.H.Hall.count c.args.hall.now) (g.H.Hall.count c.loop.hall) c.args.company.now.failed c.loop.company.failed less failed c.loop.invariant.met.fails c.loop.invariant.met.later));
+  seats = c.go_round.ensures.seats;
+  none = c.go_round.ensures.none;
+  met = met_then c.loop.invariant.met c.go_round.ensures.met;
+}
+
+pub loop-preserved : goal.loop-preserved
+loop-preserved g c =
+    let r = (let less : (g.H.Hall.count c.args.hall.now) ≤ (g.H.Hall.count c.args.hall.now) = omega arith in let failed : c.args.company.now.failed ≡ true → (g.H.Hall.count c.args.hall.now) < (g.H.Hall.count c.args.hall.now) = λ is. absurd (true≢false (sym is ∙ c.requires.going)) in subst (λ (t : Turn). Rounds g.T.Terms.trust g.F.Commands.gives g.F.Commands.may_fail g.T.Terms.sources g.S.Site.tells g.T.Terms.kept (AllSure g.R.Runner.sure c.loop.runners) g.S.Site.files g.S.Site.may_leave g.S.Site.moment g.S.Site.images_since c.args.limit c.loop.desk c.go_round.new.desk (sum_by g.R.Runner.count c.loop.runners) (sum_by g.R.Runner.count c.go_round.new.runners) (sum_by g.R.Runner.failures c.loop.runners) (sum_by g.R.Runner.failures c.go_round.new.runners) (g.H.Hall.count c.args.hall.now) (g.H.Hall.count c.go_round.new.hall) (g.H.Hall.idle_count c.loop.hall) (g.H.Hall.idle_count c.go_round.new.hall) (Ok t)) c.in-Ok-Again.field-0-is
+    (c.in-Ok-Again.ensures.rounds (g.H.Hall.count c.args.hall.now) (let later = c.loop.invariant.met.later in omega (arith, less, later)) (hall_rose (g.H.Hall.count c.args.hall.now) (g.H.Hall.count c.args.hall.now) (g.H.Hall.count c.loop.hall) c.args.company.now.failed c.loop.company.failed less failed c.loop.invariant.met.fails c.loop.invariant.met.later))) in
+    record {
+      some = search rules;
+      stands = stands_then g.T.Terms.trust g.F.Commands.gives g.F.Commands.may_fail g.T.Terms.sources g.S.Site.tells g.T.Terms.kept g.S.Site.files g.S.Site.may_leave g.S.Site.moment g.S.Site.images_since (AllSure g.R.Runner.sure c.loop.runners) c.args.limit c.args.desk.now c.loop.desk c.go_round.new.desk (sum_by g.R.Runner.count c.args.runners.now) (sum_by g.R.Runner.count c.loop.runners) (sum_by g.R.Runner.count c.go_round.new.runners) (sum_by g.R.Runner.failures c.args.runners.now) (sum_by g.R.Runner.failures c.loop.runners) (sum_by g.R.Runner.failures c.go_round.new.runners) (g.H.Hall.count c.args.hall.now) (g.H.Hall.count c.go_round.new.hall) (g.H.Hall.idle_count c.loop.hall) (g.H.Hall.idle_count c.go_round.new.hall) (Ok turns.Again) c.loop.invariant.stands r r.turn;
+      sure = λ is. c.go_round.ensures.sure (c.loop.invariant.sure is);
+      listens = c.go_round.ensures.listens;
+      seats = c.go_round.ensures.seats;
+      none = c.go_round.ensures.none;
+      met = met_then c.loop.invariant.met c.go_round.ensures.met;
+    }
+
+pub loop-preserved-else-stop : goal.loop-preserved-else-stop
+loop-preserved-else-stop g c =
+    let r = (let less : (g.H.Hall.count c.args.hall.now) ≤ (g.H.Hall.count c.args.hall.now) = omega arith in let failed : c.args.company.now.failed ≡ true → (g.H.Hall.count c.args.hall.now) < (g.H.Hall.count c.args.hall.now) = λ is. absurd (true≢false (sym is ∙ c.requires.going)) in subst (λ (t : Turn). Rounds g.T.Terms.trust g.F.Commands.gives g.F.Commands.may_fail g.T.Terms.sources g.S.Site.tells g.T.Terms.kept (AllSure g.R.Runner.sure c.loop.runners) g.S.Site.files g.S.Site.may_leave g.S.Site.moment g.S.Site.images_since c.args.limit c.loop.desk c.go_round.new.desk (sum_by g.R.Runner.count c.loop.runners) (sum_by g.R.Runner.count c.go_round.new.runners) (sum_by g.R.Runner.failures c.loop.runners) (sum_by g.R.Runner.failures c.go_round.new.runners) (g.H.Hall.count c.args.hall.now) (g.H.Hall.count c.go_round.new.hall) (g.H.Hall.idle_count c.loop.hall) (g.H.Hall.idle_count c.go_round.new.hall) (Ok t)) c.in-Ok-Vain.field-0-is
+    (c.in-Ok-Vain.ensures.rounds (g.H.Hall.count c.args.hall.now) (let later = c.loop.invariant.met.later in omega (arith, less, later)) (hall_rose (g.H.Hall.count c.args.hall.now) (g.H.Hall.count c.args.hall.now) (g.H.Hall.count c.loop.hall) c.args.company.now.failed c.loop.company.failed less failed c.loop.invariant.met.fails c.loop.invariant.met.later))) in
+    let on : IsOn c.go_round.new.desk = r.turn.0 in
+    let unset : is_some c.stop.new.self.stop ≡ false = search rules in
+    let same : c.stop.new.self ≡ c.go_round.new.desk = c.stop.ensures.stop ∙ unstopped c.go_round.new.desk (stop_of c.go_round.new.desk.plan c.go_round.new.desk.options c.go_round.new.desk.moves c.go_round.new.desk.stop (stops.Waited c.in-Ok-Vain.idles)) on.unset
+    (ap (λ (x : DeskState g.row.S.Denot). is_some x.stop) (sym c.stop.ensures.stop) ∙ unset) in
+    record {
+      some = search rules;
+      stands = subst (λ (x : DeskState g.row.S.Denot). Stands g.T.Terms.trust g.F.Commands.gives g.F.Commands.may_fail g.T.Terms.sources g.S.Site.tells g.T.Terms.kept g.S.Site.files g.S.Site.may_leave g.S.Site.moment g.S.Site.images_since c.args.desk.now x (sum_by g.R.Runner.count c.args.runners.now) (sum_by g.R.Runner.count c.go_round.new.runners) (sum_by g.R.Runner.failures c.args.runners.now) (sum_by g.R.Runner.failures c.go_round.new.runners)) (sym same) (stands_then g.T.Terms.trust g.F.Commands.gives g.F.Commands.may_fail g.T.Terms.sources g.S.Site.tells g.T.Terms.kept g.S.Site.files g.S.Site.may_leave g.S.Site.moment g.S.Site.images_since (AllSure g.R.Runner.sure c.loop.runners) c.args.limit c.args.desk.now c.loop.desk c.go_round.new.desk (sum_by g.R.Runner.count c.args.runners.now) (sum_by g.R.Runner.count c.loop.runners) (sum_by g.R.Runner.count c.go_round.new.runners) (sum_by g.R.Runner.failures c.args.runners.now) (sum_by g.R.Runner.failures c.loop.runners) (sum_by g.R.Runner.failures c.go_round.new.runners) (g.H.Hall.count c.args.hall.now) (g.H.Hall.count c.go_round.new.hall) (g.H.Hall.idle_count c.loop.hall) (g.H.Hall.idle_count c.go_round.new.hall) (Ok (turns.Vain c.in-Ok-Vain.idles)) c.loop.invariant.stands r on);
+      sure = λ is. c.go_round.ensures.sure (c.loop.invariant.sure is);
+      listens = c.go_round.ensures.listens;
+      seats = subst (λ (x : DeskState g.row.S.Denot). AreSeats x.plan x.options x.moves c.go_round.new.company.seats) (sym same) c.go_round.ensures.seats;
+      none = c.go_round.ensures.none;
+      met = met_then c.loop.invariant.met c.go_round.ensures.met;
+    }
+
+pub end_waiting-requires-clause-fine : goal.end_waiting-requires-clause-fine
+end_waiting-requires-clause-fine g c κs within =
+    let r = (let less : (g.H.Hall.count c.args.hall.now) ≤ (g.H.Hall.count c.args.hall.now) = omega arith in let failed : c.args.company.now.failed ≡ true → (g.H.Hall.count c.args.hall.now) < (g.H.Hall.count c.args.hall.now) = λ is. absurd (true≢false (sym is ∙ c.requires.going)) in subst (λ (t : Turn). Rounds g.T.Terms.trust g.F.Commands.gives g.F.Commands.may_fail g.T.Terms.sources g.S.Site.tells g.T.Terms.kept (AllSure g.R.Runner.sure c.loop.runners) g.S.Site.files g.S.Site.may_leave g.S.Site.moment g.S.Site.images_since c.args.limit c.loop.desk c.go_round.new.desk (sum_by g.R.Runner.count c.loop.runners) (sum_by g.R.Runner.count c.go_round.new.runners) (sum_by g.R.Runner.failures c.loop.runners) (sum_by g.R.Runner.failures c.go_round.new.runners) (g.H.Hall.count c.args.hall.now) (g.H.Hall.count c.go_round.new.hall) (g.H.Hall.idle_count c.loop.hall) (g.H.Hall.idle_count c.go_round.new.hall) (Ok t)) c.in-Ok-Vain.field-0-is
+    (c.in-Ok-Vain.ensures.rounds (g.H.Hall.count c.args.hall.now) (let later = c.loop.invariant.met.later in omega (arith, less, later)) (hall_rose (g.H.Hall.count c.args.hall.now) (g.H.Hall.count c.args.hall.now) (g.H.Hall.count c.loop.hall) c.args.company.now.failed c.loop.company.failed less failed c.loop.invariant.met.fails c.loop.invariant.met.later))) in
+    let on : IsOn c.go_round.new.desk = r.turn.0 in
+    subst (λ (x : DeskState g.row.S.Denot). IsFine x.trouble) (sym c.stop.ensures.stop) on.fine
+
+pub end_waiting-requires-clause-unended : goal.end_waiting-requires-clause-unended
+end_waiting-requires-clause-unended g c κs within =
+    let r = (let less : (g.H.Hall.count c.args.hall.now) ≤ (g.H.Hall.count c.args.hall.now) = omega arith in let failed : c.args.company.now.failed ≡ true → (g.H.Hall.count c.args.hall.now) < (g.H.Hall.count c.args.hall.now) = λ is. absurd (true≢false (sym is ∙ c.requires.going)) in subst (λ (t : Turn). Rounds g.T.Terms.trust g.F.Commands.gives g.F.Commands.may_fail g.T.Terms.sources g.S.Site.tells g.T.Terms.kept (AllSure g.R.Runner.sure c.loop.runners) g.S.Site.files g.S.Site.may_leave g.S.Site.moment g.S.Site.images_since c.args.limit c.loop.desk c.go_round.new.desk (sum_by g.R.Runner.count c.loop.runners) (sum_by g.R.Runner.count c.go_round.new.runners) (sum_by g.R.Runner.failures c.loop.runners) (sum_by g.R.Runner.failures c.go_round.new.runners) (g.H.Hall.count c.args.hall.now) (g.H.Hall.count c.go_round.new.hall) (g.H.Hall.idle_count c.loop.hall) (g.H.Hall.idle_count c.go_round.new.hall) (Ok t)) c.in-Ok-Vain.field-0-is
+    (c.in-Ok-Vain.ensures.rounds (g.H.Hall.count c.args.hall.now) (let later = c.loop.invariant.met.later in omega (arith, less, later)) (hall_rose (g.H.Hall.count c.args.hall.now) (g.H.Hall.count c.args.hall.now) (g.H.Hall.count c.loop.hall) c.args.company.now.failed c.loop.company.failed less failed c.loop.invariant.met.fails c.loop.invariant.met.later))) in
+    let on : IsOn c.go_round.new.desk = r.turn.0 in
+    subst (λ (x : DeskState g.row.S.Denot). has_ended (records_of x.moves) ≡ false) (sym c.stop.ensures.stop) on.unended
+
+pub end_waiting-requires-clause-idle : goal.end_waiting-requires-clause-idle
+end_waiting-requires-clause-idle g c κs within =
+    let r = (let less : (g.H.Hall.count c.args.hall.now) ≤ (g.H.Hall.count c.args.hall.now) = omega arith in let failed : c.args.company.now.failed ≡ true → (g.H.Hall.count c.args.hall.now) < (g.H.Hall.count c.args.hall.now) = λ is. absurd (true≢false (sym is ∙ c.requires.going)) in subst (λ (t : Turn). Rounds g.T.Terms.trust g.F.Commands.gives g.F.Commands.may_fail g.T.Terms.sources g.S.Site.tells g.T.Terms.kept (AllSure g.R.Runner.sure c.loop.runners) g.S.Site.files g.S.Site.may_leave g.S.Site.moment g.S.Site.images_since c.args.limit c.loop.desk c.go_round.new.desk (sum_by g.R.Runner.count c.loop.runners) (sum_by g.R.Runner.count c.go_round.new.runners) (sum_by g.R.Runner.failures c.loop.runners) (sum_by g.R.Runner.failures c.go_round.new.runners) (g.H.Hall.count c.args.hall.now) (g.H.Hall.count c.go_round.new.hall) (g.H.Hall.idle_count c.loop.hall) (g.H.Hall.idle_count c.go_round.new.hall) (Ok t)) c.in-Ok-Vain.field-0-is
+    (c.in-Ok-Vain.ensures.rounds (g.H.Hall.count c.args.hall.now) (let later = c.loop.invariant.met.later in omega (arith, less, later)) (hall_rose (g.H.Hall.count c.args.hall.now) (g.H.Hall.count c.args.hall.now) (g.H.Hall.count c.loop.hall) c.args.company.now.failed c.loop.company.failed less failed c.loop.invariant.met.fails c.loop.invariant.met.later))) in
+    let on : IsOn c.go_round.new.desk = r.turn.0 in
+    subst (λ (x : DeskState g.row.S.Denot). length (running_rules x.plan (records_of x.moves)) ≤ 0) (sym c.stop.ensures.stop) (r.idle on.fine)
+
+pub end_waiting-requires-clause-vain : goal.end_waiting-requires-clause-vain
+end_waiting-requires-clause-vain g c κs within =
+    let r = (let less : (g.H.Hall.count c.args.hall.now) ≤ (g.H.Hall.count c.args.hall.now) = omega arith in let failed : c.args.company.now.failed ≡ true → (g.H.Hall.count c.args.hall.now) < (g.H.Hall.count c.args.hall.now) = λ is. absurd (true≢false (sym is ∙ c.requires.going)) in subst (λ (t : Turn). Rounds g.T.Terms.trust g.F.Commands.gives g.F.Commands.may_fail g.T.Terms.sources g.S.Site.tells g.T.Terms.kept (AllSure g.R.Runner.sure c.loop.runners) g.S.Site.files g.S.Site.may_leave g.S.Site.moment g.S.Site.images_since c.args.limit c.loop.desk c.go_round.new.desk (sum_by g.R.Runner.count c.loop.runners) (sum_by g.R.Runner.count c.go_round.new.runners) (sum_by g.R.Runner.failures c.loop.runners) (sum_by g.R.Runner.failures c.go_round.new.runners) (g.H.Hall.count c.args.hall.now) (g.H.Hall.count c.go_round.new.hall) (g.H.Hall.idle_count c.loop.hall) (g.H.Hall.idle_count c.go_round.new.hall) (Ok t)) c.in-Ok-Vain.field-0-is
+    (c.in-Ok-Vain.ensures.rounds (g.H.Hall.count c.args.hall.now) (let later = c.loop.invariant.met.later in omega (arith, less, later)) (hall_rose (g.H.Hall.count c.args.hall.now) (g.H.Hall.count c.args.hall.now) (g.H.Hall.count c.loop.hall) c.args.company.now.failed c.loop.company.failed less failed c.loop.invariant.met.fails c.loop.invariant.met.later))) in
+    let on : IsOn c.go_round.new.desk = r.turn.0 in
+    let set : is_some c.stop.new.self.stop ≡ true = search rules in
+    let w = stop_waited c.go_round.new.desk.plan c.go_round.new.desk.options c.go_round.new.desk.moves c.go_round.new.desk.stop c.in-Ok-Vain.idles on.unset (ap (λ (x : DeskState g.row.S.Denot). is_some x.stop) (sym c.stop.ensures.stop) ∙ set) in (
+      c.in-Ok-Vain.idles,
+      ap (λ (x : DeskState g.row.S.Denot). x.stop) c.stop.ensures.stop ∙ w.0,
+      subst (λ (x : DeskState g.row.S.Denot). is_in_vain x.plan x.options x.moves ≡ true) (sym c.stop.ensures.stop) w.1,
+    )
+
+pub returns-then-stop : goal.returns-then-stop
+returns-then-stop g c =
+    let r = (let less : (g.H.Hall.count c.args.hall.now) ≤ (g.H.Hall.count c.args.hall.now) = omega arith in let failed : c.args.company.now.failed ≡ true → (g.H.Hall.count c.args.hall.now) < (g.H.Hall.count c.args.hall.now) = λ is. absurd (true≢false (sym is ∙ c.requires.going)) in subst (λ (t : Turn). Rounds g.T.Terms.trust g.F.Commands.gives g.F.Commands.may_fail g.T.Terms.sources g.S.Site.tells g.T.Terms.kept (AllSure g.R.Runner.sure c.loop.runners) g.S.Site.files g.S.Site.may_leave g.S.Site.moment g.S.Site.images_since c.args.limit c.loop.desk c.go_round.new.desk (sum_by g.R.Runner.count c.loop.runners) (sum_by g.R.Runner.count c.go_round.new.runners) (sum_by g.R.Runner.failures c.loop.runners) (sum_by g.R.Runner.failures c.go_round.new.runners) (g.H.Hall.count c.args.hall.now) (g.H.Hall.count c.go_round.new.hall) (g.H.Hall.idle_count c.loop.hall) (g.H.Hall.idle_count c.go_round.new.hall) (Ok t)) c.in-Ok-Vain.field-0-is
+    (c.in-Ok-Vain.ensures.rounds (g.H.Hall.count c.args.hall.now) (let later = c.loop.invariant.met.later in omega (arith, less, later)) (hall_rose (g.H.Hall.count c.args.hall.now) (g.H.Hall.count c.args.hall.now) (g.H.Hall.count c.loop.hall) c.args.company.now.failed c.loop.company.failed less failed c.loop.invariant.met.fails c.loop.invariant.met.later))) in
+    let on : IsOn c.go_round.new.desk = r.turn.0 in
+    let set : is_some c.stop.new.self.stop ≡ true = search rules in
+    let w = stop_waited c.go_round.new.desk.plan c.go_round.new.desk.options c.go_round.new.desk.moves c.go_round.new.desk.stop c.in-Ok-Vain.idles on.unset (ap (λ (x : DeskState g.row.S.Denot). is_some x.stop) (sym c.stop.ensures.stop) ∙ set) in
+    let is : c.stop.new.self ≡ record c.go_round.new.desk { stop = Some (stops.Waited c.in-Ok-Vain.idles) } = c.stop.ensures.stop ∙ ap (λ (k : Option Stop). record c.go_round.new.desk { stop = k }) w.0 in
+    let s = stands_then g.T.Terms.trust g.F.Commands.gives g.F.Commands.may_fail g.T.Terms.sources g.S.Site.tells g.T.Terms.kept g.S.Site.files g.S.Site.may_leave g.S.Site.moment g.S.Site.images_since (AllSure g.R.Runner.sure c.loop.runners) c.args.limit c.args.desk.now c.loop.desk c.go_round.new.desk (sum_by g.R.Runner.count c.args.runners.now) (sum_by g.R.Runner.count c.loop.runners) (sum_by g.R.Runner.count c.go_round.new.runners) (sum_by g.R.Runner.failures c.args.runners.now) (sum_by g.R.Runner.failures c.loop.runners) (sum_by g.R.Runner.failures c.go_round.new.runners) (g.H.Hall.count c.args.hall.now) (g.H.Hall.count c.go_round.new.hall) (g.H.Hall.idle_count c.loop.hall) (g.H.Hall.idle_count c.go_round.new.hall) (Ok (turns.Vain c.in-Ok-Vain.idles)) c.loop.invariant.stands r on in
+    record {
+      works = λ k less failed. works_vain g.T.Terms.trust g.F.Commands.gives g.F.Commands.may_fail g.T.Terms.sources g.S.Site.tells g.T.Terms.kept g.S.Site.files g.S.Site.may_leave g.S.Site.moment g.S.Site.images_since (AllSure g.R.Runner.sure c.args.runners.now) c.args.limit c.in-Ok-Vain.idles c.args.desk.now c.go_round.new.desk c.stop.new.self c.end_waiting.new.desk (sum_by g.R.Runner.count c.args.runners.now) (sum_by g.R.Runner.count c.go_round.new.runners) (sum_by g.R.Runner.failures c.args.runners.now) (sum_by g.R.Runner.failures c.go_round.new.runners) k (g.H.Hall.count c.go_round.new.hall) (g.H.Hall.idle_count c.args.hall.now) (g.H.Hall.idle_count c.loop.hall) (g.H.Hall.idle_count c.go_round.new.hall) c.end_waiting.result s
+          (let later = c.loop.invariant.met.later in let more = c.go_round.ensures.met.later in omega (arith, less, later, more)) c.loop.invariant.met.idles_later c.go_round.ensures.met.idles_later r.turn.1 r.turn.2
+          (λ told image. (g.met.S.Site g.world.𝓛 g.world.𝓜 g.world.𝓡 ((λ s x. x), (λ x. x), (λ x. x), λ x. x)).only_now told c.go_round.new.desk.site image) w.1 is c.end_waiting.ensures.ended;
+      seats = seats_goes g.T.Terms.trust g.F.Commands.gives g.F.Commands.may_fail g.T.Terms.sources g.S.Site.tells g.S.Site.files g.S.Site.may_leave g.S.Site.moment g.S.Site.images_since c.stop.new.self c.end_waiting.new.desk c.end_waiting.ensures.ended.goes c.go_round.new.company.seats
+          (subst (λ (x : DeskState g.row.S.Denot). AreSeats x.plan x.options x.moves c.go_round.new.company.seats) (sym c.stop.ensures.stop) c.go_round.ensures.seats);
+      none = c.go_round.ensures.none;
+      met = met_then c.loop.invariant.met c.go_round.ensures.met;
+    }

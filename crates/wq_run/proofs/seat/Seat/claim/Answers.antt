@@ -1,0 +1,68 @@
+use Rattle.std.proofs.Common.{◌≡◌, ◌∙◌, ◌<◌, ◌∷◌, ◌++◌, [], None, Ok, Result, ap, refl, subst, sym, true}
+use Rattle.std.proofs.lemmas.List.{append_assoc}
+use Rattle.flow_types.specs.declared.numbers.LinkNo.{LinkNo}
+use Rattle.run_history.specs.Links.{is_live}
+use Rattle.desk.specs.declared.answers.Claim.{Claim}
+use Rattle.flow_types.specs.Plans.{IsValid}
+use Rattle.local_run.specs.declared.halt.Halt.{Halt}
+use Rattle.local_run.specs.Beyond.{IsClaimed, claimed_by}
+use Rattle.local_run.specs.Underway.{HeldState, IsSurePool, halt_after}
+use Rattle.wq_run.specs.Seats.{seat_with}
+use Rattle.wq_run.proofs.Asks.{begin_at, begin_fresh, begin_keeps, keeps_still}
+use Rattle.wq_run.proofs.Shares.{keeps_then, leaves_then}
+use Rattle.wq_run.proofs.Steps.{begins_by, rests_by}
+use Rattle.wq_run.proofs.seat.Seat.claim.Goals as goal
+
+pub claim_away-requires-clause-beyond : goal.claim_away-requires-clause-beyond
+claim_away-requires-clause-beyond g c κs within = subst (λ (k : LinkNo). 0 < k.0) (sym c.link.ensures) c.requires.at.at.seat.placed.beyond
+
+pub claim_away-requires-clause-lives : goal.claim_away-requires-clause-lives
+claim_away-requires-clause-lives g c κs within = subst (λ (k : LinkNo). is_live c.args.desk.now.options c.args.desk.now.moves k.0 ≡ true) (sym c.link.ensures) c.requires.at.at.seat.placed.lives
+
+pub hand_out-requires-clause-valid : goal.hand_out-requires-clause-valid
+hand_out-requires-clause-valid g c κs within =
+    let is = c.requires.at in
+    let next = (begins_by g.T.Terms.trust g.F.Commands.gives g.F.Commands.may_fail g.T.Terms.sources g.S.Site.tells g.T.Terms.kept (IsSurePool g.B.Terms.fits) g.S.Site.files g.S.Site.may_leave g.S.Site.moment g.S.Site.images_since c.args.desk.now c.claim_away.new.desk c.args.held.now c.in-Ok-Taken.attempt c.claim_away.result c.requires.going (c.in-Ok-Taken.is ∙ ap (λ (x : Claim). let r : Result Claim Halt = Ok x in r) c.in-Ok-Taken.field-0-is) (λ away front back first xs waiting heard are u. c.claim_away.ensures.underway away front back first xs waiting heard are u)) is.at.away (is.front ++ c.args.self.now.attempts) is.back is.first is.waiting is.heard (is.at.are ∙ sym (append_assoc is.front c.args.self.now.attempts is.back)) is.at.under in
+    subst IsValid (sym (next.goes.plan ∙ sym is.at.under.goes.plan)) c.requires.valid
+
+pub hand_out-requires-clause-fresh : goal.hand_out-requires-clause-fresh
+hand_out-requires-clause-fresh g c κs within =
+    begin_fresh g.T.Terms.trust g.F.Commands.gives g.F.Commands.may_fail g.T.Terms.sources g.S.Site.tells g.T.Terms.kept (IsSurePool g.B.Terms.fits) g.S.Site.files g.S.Site.may_leave g.S.Site.moment g.S.Site.images_since c.args.desk.now c.claim_away.new.desk c.args.held.now c.args.self.now c.in-Ok-Taken.attempt ((subst (IsClaimed c.claim_away.new.desk c.link.result) c.in-Ok-Taken.field-0-is c.in-Ok-Taken.ensures.told.1).0 ∙ c.link.ensures) (begins_by g.T.Terms.trust g.F.Commands.gives g.F.Commands.may_fail g.T.Terms.sources g.S.Site.tells g.T.Terms.kept (IsSurePool g.B.Terms.fits) g.S.Site.files g.S.Site.may_leave g.S.Site.moment g.S.Site.images_since c.args.desk.now c.claim_away.new.desk c.args.held.now c.in-Ok-Taken.attempt c.claim_away.result c.requires.going (c.in-Ok-Taken.is ∙ ap (λ (x : Claim). let r : Result Claim Halt = Ok x in r) c.in-Ok-Taken.field-0-is) (λ away front back first xs waiting heard are u. c.claim_away.ensures.underway away front back first xs waiting heard are u)) c.requires.at
+
+pub hand_out-requires-clause-at : goal.hand_out-requires-clause-at
+hand_out-requires-clause-at g c κs within =
+    begin_at g.T.Terms.trust g.F.Commands.gives g.F.Commands.may_fail g.T.Terms.sources g.S.Site.tells g.T.Terms.kept (IsSurePool g.B.Terms.fits) g.S.Site.files g.S.Site.may_leave g.S.Site.moment g.S.Site.images_since c.args.desk.now c.claim_away.new.desk c.args.held.now c.args.self.now c.in-Ok-Taken.attempt ((subst (IsClaimed c.claim_away.new.desk c.link.result) c.in-Ok-Taken.field-0-is c.in-Ok-Taken.ensures.told.1).0 ∙ c.link.ensures) (begins_by g.T.Terms.trust g.F.Commands.gives g.F.Commands.may_fail g.T.Terms.sources g.S.Site.tells g.T.Terms.kept (IsSurePool g.B.Terms.fits) g.S.Site.files g.S.Site.may_leave g.S.Site.moment g.S.Site.images_since c.args.desk.now c.claim_away.new.desk c.args.held.now c.in-Ok-Taken.attempt c.claim_away.result c.requires.going (c.in-Ok-Taken.is ∙ ap (λ (x : Claim). let r : Result Claim Halt = Ok x in r) c.in-Ok-Taken.field-0-is) (λ away front back first xs waiting heard are u. c.claim_away.ensures.underway away front back first xs waiting heard are u)) c.requires.at
+
+pub returns-in-Ok : goal.returns-in-Ok
+returns-in-Ok g c =
+    let begins = (begins_by g.T.Terms.trust g.F.Commands.gives g.F.Commands.may_fail g.T.Terms.sources g.S.Site.tells g.T.Terms.kept (IsSurePool g.B.Terms.fits) g.S.Site.files g.S.Site.may_leave g.S.Site.moment g.S.Site.images_since c.args.desk.now c.claim_away.new.desk c.args.held.now c.in-Ok-Taken.attempt c.claim_away.result c.requires.going (c.in-Ok-Taken.is ∙ ap (λ (x : Claim). let r : Result Claim Halt = Ok x in r) c.in-Ok-Taken.field-0-is) (λ away front back first xs waiting heard are u. c.claim_away.ensures.underway away front back first xs waiting heard are u)) in
+    record {
+      keeps = keeps_then g.T.Terms.trust g.F.Commands.gives g.F.Commands.may_fail g.T.Terms.sources g.S.Site.tells g.T.Terms.kept (IsSurePool g.B.Terms.fits) g.S.Site.files g.S.Site.may_leave g.S.Site.moment g.S.Site.images_since c.args.desk.now c.claim_away.new.desk c.hand_out.new.desk c.args.held.now c.args.held.now c.hand_out.new.held c.args.self.now (seat_with c.args.self.now (c.args.self.now.attempts ++ (c.in-Ok-Taken.attempt ∷ []))) c.hand_out.new.self
+          (begin_keeps g.T.Terms.trust g.F.Commands.gives g.F.Commands.may_fail g.T.Terms.sources g.S.Site.tells g.T.Terms.kept (IsSurePool g.B.Terms.fits) g.S.Site.files g.S.Site.may_leave g.S.Site.moment g.S.Site.images_since c.args.desk.now c.claim_away.new.desk c.args.held.now c.args.self.now c.in-Ok-Taken.attempt ((subst (IsClaimed c.claim_away.new.desk c.link.result) c.in-Ok-Taken.field-0-is c.in-Ok-Taken.ensures.told.1).0 ∙ c.link.ensures) begins c.requires.at)
+          c.in-Ok.ensures.keeps;
+    }
+
+pub returns-in-Err-hand_out : goal.returns-in-Err-hand_out
+returns-in-Err-hand_out g c =
+    let begins = (begins_by g.T.Terms.trust g.F.Commands.gives g.F.Commands.may_fail g.T.Terms.sources g.S.Site.tells g.T.Terms.kept (IsSurePool g.B.Terms.fits) g.S.Site.files g.S.Site.may_leave g.S.Site.moment g.S.Site.images_since c.args.desk.now c.claim_away.new.desk c.args.held.now c.in-Ok-Taken.attempt c.claim_away.result c.requires.going (c.in-Ok-Taken.is ∙ ap (λ (x : Claim). let r : Result Claim Halt = Ok x in r) c.in-Ok-Taken.field-0-is) (λ away front back first xs waiting heard are u. c.claim_away.ensures.underway away front back first xs waiting heard are u)) in
+    record {
+      keeps = leaves_then g.T.Terms.trust g.F.Commands.gives g.F.Commands.may_fail g.T.Terms.sources g.S.Site.tells g.T.Terms.kept (IsSurePool g.B.Terms.fits) g.S.Site.files g.S.Site.may_leave g.S.Site.moment g.S.Site.images_since c.args.desk.now c.claim_away.new.desk c.hand_out.new.desk c.args.held.now c.args.held.now c.hand_out.new.held c.args.self.now (seat_with c.args.self.now (c.args.self.now.attempts ++ (c.in-Ok-Taken.attempt ∷ []))) c.hand_out.new.self
+          (begin_keeps g.T.Terms.trust g.F.Commands.gives g.F.Commands.may_fail g.T.Terms.sources g.S.Site.tells g.T.Terms.kept (IsSurePool g.B.Terms.fits) g.S.Site.files g.S.Site.may_leave g.S.Site.moment g.S.Site.images_since c.args.desk.now c.claim_away.new.desk c.args.held.now c.args.self.now c.in-Ok-Taken.attempt ((subst (IsClaimed c.claim_away.new.desk c.link.result) c.in-Ok-Taken.field-0-is c.in-Ok-Taken.ensures.told.1).0 ∙ c.link.ensures) begins c.requires.at)
+          c.in-Err-hand_out.ensures.keeps;
+    }
+
+pub returns-in-Ok-Nothing : goal.returns-in-Ok-Nothing
+returns-in-Ok-Nothing g c = record {
+  keeps = keeps_still g.T.Terms.trust g.F.Commands.gives g.F.Commands.may_fail g.T.Terms.sources g.S.Site.tells g.T.Terms.kept (IsSurePool g.B.Terms.fits) g.S.Site.files g.S.Site.may_leave g.S.Site.moment g.S.Site.images_since c.args.desk.now c.claim_away.new.desk c.args.held.now c.args.held.now c.args.self.now c.args.self.now refl refl refl (λ was. was)
+      (rests_by g.T.Terms.trust g.F.Commands.gives g.F.Commands.may_fail g.T.Terms.sources g.S.Site.tells g.T.Terms.kept (IsSurePool g.B.Terms.fits) g.S.Site.files g.S.Site.may_leave g.S.Site.moment g.S.Site.images_since c.args.desk.now c.claim_away.new.desk c.args.held.now c.args.held.now c.claim_away.result c.requires.going
+      (λ front back away. ap (λ (x : Result Claim Halt). claimed_by x front back away) (c.in-Ok-Nothing.is ∙ ap (λ (x : Claim). let r : Result Claim Halt = Ok x in r) c.in-Ok-Nothing.field-0-is)) refl
+      (c.requires.going ∙ sym (ap (λ (x : Result Claim Halt). halt_after x None) c.in-Ok-Nothing.is)) (λ away front back first xs waiting heard are u. c.claim_away.ensures.underway away front back first xs waiting heard are u)) c.requires.at;
+}
+
+pub returns-in-Err : goal.returns-in-Err
+returns-in-Err g c = record {
+  keeps = keeps_still g.T.Terms.trust g.F.Commands.gives g.F.Commands.may_fail g.T.Terms.sources g.S.Site.tells g.T.Terms.kept (IsSurePool g.B.Terms.fits) g.S.Site.files g.S.Site.may_leave g.S.Site.moment g.S.Site.images_since c.args.desk.now c.claim_away.new.desk c.args.held.now c.stop.new.self c.args.self.now c.args.self.now refl refl refl (λ was. was)
+      (rests_by g.T.Terms.trust g.F.Commands.gives g.F.Commands.may_fail g.T.Terms.sources g.S.Site.tells g.T.Terms.kept (IsSurePool g.B.Terms.fits) g.S.Site.files g.S.Site.may_leave g.S.Site.moment g.S.Site.images_since c.args.desk.now c.claim_away.new.desk c.args.held.now c.stop.new.self c.claim_away.result c.requires.going
+      (λ front back away. ap (λ (x : Result Claim Halt). claimed_by x front back away) c.in-Err.is) (ap (λ (h : HeldState). h.attempts) c.stop.ensures)
+      (ap (λ (h : HeldState). h.halt) c.stop.ensures ∙ sym (ap (λ (x : Result Claim Halt). halt_after x None) c.in-Err.is)) (λ away front back first xs waiting heard are u. c.claim_away.ensures.underway away front back first xs waiting heard are u)) c.requires.at;
+}

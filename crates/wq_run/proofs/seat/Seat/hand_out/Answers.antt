@@ -1,0 +1,53 @@
+use Rattle.std.proofs.Common.{◌≡◌, ◌∙◌, ◌∷◌, ◌++◌, [], None, Option, Some, false, ap, refl, subst, sym}
+use Rattle.std.proofs.lemmas.List.{append-nil}
+use Rattle.flow_types.specs.declared.numbers.AttemptNo.{AttemptNo}
+use Rattle.desk.specs.declared.attempt.Attempt.{Attempt}
+use Rattle.link_session.specs.Sessions.{is_open}
+use Rattle.local_run.specs.declared.halt.Halt.{Halt}
+use Rattle.local_run.specs.declared.halt.Halt.TheVariants as halts
+use Rattle.local_run.specs.Beyond.{lost_by}
+use Rattle.local_run.specs.Underway.{HeldState, IsSurePool, halt_after}
+use Rattle.local_run.proofs.StandsBegun.{wants_on}
+use Rattle.wq_run.specs.Seats.{IsAtSeat, SeatAfter, SeatState, seat_with}
+use Rattle.wq_run.proofs.Closes.{away_from, close_keeps, placed, runs}
+use Rattle.wq_run.proofs.seat.Seat.hand_out.Goals as goal
+
+pub start-requires-clause-fresh : goal.start-requires-clause-fresh
+start-requires-clause-fresh g c κs within =
+    subst (λ (n : AttemptNo). is_open n c.hold.new.self.peer.session.attempts ≡ false) (sym c.number-number.ensures)
+    (subst (λ (s : SeatState g.row.L.Denot). is_open c.args.attempt.number s.peer.session.attempts ≡ false) (sym c.in-Ok.ensures.held) c.requires.fresh)
+
+pub start-requires-clause-at : goal.start-requires-clause-at
+start-requires-clause-at g c κs within =
+    subst (IsAtSeat g.T.Terms.trust g.F.Commands.gives g.F.Commands.may_fail g.T.Terms.sources g.S.Site.tells g.T.Terms.kept (IsSurePool g.B.Terms.fits) g.S.Site.files g.S.Site.may_leave g.S.Site.moment g.S.Site.images_since c.args.desk.now c.args.held.now) (sym c.in-Ok.ensures.held) c.requires.at
+
+pub returns-in-Ok : goal.returns-in-Ok
+returns-in-Ok g c = record {
+  keeps = subst (λ (s : SeatState g.row.L.Denot). SeatAfter g.T.Terms.trust g.F.Commands.gives g.F.Commands.may_fail g.T.Terms.sources g.S.Site.tells g.T.Terms.kept (IsSurePool g.B.Terms.fits) g.S.Site.files g.S.Site.may_leave g.S.Site.moment g.S.Site.images_since c.args.desk.now c.start.new.desk c.args.held.now c.start.new.held s c.start.new.self c.start.result) c.in-Ok.ensures.held c.start.ensures.keeps;
+}
+
+pub lose_away-requires-clause-runs : goal.lose_away-requires-clause-runs
+lose_away-requires-clause-runs g c κs within =
+    let is = c.requires.at in
+    runs g.T.Terms.trust g.F.Commands.gives g.F.Commands.may_fail g.T.Terms.sources g.S.Site.tells g.T.Terms.kept (IsSurePool g.B.Terms.fits) g.S.Site.files g.S.Site.may_leave g.S.Site.moment g.S.Site.images_since is.front is.back is.first c.args.desk.now c.args.held.now is.waiting is.heard (seat_with c.args.self.now (c.args.self.now.attempts ++ (c.args.attempt ∷ []))) c.args.self.now.attempts c.in-Err.back [] (ap (λ (x : Attempt). c.args.self.now.attempts ++ (x ∷ [])) (sym c.in-Err.ensures.back.0))
+    (placed g.T.Terms.trust g.F.Commands.gives g.F.Commands.may_fail g.T.Terms.sources g.S.Site.tells g.T.Terms.kept (IsSurePool g.B.Terms.fits) g.S.Site.files g.S.Site.may_leave g.S.Site.moment g.S.Site.images_since is.front is.back is.first c.args.desk.now c.args.held.now is.waiting is.heard (seat_with c.args.self.now (c.args.self.now.attempts ++ (c.args.attempt ∷ []))) is.at)
+
+pub lose_away-requires-clause-keen : goal.lose_away-requires-clause-keen
+lose_away-requires-clause-keen g c κs within keen =
+    let is = c.requires.at in
+    absurd (c.requires.keen c.in-Err.back.link.0
+    (away_from g.T.Terms.trust g.F.Commands.gives g.F.Commands.may_fail g.T.Terms.sources g.S.Site.tells g.T.Terms.kept (IsSurePool g.B.Terms.fits) g.S.Site.files g.S.Site.may_leave g.S.Site.moment g.S.Site.images_since is.front is.back is.first c.args.desk.now c.args.held.now is.waiting is.heard (seat_with c.args.self.now (c.args.self.now.attempts ++ (c.args.attempt ∷ []))) c.args.self.now.attempts c.in-Err.back [] (ap (λ (x : Attempt). c.args.self.now.attempts ++ (x ∷ [])) (sym c.in-Err.ensures.back.0))
+    (placed g.T.Terms.trust g.F.Commands.gives g.F.Commands.may_fail g.T.Terms.sources g.S.Site.tells g.T.Terms.kept (IsSurePool g.B.Terms.fits) g.S.Site.files g.S.Site.may_leave g.S.Site.moment g.S.Site.images_since is.front is.back is.first c.args.desk.now c.args.held.now is.waiting is.heard (seat_with c.args.self.now (c.args.self.now.attempts ++ (c.args.attempt ∷ []))) is.at)) keen)
+
+pub returns-in-Err : goal.returns-in-Err
+returns-in-Err g c = record {
+  keeps = close_keeps g.T.Terms.trust g.F.Commands.gives g.F.Commands.may_fail g.T.Terms.sources g.S.Site.tells g.T.Terms.kept (IsSurePool g.B.Terms.fits) g.S.Site.files g.S.Site.may_leave g.S.Site.moment g.S.Site.images_since c.args.desk.now c.lose_away.new.desk c.args.held.now c.stop.new.self (seat_with c.args.self.now (c.args.self.now.attempts ++ (c.args.attempt ∷ []))) c.hold.new.self c.args.attempt.number c.in-Err.back c.args.self.now.attempts [] (λ (h : Option Halt). Some halts.Memory)
+      (ap (λ (x : Attempt). c.args.self.now.attempts ++ (x ∷ [])) (sym c.in-Err.ensures.back.0)) (ap (λ (x : Attempt). x.number) c.in-Err.ensures.back.0) (c.in-Err.ensures.back.1 ∙ ap (seat_with c.args.self.now) (sym (append-nil c.args.self.now.attempts))) c.requires.fresh (ap (λ (h : HeldState). h.attempts) c.stop.ensures) (ap (λ (h : HeldState). h.halt) c.stop.ensures)
+      (λ away front back first xs waiting heard halt are u. (
+        lost_by (front ++ back) away,
+        refl,
+        refl,
+        wants_on g.T.Terms.trust g.F.Commands.gives g.F.Commands.may_fail g.T.Terms.sources g.S.Site.tells g.T.Terms.kept (IsSurePool g.B.Terms.fits) g.S.Site.files g.S.Site.may_leave g.S.Site.moment g.S.Site.images_since (lost_by (front ++ back) away) first c.lose_away.new.desk xs waiting None heard (halt_after c.lose_away.result halt)
+            (c.lose_away.ensures.underway away front back first xs waiting heard halt are u),
+      )) c.requires.at;
+}

@@ -1,0 +1,108 @@
+use Rattle.std.proofs.Common.{◌≡◌, List, None, Ok, Result, subst, sym}
+use Rattle.std.specs.List.{AllByRecursion}
+use Rattle.flow_types.specs.declared.job.Outcome.TheVariants as outcomes
+use Rattle.desk.specs.declared.attempt.Attempt.{Attempt}
+use Rattle.peers.specs.declared.leave.Leave.{Leave}
+use Rattle.peers.specs.declared.told.Told.{Told}
+use Rattle.peers.specs.declared.told.Told.TheVariants as tell
+use Rattle.peers.specs.Hears.{Hears}
+use Rattle.local_run.specs.Underway.{IsHeld, IsSurePool}
+use Rattle.wq_run.specs.Seats.{MayEndAs}
+use Rattle.wq_run.proofs.Closes.{inside, placed}
+use Rattle.wq_run.proofs.Places.{ends_held, may_end_as}
+use Rattle.wq_run.proofs.Shares.{keeps_then, leaves_then}
+use Rattle.wq_run.proofs.Steps.{after_then, at_then, heard_keeps, heard_of, unheard_leaves}
+use Rattle.wq_run.proofs.seat.Seat.hear.Goals as goal
+
+pub close-requires-clause-at : goal.close-requires-clause-at
+close-requires-clause-at g c κs within = at_then g.T.Terms.trust g.F.Commands.gives g.F.Commands.may_fail g.T.Terms.sources g.S.Site.tells g.T.Terms.kept (IsSurePool g.B.Terms.fits) g.S.Site.files g.S.Site.may_leave g.S.Site.moment g.S.Site.images_since c.args.desk.now c.args.desk.now c.args.held.now c.args.held.now c.args.self.now c.next.new.self c.requires.at (heard_keeps g.T.Terms.trust g.F.Commands.gives g.F.Commands.may_fail g.T.Terms.sources g.S.Site.tells g.T.Terms.kept (IsSurePool g.B.Terms.fits) g.S.Site.files g.S.Site.may_leave g.S.Site.moment g.S.Site.images_since c.args.desk.now c.args.held.now c.args.self.now c.next.new.self (tell.Finish c.in-Ok-Finish.attempt c.in-Ok-Finish.outs) c.next.ensures.link c.next.ensures.attempts (subst (λ (x : Told). let r : Result Told Leave = Ok x in c.args.self.now.peer.feed.stop ≡ None → Hears c.args.self.now.peer.feed c.args.self.now.peer.session r c.next.new.self.peer.feed c.next.new.self.peer.session) c.in-Ok-Finish.field-0-is c.in-Ok-Finish.ensures.hears))
+
+pub close-requires-clause-there : goal.close-requires-clause-there
+close-requires-clause-there g c κs within =
+    subst (IsHeld c.in-Ok-Finish.attempt) (sym c.next.ensures.attempts) (ends_held c.args.desk.now.plan c.args.self.now.attempts c.in-Ok-Finish.attempt (outcomes.Success c.in-Ok-Finish.outs) (heard_of g.T.Terms.trust g.F.Commands.gives g.F.Commands.may_fail g.T.Terms.sources g.S.Site.tells g.T.Terms.kept (IsSurePool g.B.Terms.fits) g.S.Site.files g.S.Site.may_leave g.S.Site.moment g.S.Site.images_since c.args.desk.now c.args.self.now c.next.new.self (tell.Finish c.in-Ok-Finish.attempt c.in-Ok-Finish.outs) c.requires.at.at.seat.going c.requires.at.at.seat.opens (subst (λ (x : Told). let r : Result Told Leave = Ok x in c.args.self.now.peer.feed.stop ≡ None → Hears c.args.self.now.peer.feed c.args.self.now.peer.session r c.next.new.self.peer.feed c.next.new.self.peer.session) c.in-Ok-Finish.field-0-is c.in-Ok-Finish.ensures.hears)).so)
+
+pub close-requires-clause-fits : goal.close-requires-clause-fits
+close-requires-clause-fits g c κs within =
+    let is = c.requires.at in
+    subst (AllByRecursion (MayEndAs c.args.desk.now.plan c.in-Ok-Finish.attempt (outcomes.Success c.in-Ok-Finish.outs))) (sym c.next.ensures.attempts) (may_end_as c.args.desk.now.plan c.requires.valid c.args.self.now.attempts c.in-Ok-Finish.attempt (outcomes.Success c.in-Ok-Finish.outs)
+    (inside g.T.Terms.trust g.F.Commands.gives g.F.Commands.may_fail g.T.Terms.sources g.S.Site.tells g.T.Terms.kept (IsSurePool g.B.Terms.fits) g.S.Site.files g.S.Site.may_leave g.S.Site.moment g.S.Site.images_since is.front is.back is.first c.args.desk.now c.args.held.now is.waiting is.heard c.args.self.now (placed g.T.Terms.trust g.F.Commands.gives g.F.Commands.may_fail g.T.Terms.sources g.S.Site.tells g.T.Terms.kept (IsSurePool g.B.Terms.fits) g.S.Site.files g.S.Site.may_leave g.S.Site.moment g.S.Site.images_since is.front is.back is.first c.args.desk.now c.args.held.now is.waiting is.heard c.args.self.now is.at)) (heard_of g.T.Terms.trust g.F.Commands.gives g.F.Commands.may_fail g.T.Terms.sources g.S.Site.tells g.T.Terms.kept (IsSurePool g.B.Terms.fits) g.S.Site.files g.S.Site.may_leave g.S.Site.moment g.S.Site.images_since c.args.desk.now c.args.self.now c.next.new.self (tell.Finish c.in-Ok-Finish.attempt c.in-Ok-Finish.outs) c.requires.at.at.seat.going c.requires.at.at.seat.opens (subst (λ (x : Told). let r : Result Told Leave = Ok x in c.args.self.now.peer.feed.stop ≡ None → Hears c.args.self.now.peer.feed c.args.self.now.peer.session r c.next.new.self.peer.feed c.next.new.self.peer.session) c.in-Ok-Finish.field-0-is c.in-Ok-Finish.ensures.hears)).so)
+
+pub close-requires-clause-gone : goal.close-requires-clause-gone
+close-requires-clause-gone g c κs within = (heard_of g.T.Terms.trust g.F.Commands.gives g.F.Commands.may_fail g.T.Terms.sources g.S.Site.tells g.T.Terms.kept (IsSurePool g.B.Terms.fits) g.S.Site.files g.S.Site.may_leave g.S.Site.moment g.S.Site.images_since c.args.desk.now c.args.self.now c.next.new.self (tell.Finish c.in-Ok-Finish.attempt c.in-Ok-Finish.outs) c.requires.at.at.seat.going c.requires.at.at.seat.opens (subst (λ (x : Told). let r : Result Told Leave = Ok x in c.args.self.now.peer.feed.stop ≡ None → Hears c.args.self.now.peer.feed c.args.self.now.peer.session r c.next.new.self.peer.feed c.next.new.self.peer.session) c.in-Ok-Finish.field-0-is c.in-Ok-Finish.ensures.hears)).gone
+
+pub returns-in-Ok-Finish : goal.returns-in-Ok-Finish
+returns-in-Ok-Finish g c = record {
+  keeps = keeps_then g.T.Terms.trust g.F.Commands.gives g.F.Commands.may_fail g.T.Terms.sources g.S.Site.tells g.T.Terms.kept (IsSurePool g.B.Terms.fits) g.S.Site.files g.S.Site.may_leave g.S.Site.moment g.S.Site.images_since c.args.desk.now c.args.desk.now c.close.new.desk c.args.held.now c.args.held.now c.close.new.held c.args.self.now c.next.new.self c.close.new.self (heard_keeps g.T.Terms.trust g.F.Commands.gives g.F.Commands.may_fail g.T.Terms.sources g.S.Site.tells g.T.Terms.kept (IsSurePool g.B.Terms.fits) g.S.Site.files g.S.Site.may_leave g.S.Site.moment g.S.Site.images_since c.args.desk.now c.args.held.now c.args.self.now c.next.new.self (tell.Finish c.in-Ok-Finish.attempt c.in-Ok-Finish.outs) c.next.ensures.link c.next.ensures.attempts (subst (λ (x : Told). let r : Result Told Leave = Ok x in c.args.self.now.peer.feed.stop ≡ None → Hears c.args.self.now.peer.feed c.args.self.now.peer.session r c.next.new.self.peer.feed c.next.new.self.peer.session) c.in-Ok-Finish.field-0-is c.in-Ok-Finish.ensures.hears)) c.close.ensures.keeps;
+}
+
+pub close-requires-in-Ok-Fail-clause-at : goal.close-requires-in-Ok-Fail-clause-at
+close-requires-in-Ok-Fail-clause-at g c κs within = at_then g.T.Terms.trust g.F.Commands.gives g.F.Commands.may_fail g.T.Terms.sources g.S.Site.tells g.T.Terms.kept (IsSurePool g.B.Terms.fits) g.S.Site.files g.S.Site.may_leave g.S.Site.moment g.S.Site.images_since c.args.desk.now c.args.desk.now c.args.held.now c.args.held.now c.args.self.now c.next.new.self c.requires.at (heard_keeps g.T.Terms.trust g.F.Commands.gives g.F.Commands.may_fail g.T.Terms.sources g.S.Site.tells g.T.Terms.kept (IsSurePool g.B.Terms.fits) g.S.Site.files g.S.Site.may_leave g.S.Site.moment g.S.Site.images_since c.args.desk.now c.args.held.now c.args.self.now c.next.new.self (tell.Fail c.in-Ok-Fail.attempt c.in-Ok-Fail.why) c.next.ensures.link c.next.ensures.attempts (subst (λ (x : Told). let r : Result Told Leave = Ok x in c.args.self.now.peer.feed.stop ≡ None → Hears c.args.self.now.peer.feed c.args.self.now.peer.session r c.next.new.self.peer.feed c.next.new.self.peer.session) c.in-Ok-Fail.field-0-is c.in-Ok-Fail.ensures.hears))
+
+pub close-requires-in-Ok-Fail-clause-there : goal.close-requires-in-Ok-Fail-clause-there
+close-requires-in-Ok-Fail-clause-there g c κs within =
+    subst (IsHeld c.in-Ok-Fail.attempt) (sym c.next.ensures.attempts) (ends_held c.args.desk.now.plan c.args.self.now.attempts c.in-Ok-Fail.attempt (outcomes.Failed c.in-Ok-Fail.why) (heard_of g.T.Terms.trust g.F.Commands.gives g.F.Commands.may_fail g.T.Terms.sources g.S.Site.tells g.T.Terms.kept (IsSurePool g.B.Terms.fits) g.S.Site.files g.S.Site.may_leave g.S.Site.moment g.S.Site.images_since c.args.desk.now c.args.self.now c.next.new.self (tell.Fail c.in-Ok-Fail.attempt c.in-Ok-Fail.why) c.requires.at.at.seat.going c.requires.at.at.seat.opens (subst (λ (x : Told). let r : Result Told Leave = Ok x in c.args.self.now.peer.feed.stop ≡ None → Hears c.args.self.now.peer.feed c.args.self.now.peer.session r c.next.new.self.peer.feed c.next.new.self.peer.session) c.in-Ok-Fail.field-0-is c.in-Ok-Fail.ensures.hears)).so)
+
+pub close-requires-in-Ok-Fail-clause-fits : goal.close-requires-in-Ok-Fail-clause-fits
+close-requires-in-Ok-Fail-clause-fits g c κs within =
+    let is = c.requires.at in
+    subst (AllByRecursion (MayEndAs c.args.desk.now.plan c.in-Ok-Fail.attempt (outcomes.Failed c.in-Ok-Fail.why))) (sym c.next.ensures.attempts) (may_end_as c.args.desk.now.plan c.requires.valid c.args.self.now.attempts c.in-Ok-Fail.attempt (outcomes.Failed c.in-Ok-Fail.why)
+    (inside g.T.Terms.trust g.F.Commands.gives g.F.Commands.may_fail g.T.Terms.sources g.S.Site.tells g.T.Terms.kept (IsSurePool g.B.Terms.fits) g.S.Site.files g.S.Site.may_leave g.S.Site.moment g.S.Site.images_since is.front is.back is.first c.args.desk.now c.args.held.now is.waiting is.heard c.args.self.now (placed g.T.Terms.trust g.F.Commands.gives g.F.Commands.may_fail g.T.Terms.sources g.S.Site.tells g.T.Terms.kept (IsSurePool g.B.Terms.fits) g.S.Site.files g.S.Site.may_leave g.S.Site.moment g.S.Site.images_since is.front is.back is.first c.args.desk.now c.args.held.now is.waiting is.heard c.args.self.now is.at)) (heard_of g.T.Terms.trust g.F.Commands.gives g.F.Commands.may_fail g.T.Terms.sources g.S.Site.tells g.T.Terms.kept (IsSurePool g.B.Terms.fits) g.S.Site.files g.S.Site.may_leave g.S.Site.moment g.S.Site.images_since c.args.desk.now c.args.self.now c.next.new.self (tell.Fail c.in-Ok-Fail.attempt c.in-Ok-Fail.why) c.requires.at.at.seat.going c.requires.at.at.seat.opens (subst (λ (x : Told). let r : Result Told Leave = Ok x in c.args.self.now.peer.feed.stop ≡ None → Hears c.args.self.now.peer.feed c.args.self.now.peer.session r c.next.new.self.peer.feed c.next.new.self.peer.session) c.in-Ok-Fail.field-0-is c.in-Ok-Fail.ensures.hears)).so)
+
+pub close-requires-in-Ok-Fail-clause-gone : goal.close-requires-in-Ok-Fail-clause-gone
+close-requires-in-Ok-Fail-clause-gone g c κs within = (heard_of g.T.Terms.trust g.F.Commands.gives g.F.Commands.may_fail g.T.Terms.sources g.S.Site.tells g.T.Terms.kept (IsSurePool g.B.Terms.fits) g.S.Site.files g.S.Site.may_leave g.S.Site.moment g.S.Site.images_since c.args.desk.now c.args.self.now c.next.new.self (tell.Fail c.in-Ok-Fail.attempt c.in-Ok-Fail.why) c.requires.at.at.seat.going c.requires.at.at.seat.opens (subst (λ (x : Told). let r : Result Told Leave = Ok x in c.args.self.now.peer.feed.stop ≡ None → Hears c.args.self.now.peer.feed c.args.self.now.peer.session r c.next.new.self.peer.feed c.next.new.self.peer.session) c.in-Ok-Fail.field-0-is c.in-Ok-Fail.ensures.hears)).gone
+
+pub returns-in-Ok-Fail : goal.returns-in-Ok-Fail
+returns-in-Ok-Fail g c = record {
+  keeps = keeps_then g.T.Terms.trust g.F.Commands.gives g.F.Commands.may_fail g.T.Terms.sources g.S.Site.tells g.T.Terms.kept (IsSurePool g.B.Terms.fits) g.S.Site.files g.S.Site.may_leave g.S.Site.moment g.S.Site.images_since c.args.desk.now c.args.desk.now c.close-in-Ok-Fail.new.desk c.args.held.now c.args.held.now c.close-in-Ok-Fail.new.held c.args.self.now c.next.new.self c.close-in-Ok-Fail.new.self (heard_keeps g.T.Terms.trust g.F.Commands.gives g.F.Commands.may_fail g.T.Terms.sources g.S.Site.tells g.T.Terms.kept (IsSurePool g.B.Terms.fits) g.S.Site.files g.S.Site.may_leave g.S.Site.moment g.S.Site.images_since c.args.desk.now c.args.held.now c.args.self.now c.next.new.self (tell.Fail c.in-Ok-Fail.attempt c.in-Ok-Fail.why) c.next.ensures.link c.next.ensures.attempts (subst (λ (x : Told). let r : Result Told Leave = Ok x in c.args.self.now.peer.feed.stop ≡ None → Hears c.args.self.now.peer.feed c.args.self.now.peer.session r c.next.new.self.peer.feed c.next.new.self.peer.session) c.in-Ok-Fail.field-0-is c.in-Ok-Fail.ensures.hears)) c.close-in-Ok-Fail.ensures.keeps;
+}
+
+pub close-requires-in-Ok-Lose-clause-at : goal.close-requires-in-Ok-Lose-clause-at
+close-requires-in-Ok-Lose-clause-at g c κs within = at_then g.T.Terms.trust g.F.Commands.gives g.F.Commands.may_fail g.T.Terms.sources g.S.Site.tells g.T.Terms.kept (IsSurePool g.B.Terms.fits) g.S.Site.files g.S.Site.may_leave g.S.Site.moment g.S.Site.images_since c.args.desk.now c.args.desk.now c.args.held.now c.args.held.now c.args.self.now c.next.new.self c.requires.at (heard_keeps g.T.Terms.trust g.F.Commands.gives g.F.Commands.may_fail g.T.Terms.sources g.S.Site.tells g.T.Terms.kept (IsSurePool g.B.Terms.fits) g.S.Site.files g.S.Site.may_leave g.S.Site.moment g.S.Site.images_since c.args.desk.now c.args.held.now c.args.self.now c.next.new.self (tell.Lose c.in-Ok-Lose.attempt) c.next.ensures.link c.next.ensures.attempts (subst (λ (x : Told). let r : Result Told Leave = Ok x in c.args.self.now.peer.feed.stop ≡ None → Hears c.args.self.now.peer.feed c.args.self.now.peer.session r c.next.new.self.peer.feed c.next.new.self.peer.session) c.in-Ok-Lose.field-0-is c.in-Ok-Lose.ensures.hears))
+
+pub close-requires-in-Ok-Lose-clause-there : goal.close-requires-in-Ok-Lose-clause-there
+close-requires-in-Ok-Lose-clause-there g c κs within =
+    subst (IsHeld c.in-Ok-Lose.attempt) (sym c.next.ensures.attempts) (ends_held c.args.desk.now.plan c.args.self.now.attempts c.in-Ok-Lose.attempt outcomes.NotRun (heard_of g.T.Terms.trust g.F.Commands.gives g.F.Commands.may_fail g.T.Terms.sources g.S.Site.tells g.T.Terms.kept (IsSurePool g.B.Terms.fits) g.S.Site.files g.S.Site.may_leave g.S.Site.moment g.S.Site.images_since c.args.desk.now c.args.self.now c.next.new.self (tell.Lose c.in-Ok-Lose.attempt) c.requires.at.at.seat.going c.requires.at.at.seat.opens (subst (λ (x : Told). let r : Result Told Leave = Ok x in c.args.self.now.peer.feed.stop ≡ None → Hears c.args.self.now.peer.feed c.args.self.now.peer.session r c.next.new.self.peer.feed c.next.new.self.peer.session) c.in-Ok-Lose.field-0-is c.in-Ok-Lose.ensures.hears)).so)
+
+pub close-requires-in-Ok-Lose-clause-fits : goal.close-requires-in-Ok-Lose-clause-fits
+close-requires-in-Ok-Lose-clause-fits g c κs within =
+    let is = c.requires.at in
+    subst (AllByRecursion (MayEndAs c.args.desk.now.plan c.in-Ok-Lose.attempt outcomes.NotRun)) (sym c.next.ensures.attempts) (may_end_as c.args.desk.now.plan c.requires.valid c.args.self.now.attempts c.in-Ok-Lose.attempt outcomes.NotRun
+    (inside g.T.Terms.trust g.F.Commands.gives g.F.Commands.may_fail g.T.Terms.sources g.S.Site.tells g.T.Terms.kept (IsSurePool g.B.Terms.fits) g.S.Site.files g.S.Site.may_leave g.S.Site.moment g.S.Site.images_since is.front is.back is.first c.args.desk.now c.args.held.now is.waiting is.heard c.args.self.now (placed g.T.Terms.trust g.F.Commands.gives g.F.Commands.may_fail g.T.Terms.sources g.S.Site.tells g.T.Terms.kept (IsSurePool g.B.Terms.fits) g.S.Site.files g.S.Site.may_leave g.S.Site.moment g.S.Site.images_since is.front is.back is.first c.args.desk.now c.args.held.now is.waiting is.heard c.args.self.now is.at)) (heard_of g.T.Terms.trust g.F.Commands.gives g.F.Commands.may_fail g.T.Terms.sources g.S.Site.tells g.T.Terms.kept (IsSurePool g.B.Terms.fits) g.S.Site.files g.S.Site.may_leave g.S.Site.moment g.S.Site.images_since c.args.desk.now c.args.self.now c.next.new.self (tell.Lose c.in-Ok-Lose.attempt) c.requires.at.at.seat.going c.requires.at.at.seat.opens (subst (λ (x : Told). let r : Result Told Leave = Ok x in c.args.self.now.peer.feed.stop ≡ None → Hears c.args.self.now.peer.feed c.args.self.now.peer.session r c.next.new.self.peer.feed c.next.new.self.peer.session) c.in-Ok-Lose.field-0-is c.in-Ok-Lose.ensures.hears)).so)
+
+pub close-requires-in-Ok-Lose-clause-gone : goal.close-requires-in-Ok-Lose-clause-gone
+close-requires-in-Ok-Lose-clause-gone g c κs within = (heard_of g.T.Terms.trust g.F.Commands.gives g.F.Commands.may_fail g.T.Terms.sources g.S.Site.tells g.T.Terms.kept (IsSurePool g.B.Terms.fits) g.S.Site.files g.S.Site.may_leave g.S.Site.moment g.S.Site.images_since c.args.desk.now c.args.self.now c.next.new.self (tell.Lose c.in-Ok-Lose.attempt) c.requires.at.at.seat.going c.requires.at.at.seat.opens (subst (λ (x : Told). let r : Result Told Leave = Ok x in c.args.self.now.peer.feed.stop ≡ None → Hears c.args.self.now.peer.feed c.args.self.now.peer.session r c.next.new.self.peer.feed c.next.new.self.peer.session) c.in-Ok-Lose.field-0-is c.in-Ok-Lose.ensures.hears)).gone
+
+pub returns-in-Ok-Lose : goal.returns-in-Ok-Lose
+returns-in-Ok-Lose g c = record {
+  keeps = keeps_then g.T.Terms.trust g.F.Commands.gives g.F.Commands.may_fail g.T.Terms.sources g.S.Site.tells g.T.Terms.kept (IsSurePool g.B.Terms.fits) g.S.Site.files g.S.Site.may_leave g.S.Site.moment g.S.Site.images_since c.args.desk.now c.args.desk.now c.close-in-Ok-Lose.new.desk c.args.held.now c.args.held.now c.close-in-Ok-Lose.new.held c.args.self.now c.next.new.self c.close-in-Ok-Lose.new.self (heard_keeps g.T.Terms.trust g.F.Commands.gives g.F.Commands.may_fail g.T.Terms.sources g.S.Site.tells g.T.Terms.kept (IsSurePool g.B.Terms.fits) g.S.Site.files g.S.Site.may_leave g.S.Site.moment g.S.Site.images_since c.args.desk.now c.args.held.now c.args.self.now c.next.new.self (tell.Lose c.in-Ok-Lose.attempt) c.next.ensures.link c.next.ensures.attempts (subst (λ (x : Told). let r : Result Told Leave = Ok x in c.args.self.now.peer.feed.stop ≡ None → Hears c.args.self.now.peer.feed c.args.self.now.peer.session r c.next.new.self.peer.feed c.next.new.self.peer.session) c.in-Ok-Lose.field-0-is c.in-Ok-Lose.ensures.hears)) c.close-in-Ok-Lose.ensures.keeps;
+}
+
+pub returns-in-Ok-Nothing : goal.returns-in-Ok-Nothing
+returns-in-Ok-Nothing g c = record { keeps = heard_keeps g.T.Terms.trust g.F.Commands.gives g.F.Commands.may_fail g.T.Terms.sources g.S.Site.tells g.T.Terms.kept (IsSurePool g.B.Terms.fits) g.S.Site.files g.S.Site.may_leave g.S.Site.moment g.S.Site.images_since c.args.desk.now c.args.held.now c.args.self.now c.next.new.self tell.Nothing c.next.ensures.link c.next.ensures.attempts (subst (λ (x : Told). let r : Result Told Leave = Ok x in c.args.self.now.peer.feed.stop ≡ None → Hears c.args.self.now.peer.feed c.args.self.now.peer.session r c.next.new.self.peer.feed c.next.new.self.peer.session) c.in-Ok-Nothing.field-0-is c.in-Ok-Nothing.ensures.hears) }
+
+pub returns-in-Ok-Stale : goal.returns-in-Ok-Stale
+returns-in-Ok-Stale g c = record { keeps = heard_keeps g.T.Terms.trust g.F.Commands.gives g.F.Commands.may_fail g.T.Terms.sources g.S.Site.tells g.T.Terms.kept (IsSurePool g.B.Terms.fits) g.S.Site.files g.S.Site.may_leave g.S.Site.moment g.S.Site.images_since c.args.desk.now c.args.held.now c.args.self.now c.next.new.self (tell.Stale c.in-Ok-Stale.field-0-0) c.next.ensures.link c.next.ensures.attempts (subst (λ (x : Told). let r : Result Told Leave = Ok x in c.args.self.now.peer.feed.stop ≡ None → Hears c.args.self.now.peer.feed c.args.self.now.peer.session r c.next.new.self.peer.feed c.next.new.self.peer.session) c.in-Ok-Stale.field-0-is c.in-Ok-Stale.ensures.hears) }
+
+pub returns-in-Ok-Joined : goal.returns-in-Ok-Joined
+returns-in-Ok-Joined g c = record { keeps = unheard_leaves g.T.Terms.trust g.F.Commands.gives g.F.Commands.may_fail g.T.Terms.sources g.S.Site.tells g.T.Terms.kept (IsSurePool g.B.Terms.fits) g.S.Site.files g.S.Site.may_leave g.S.Site.moment g.S.Site.images_since c.args.desk.now c.args.held.now c.args.self.now c.next.new.self c.next.ensures.link c.next.ensures.attempts }
+
+pub change-requires-clause-lives : goal.change-requires-clause-lives
+change-requires-clause-lives g c κs within = (at_then g.T.Terms.trust g.F.Commands.gives g.F.Commands.may_fail g.T.Terms.sources g.S.Site.tells g.T.Terms.kept (IsSurePool g.B.Terms.fits) g.S.Site.files g.S.Site.may_leave g.S.Site.moment g.S.Site.images_since c.args.desk.now c.args.desk.now c.args.held.now c.args.held.now c.args.self.now c.next.new.self c.requires.at (heard_keeps g.T.Terms.trust g.F.Commands.gives g.F.Commands.may_fail g.T.Terms.sources g.S.Site.tells g.T.Terms.kept (IsSurePool g.B.Terms.fits) g.S.Site.files g.S.Site.may_leave g.S.Site.moment g.S.Site.images_since c.args.desk.now c.args.held.now c.args.self.now c.next.new.self (tell.Changed c.in-Ok-Changed.total c.in-Ok-Changed.largest c.in-Ok-Changed.cache) c.next.ensures.link c.next.ensures.attempts (subst (λ (x : Told). let r : Result Told Leave = Ok x in c.args.self.now.peer.feed.stop ≡ None → Hears c.args.self.now.peer.feed c.args.self.now.peer.session r c.next.new.self.peer.feed c.next.new.self.peer.session) c.in-Ok-Changed.field-0-is c.in-Ok-Changed.ensures.hears))).at.seat.placed.lives
+
+pub returns-in-Ok-Changed : goal.returns-in-Ok-Changed
+returns-in-Ok-Changed g c = record {
+  keeps = after_then g.T.Terms.trust g.F.Commands.gives g.F.Commands.may_fail g.T.Terms.sources g.S.Site.tells g.T.Terms.kept (IsSurePool g.B.Terms.fits) g.S.Site.files g.S.Site.may_leave g.S.Site.moment g.S.Site.images_since c.args.desk.now c.args.desk.now c.change.new.desk c.args.held.now c.args.held.now c.args.held.now c.args.self.now c.next.new.self c.change.new.self c.change.result (heard_keeps g.T.Terms.trust g.F.Commands.gives g.F.Commands.may_fail g.T.Terms.sources g.S.Site.tells g.T.Terms.kept (IsSurePool g.B.Terms.fits) g.S.Site.files g.S.Site.may_leave g.S.Site.moment g.S.Site.images_since c.args.desk.now c.args.held.now c.args.self.now c.next.new.self (tell.Changed c.in-Ok-Changed.total c.in-Ok-Changed.largest c.in-Ok-Changed.cache) c.next.ensures.link c.next.ensures.attempts (subst (λ (x : Told). let r : Result Told Leave = Ok x in c.args.self.now.peer.feed.stop ≡ None → Hears c.args.self.now.peer.feed c.args.self.now.peer.session r c.next.new.self.peer.feed c.next.new.self.peer.session) c.in-Ok-Changed.field-0-is c.in-Ok-Changed.ensures.hears)) (c.change.ensures.keeps c.args.held.now);
+}
+
+pub returns-in-Ok : goal.returns-in-Ok
+returns-in-Ok g c = record {
+  keeps = keeps_then g.T.Terms.trust g.F.Commands.gives g.F.Commands.may_fail g.T.Terms.sources g.S.Site.tells g.T.Terms.kept (IsSurePool g.B.Terms.fits) g.S.Site.files g.S.Site.may_leave g.S.Site.moment g.S.Site.images_since c.args.desk.now c.args.desk.now c.put_again.new.desk c.args.held.now c.args.held.now c.put_again.new.held c.args.self.now c.next.new.self c.put_again.new.self (heard_keeps g.T.Terms.trust g.F.Commands.gives g.F.Commands.may_fail g.T.Terms.sources g.S.Site.tells g.T.Terms.kept (IsSurePool g.B.Terms.fits) g.S.Site.files g.S.Site.may_leave g.S.Site.moment g.S.Site.images_since c.args.desk.now c.args.held.now c.args.self.now c.next.new.self (tell.PutAgain c.in-Ok-PutAgain.attempt c.in-Ok-PutAgain.files) c.next.ensures.link c.next.ensures.attempts (subst (λ (x : Told). let r : Result Told Leave = Ok x in c.args.self.now.peer.feed.stop ≡ None → Hears c.args.self.now.peer.feed c.args.self.now.peer.session r c.next.new.self.peer.feed c.next.new.self.peer.session) c.in-Ok-PutAgain.field-0-is c.in-Ok-PutAgain.ensures.hears)) c.in-Ok.ensures.keeps;
+}
+
+pub returns-in-Ok-PutAgain : goal.returns-in-Ok-PutAgain
+returns-in-Ok-PutAgain g c = record {
+  keeps = leaves_then g.T.Terms.trust g.F.Commands.gives g.F.Commands.may_fail g.T.Terms.sources g.S.Site.tells g.T.Terms.kept (IsSurePool g.B.Terms.fits) g.S.Site.files g.S.Site.may_leave g.S.Site.moment g.S.Site.images_since c.args.desk.now c.args.desk.now c.put_again.new.desk c.args.held.now c.args.held.now c.put_again.new.held c.args.self.now c.next.new.self c.put_again.new.self (heard_keeps g.T.Terms.trust g.F.Commands.gives g.F.Commands.may_fail g.T.Terms.sources g.S.Site.tells g.T.Terms.kept (IsSurePool g.B.Terms.fits) g.S.Site.files g.S.Site.may_leave g.S.Site.moment g.S.Site.images_since c.args.desk.now c.args.held.now c.args.self.now c.next.new.self (tell.PutAgain c.in-Ok-PutAgain.attempt c.in-Ok-PutAgain.files) c.next.ensures.link c.next.ensures.attempts (subst (λ (x : Told). let r : Result Told Leave = Ok x in c.args.self.now.peer.feed.stop ≡ None → Hears c.args.self.now.peer.feed c.args.self.now.peer.session r c.next.new.self.peer.feed c.next.new.self.peer.session) c.in-Ok-PutAgain.field-0-is c.in-Ok-PutAgain.ensures.hears)) c.in-Err-put_again.ensures.keeps;
+}
+
+pub put_again-requires-clause-at : goal.put_again-requires-clause-at
+put_again-requires-clause-at g c κs within = at_then g.T.Terms.trust g.F.Commands.gives g.F.Commands.may_fail g.T.Terms.sources g.S.Site.tells g.T.Terms.kept (IsSurePool g.B.Terms.fits) g.S.Site.files g.S.Site.may_leave g.S.Site.moment g.S.Site.images_since c.args.desk.now c.args.desk.now c.args.held.now c.args.held.now c.args.self.now c.next.new.self c.requires.at (heard_keeps g.T.Terms.trust g.F.Commands.gives g.F.Commands.may_fail g.T.Terms.sources g.S.Site.tells g.T.Terms.kept (IsSurePool g.B.Terms.fits) g.S.Site.files g.S.Site.may_leave g.S.Site.moment g.S.Site.images_since c.args.desk.now c.args.held.now c.args.self.now c.next.new.self (tell.PutAgain c.in-Ok-PutAgain.attempt c.in-Ok-PutAgain.files) c.next.ensures.link c.next.ensures.attempts (subst (λ (x : Told). let r : Result Told Leave = Ok x in c.args.self.now.peer.feed.stop ≡ None → Hears c.args.self.now.peer.feed c.args.self.now.peer.session r c.next.new.self.peer.feed c.next.new.self.peer.session) c.in-Ok-PutAgain.field-0-is c.in-Ok-PutAgain.ensures.hears))

@@ -1,0 +1,28 @@
+use Rattle.std.proofs.Common.{◌∙◌, ap}
+use Rattle.local_run.specs.Underway.{IsSurePool}
+use Rattle.wq_frames.specs.Streams.{Stream}
+use Rattle.wq_run.proofs.Asks.{keeps_still}
+use Rattle.wq_run.proofs.Shares.{keeps_then, leaves_then}
+use Rattle.wq_run.proofs.Steps.{after_kept, after_then, at_then}
+use Rattle.wq_run.proofs.seat.Seat.provide.Goals as goal
+
+pub put-requires-clause-at : goal.put-requires-clause-at
+put-requires-clause-at g c κs within = at_then g.T.Terms.trust g.F.Commands.gives g.F.Commands.may_fail g.T.Terms.sources g.S.Site.tells g.T.Terms.kept (IsSurePool g.B.Terms.fits) g.S.Site.files g.S.Site.may_leave g.S.Site.moment g.S.Site.images_since c.args.desk.now c.loop-file.desk c.args.held.now c.loop-file.held c.args.self.now c.loop-file.self c.requires.at c.loop-file.invariant.keeps
+
+pub returns-in-Err : goal.returns-in-Err
+returns-in-Err g c = record {
+  keeps = leaves_then g.T.Terms.trust g.F.Commands.gives g.F.Commands.may_fail g.T.Terms.sources g.S.Site.tells g.T.Terms.kept (IsSurePool g.B.Terms.fits) g.S.Site.files g.S.Site.may_leave g.S.Site.moment g.S.Site.images_since c.args.desk.now c.loop-file.desk c.put.new.desk c.args.held.now c.loop-file.held c.put.new.held c.args.self.now c.loop-file.self c.put.new.self c.loop-file.invariant.keeps c.in-Err.ensures.keeps;
+}
+
+pub loop-file-preserved : goal.loop-file-preserved
+loop-file-preserved g c = record {
+  keeps = keeps_then g.T.Terms.trust g.F.Commands.gives g.F.Commands.may_fail g.T.Terms.sources g.S.Site.tells g.T.Terms.kept (IsSurePool g.B.Terms.fits) g.S.Site.files g.S.Site.may_leave g.S.Site.moment g.S.Site.images_since c.args.desk.now c.loop-file.desk c.put.new.desk c.args.held.now c.loop-file.held c.put.new.held c.args.self.now c.loop-file.self c.put.new.self c.loop-file.invariant.keeps c.in-Ok.ensures.keeps;
+}
+
+pub returns : goal.returns
+returns g c = record {
+  keeps = after_then g.T.Terms.trust g.F.Commands.gives g.F.Commands.may_fail g.T.Terms.sources g.S.Site.tells g.T.Terms.kept (IsSurePool g.B.Terms.fits) g.S.Site.files g.S.Site.may_leave g.S.Site.moment g.S.Site.images_since c.args.desk.now c.loop-file.desk c.loop-file.desk c.args.held.now c.loop-file.held c.loop-file.held c.args.self.now c.loop-file.self c.ask.new.self c.ask.result c.loop-file.invariant.keeps
+      (after_kept g.T.Terms.trust g.F.Commands.gives g.F.Commands.may_fail g.T.Terms.sources g.S.Site.tells g.T.Terms.kept (IsSurePool g.B.Terms.fits) g.S.Site.files g.S.Site.may_leave g.S.Site.moment g.S.Site.images_since c.loop-file.desk c.loop-file.desk c.loop-file.held c.loop-file.held c.loop-file.self c.ask.new.self c.ask.result
+      (keeps_still g.T.Terms.trust g.F.Commands.gives g.F.Commands.may_fail g.T.Terms.sources g.S.Site.tells g.T.Terms.kept (IsSurePool g.B.Terms.fits) g.S.Site.files g.S.Site.may_leave g.S.Site.moment g.S.Site.images_since c.loop-file.desk c.loop-file.desk c.loop-file.held c.loop-file.held c.loop-file.self c.ask.new.self c.ask.ensures.link c.ask.ensures.attempts c.ask.ensures.session (λ was. ap (λ (x : Stream). x.stop) c.ask.ensures.feed ∙ was) (λ away first waiting heard u. u)
+      (at_then g.T.Terms.trust g.F.Commands.gives g.F.Commands.may_fail g.T.Terms.sources g.S.Site.tells g.T.Terms.kept (IsSurePool g.B.Terms.fits) g.S.Site.files g.S.Site.may_leave g.S.Site.moment g.S.Site.images_since c.args.desk.now c.loop-file.desk c.args.held.now c.loop-file.held c.args.self.now c.loop-file.self c.requires.at c.loop-file.invariant.keeps)));
+}

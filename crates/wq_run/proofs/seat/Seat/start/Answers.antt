@@ -1,0 +1,44 @@
+use Rattle.std.proofs.Common.{◌≡◌, ◌∙◌, false, ap, refl, subst, sym}
+use Rattle.flow_types.specs.declared.numbers.AttemptNo.{AttemptNo}
+use Rattle.run_history.specs.Links.{records_of}
+use Rattle.link_session.specs.Sessions.{is_open}
+use Rattle.local_run.specs.Underway.{HeldState, IsSurePool}
+use Rattle.wq_frames.specs.Streams.{Stream}
+use Rattle.wq_run.proofs.Asks.{GoesBy, keeps_still, open_keeps, stops_want, suits_of}
+use Rattle.wq_run.proofs.Closes.{inside, placed}
+use Rattle.wq_run.proofs.Steps.{after_then, at_then}
+use Rattle.wq_run.proofs.seat.Seat.start.Goals as goal
+
+pub task-requires-clause-inside : goal.task-requires-clause-inside
+task-requires-clause-inside g c κs within =
+    let is = c.requires.at in
+    inside g.T.Terms.trust g.F.Commands.gives g.F.Commands.may_fail g.T.Terms.sources g.S.Site.tells g.T.Terms.kept (IsSurePool g.B.Terms.fits) g.S.Site.files g.S.Site.may_leave g.S.Site.moment g.S.Site.images_since is.front is.back is.first c.args.desk.now c.args.held.now is.waiting is.heard c.args.self.now (placed g.T.Terms.trust g.F.Commands.gives g.F.Commands.may_fail g.T.Terms.sources g.S.Site.tells g.T.Terms.kept (IsSurePool g.B.Terms.fits) g.S.Site.files g.S.Site.may_leave g.S.Site.moment g.S.Site.images_since is.front is.back is.first c.args.desk.now c.args.held.now is.waiting is.heard c.args.self.now is.at)
+
+pub open-requires-clause-fresh : goal.open-requires-clause-fresh
+open-requires-clause-fresh g c κs within =
+    let of = c.in-Some.ensures.of in
+    subst (λ (n : AttemptNo). is_open n c.args.self.now.peer.session.attempts ≡ false) (sym ((suits_of c.args.desk.now.plan (records_of c.args.desk.now.moves) of.1 c.in-Some.task of.5).1 ∙ of.4)) c.requires.fresh
+
+pub provide-requires-clause-at : goal.provide-requires-clause-at
+provide-requires-clause-at g c κs within =
+    let of = c.in-Some.ensures.of in
+    at_then g.T.Terms.trust g.F.Commands.gives g.F.Commands.may_fail g.T.Terms.sources g.S.Site.tells g.T.Terms.kept (IsSurePool g.B.Terms.fits) g.S.Site.files g.S.Site.may_leave g.S.Site.moment g.S.Site.images_since c.args.desk.now c.args.desk.now c.args.held.now c.args.held.now c.args.self.now c.open.new.self c.requires.at (open_keeps g.T.Terms.trust g.F.Commands.gives g.F.Commands.may_fail g.T.Terms.sources g.S.Site.tells g.T.Terms.kept (IsSurePool g.B.Terms.fits) g.S.Site.files g.S.Site.may_leave g.S.Site.moment g.S.Site.images_since c.args.desk.now c.args.held.now c.args.self.now c.open.new.self c.args.number of.0 of.1 of.2 c.in-Some.task of.3 of.4 of.5 c.open.ensures.link c.open.ensures.attempts (c.in-Ok.ensures.ok) c.open.ensures.feed)
+
+pub returns-in-Ok : goal.returns-in-Ok
+returns-in-Ok g c =
+    let of = c.in-Some.ensures.of in
+    record {
+      keeps = after_then g.T.Terms.trust g.F.Commands.gives g.F.Commands.may_fail g.T.Terms.sources g.S.Site.tells g.T.Terms.kept (IsSurePool g.B.Terms.fits) g.S.Site.files g.S.Site.may_leave g.S.Site.moment g.S.Site.images_since c.args.desk.now c.args.desk.now c.provide.new.desk c.args.held.now c.args.held.now c.provide.new.held c.args.self.now c.open.new.self c.provide.new.self c.provide.result (open_keeps g.T.Terms.trust g.F.Commands.gives g.F.Commands.may_fail g.T.Terms.sources g.S.Site.tells g.T.Terms.kept (IsSurePool g.B.Terms.fits) g.S.Site.files g.S.Site.may_leave g.S.Site.moment g.S.Site.images_since c.args.desk.now c.args.held.now c.args.self.now c.open.new.self c.args.number of.0 of.1 of.2 c.in-Some.task of.3 of.4 of.5 c.open.ensures.link c.open.ensures.attempts (c.in-Ok.ensures.ok) c.open.ensures.feed) c.provide.ensures.keeps;
+    }
+
+pub returns-in-Err : goal.returns-in-Err
+returns-in-Err g c = record {
+  keeps = keeps_still g.T.Terms.trust g.F.Commands.gives g.F.Commands.may_fail g.T.Terms.sources g.S.Site.tells g.T.Terms.kept (IsSurePool g.B.Terms.fits) g.S.Site.files g.S.Site.may_leave g.S.Site.moment g.S.Site.images_since c.args.desk.now c.args.desk.now c.args.held.now c.stop-in-Err.new.self c.args.self.now c.open.new.self c.open.ensures.link c.open.ensures.attempts c.in-Err.ensures.err (λ was. ap (λ (x : Stream). x.stop) c.open.ensures.feed ∙ was)
+      (subst (GoesBy g.T.Terms.trust g.F.Commands.gives g.F.Commands.may_fail g.T.Terms.sources g.S.Site.tells g.T.Terms.kept (IsSurePool g.B.Terms.fits) g.S.Site.files g.S.Site.may_leave g.S.Site.moment g.S.Site.images_since c.args.desk.now c.args.desk.now c.args.held.now) (sym c.stop-in-Err.ensures) (stops_want g.T.Terms.trust g.F.Commands.gives g.F.Commands.may_fail g.T.Terms.sources g.S.Site.tells g.T.Terms.kept (IsSurePool g.B.Terms.fits) g.S.Site.files g.S.Site.may_leave g.S.Site.moment g.S.Site.images_since c.args.desk.now c.args.held.now)) c.requires.at;
+}
+
+pub returns-in_default : goal.returns-in_default
+returns-in_default g c = record {
+  keeps = keeps_still g.T.Terms.trust g.F.Commands.gives g.F.Commands.may_fail g.T.Terms.sources g.S.Site.tells g.T.Terms.kept (IsSurePool g.B.Terms.fits) g.S.Site.files g.S.Site.may_leave g.S.Site.moment g.S.Site.images_since c.args.desk.now c.args.desk.now c.args.held.now c.stop.new.self c.args.self.now c.args.self.now refl refl refl (λ was. was)
+      (subst (GoesBy g.T.Terms.trust g.F.Commands.gives g.F.Commands.may_fail g.T.Terms.sources g.S.Site.tells g.T.Terms.kept (IsSurePool g.B.Terms.fits) g.S.Site.files g.S.Site.may_leave g.S.Site.moment g.S.Site.images_since c.args.desk.now c.args.desk.now c.args.held.now) (sym c.stop.ensures) (stops_want g.T.Terms.trust g.F.Commands.gives g.F.Commands.may_fail g.T.Terms.sources g.S.Site.tells g.T.Terms.kept (IsSurePool g.B.Terms.fits) g.S.Site.files g.S.Site.may_leave g.S.Site.moment g.S.Site.images_since c.args.desk.now c.args.held.now)) c.requires.at;
+}

@@ -1,0 +1,81 @@
+use Rattle.std.proofs.Common.{◌≡◌, ◌≤◌, ◌+◌, ◌∙◌, [], None, arith, ap, refl, rules, subst, sym}
+use Rattle.flow_types.specs.Plans.{IsValid}
+use Rattle.local_run.specs.Underway.{IsSurePool}
+use Rattle.local_run.specs.Underway.{HeldState}
+use Rattle.local_run.proofs.StandsBegun.{Under, wants_on}
+use Rattle.wq_run.proofs.Services.{begins_manned, came_finished, finished_by, met_none, met_then, on_less, on_want}
+use Rattle.wq_run.proofs.Shares.{manned_on}
+use Rattle.wq_run.proofs.serving.serve.Goals as goal
+
+pub loop-init : goal.loop-init
+loop-init g c = record { served = λ first m. m; line = refl; listens = c.requires.listens; met = met_none }
+
+pub returns-in_default-clause-served : goal.returns-in_default-clause-served
+returns-in_default-clause-served g c first m =
+    let n = c.loop.invariant.served first m in
+    manned_on g.T.Terms.trust g.F.Commands.gives g.F.Commands.may_fail g.T.Terms.sources g.S.Site.tells g.T.Terms.kept (IsSurePool g.B.Terms.fits) g.S.Site.files g.S.Site.may_leave g.S.Site.moment g.S.Site.images_since first c.loop.desk c.loop.desk c.loop.held c.stop.new.self c.loop.pool.waiting c.loop.pool.waiting c.loop.pool.heard c.loop.pool.heard c.loop.company.seats n
+    (subst (λ (h : HeldState). Under g.T.Terms.trust g.F.Commands.gives g.F.Commands.may_fail g.T.Terms.sources g.S.Site.tells g.T.Terms.kept (IsSurePool g.B.Terms.fits) g.S.Site.files g.S.Site.may_leave g.S.Site.moment g.S.Site.images_since n.away first c.loop.desk h.attempts c.loop.pool.waiting None c.loop.pool.heard h.halt) (sym c.stop.ensures)
+    (wants_on g.T.Terms.trust g.F.Commands.gives g.F.Commands.may_fail g.T.Terms.sources g.S.Site.tells g.T.Terms.kept (IsSurePool g.B.Terms.fits) g.S.Site.files g.S.Site.may_leave g.S.Site.moment g.S.Site.images_since n.away first c.loop.desk c.loop.held.attempts c.loop.pool.waiting None c.loop.pool.heard c.loop.held.halt n.under))
+
+pub wind_down-requires-clause-valid : goal.wind_down-requires-clause-valid
+wind_down-requires-clause-valid g c κs within =
+    let m = c.requires.served.manned in
+    let n = c.loop.invariant.served c.requires.served.first m in
+    subst IsValid (sym (n.under.goes.plan ∙ sym m.under.goes.plan)) c.requires.valid
+
+pub wind_down-requires-clause-served : goal.wind_down-requires-clause-served
+wind_down-requires-clause-served g c κs within =
+    let m = c.requires.served.manned in
+    let n = c.loop.invariant.served c.requires.served.first m in
+    record { first = c.requires.served.first; manned = n }
+
+pub turn-requires-clause-valid : goal.turn-requires-clause-valid
+turn-requires-clause-valid g c κs within =
+    let m = c.requires.served.manned in
+    let n = c.loop.invariant.served c.requires.served.first m in
+    subst IsValid (sym (n.under.goes.plan ∙ sym m.under.goes.plan)) c.requires.valid
+
+pub turn-requires-clause-served : goal.turn-requires-clause-served
+turn-requires-clause-served g c κs within =
+    let m = c.requires.served.manned in
+    let n = c.loop.invariant.served c.requires.served.first m in
+    record { first = c.requires.served.first; manned = n }
+
+pub loop-preserved-then-turn : goal.loop-preserved-then-turn
+loop-preserved-then-turn g c = record {
+  served = λ first m. c.turn.ensures.served first (c.loop.invariant.served first m);
+  line = c.turn.ensures.line ∙ c.loop.invariant.line;
+  listens = c.turn.ensures.listens;
+  met = met_then c.loop.invariant.met c.turn.ensures.met;
+}
+
+pub loop-preserved-then-not-is_going : goal.loop-preserved-then-not-is_going
+loop-preserved-then-not-is_going g c = record {
+  served = λ first m. c.wind_down.ensures.served first (c.loop.invariant.served first m);
+  line = c.wind_down.ensures.line ∙ c.loop.invariant.line;
+  listens = c.wind_down.ensures.listens;
+  met = met_then c.loop.invariant.met c.wind_down.ensures.met;
+}
+
+pub returns-then-wind_down : goal.returns-then-wind_down
+returns-then-wind_down g c = record {
+  served = λ first m. c.wind_down.ensures.served first (c.loop.invariant.served first m);
+  line = c.wind_down.ensures.line ∙ c.loop.invariant.line;
+  listens = c.wind_down.ensures.listens;
+  met = met_then c.loop.invariant.met c.wind_down.ensures.met;
+  heard = λ unwanting. c.wind_down.ensures.over (search rules);
+}
+
+pub loop-preserved : goal.loop-preserved
+loop-preserved g c = record {
+  served = λ first m. c.turn.ensures.served first (c.loop.invariant.served first m);
+  line = c.turn.ensures.line ∙ c.loop.invariant.line;
+  listens = c.turn.ensures.listens;
+  met = met_then c.loop.invariant.met c.turn.ensures.met;
+}
+
+pub returns-then-is_idle-clause-served : goal.returns-then-is_idle-clause-served
+returns-then-is_idle-clause-served g c first m = c.turn.ensures.served first (c.loop.invariant.served first m)
+
+pub returns-then-is_idle-clause-met : goal.returns-then-is_idle-clause-met
+returns-then-is_idle-clause-met g c = met_then c.loop.invariant.met c.turn.ensures.met

@@ -1,0 +1,51 @@
+use Rattle.std.proofs.Common.{◌≡◌, ◌≤◌, ◌+◌, ◌∙◌, [], None, arith, ap, refl, rules, subst, sym}
+use Rattle.flow_types.specs.Plans.{IsValid}
+use Rattle.local_run.specs.Underway.{IsSurePool}
+use Rattle.wq_run.proofs.Services.{begins_manned, came_finished, finished_by, met_none, met_then, on_less, on_want, met_same, manned_same}
+use Rattle.wq_run.proofs.Shares.{manned_on}
+use Rattle.wq_run.proofs.serving.start_more.Goals as goal
+
+pub go_on-requires-clause-base : goal.go_on-requires-clause-base
+go_on-requires-clause-base g c κs within trusted = absurd (c.requires.apart trusted)
+
+pub go_on-requires-clause-underway : goal.go_on-requires-clause-underway
+go_on-requires-clause-underway g c κs within = (c.requires.served.manned.away, c.requires.served.first, c.requires.served.manned.under)
+
+pub ask_all-requires-clause-valid : goal.ask_all-requires-clause-valid
+ask_all-requires-clause-valid g c κs within =
+    let m = c.requires.served.manned in
+    let n = manned_on g.T.Terms.trust g.F.Commands.gives g.F.Commands.may_fail g.T.Terms.sources g.S.Site.tells g.T.Terms.kept (IsSurePool g.B.Terms.fits) g.S.Site.files g.S.Site.may_leave g.S.Site.moment g.S.Site.images_since c.requires.served.first c.args.desk.now c.go_on.new.desk c.args.held.now c.go_on.new.held c.args.pool.now.waiting c.go_on.new.pool.waiting c.args.pool.now.heard c.go_on.new.pool.heard c.args.company.now.seats m (c.go_on.ensures.underway m.away c.requires.served.first m.under) in
+    subst IsValid (sym (n.under.goes.plan ∙ sym m.under.goes.plan)) c.requires.valid
+
+pub ask_all-requires-clause-manned : goal.ask_all-requires-clause-manned
+ask_all-requires-clause-manned g c κs within =
+    let m = c.requires.served.manned in
+    let n = manned_on g.T.Terms.trust g.F.Commands.gives g.F.Commands.may_fail g.T.Terms.sources g.S.Site.tells g.T.Terms.kept (IsSurePool g.B.Terms.fits) g.S.Site.files g.S.Site.may_leave g.S.Site.moment g.S.Site.images_since c.requires.served.first c.args.desk.now c.go_on.new.desk c.args.held.now c.go_on.new.held c.args.pool.now.waiting c.go_on.new.pool.waiting c.args.pool.now.heard c.go_on.new.pool.heard c.args.company.now.seats m (c.go_on.ensures.underway m.away c.requires.served.first m.under) in
+    record { first = c.requires.served.first; waiting = c.go_on.new.pool.waiting; heard = c.go_on.new.pool.heard; manned = n }
+
+pub returns-then-not-has_news : goal.returns-then-not-has_news
+returns-then-not-has_news g c = record { served = λ first m. m; line = refl; listens = c.requires.listens; met = met_none }
+
+pub returns-then-go_on : goal.returns-then-go_on
+returns-then-go_on g c = record {
+  served = λ first m. manned_on g.T.Terms.trust g.F.Commands.gives g.F.Commands.may_fail g.T.Terms.sources g.S.Site.tells g.T.Terms.kept (IsSurePool g.B.Terms.fits) g.S.Site.files g.S.Site.may_leave g.S.Site.moment g.S.Site.images_since first c.args.desk.now c.go_on.new.desk c.args.held.now c.go_on.new.held c.args.pool.now.waiting c.go_on.new.pool.waiting c.args.pool.now.heard c.go_on.new.pool.heard c.args.company.now.seats m (c.go_on.ensures.underway m.away first m.under);
+  line = c.go_on.ensures.line;
+  listens = c.requires.listens;
+  met = met_none;
+}
+
+pub returns-then-ask_all : goal.returns-then-ask_all
+returns-then-ask_all g c = record {
+  served = λ first m. c.ask_all.ensures.manned first c.go_on.new.pool.waiting c.go_on.new.pool.heard (manned_on g.T.Terms.trust g.F.Commands.gives g.F.Commands.may_fail g.T.Terms.sources g.S.Site.tells g.T.Terms.kept (IsSurePool g.B.Terms.fits) g.S.Site.files g.S.Site.may_leave g.S.Site.moment g.S.Site.images_since first c.args.desk.now c.go_on.new.desk c.args.held.now c.go_on.new.held c.args.pool.now.waiting c.go_on.new.pool.waiting c.args.pool.now.heard c.go_on.new.pool.heard c.args.company.now.seats m (c.go_on.ensures.underway m.away first m.under));
+  line = c.go_on.ensures.line;
+  listens = c.ask_all.ensures.listens c.requires.listens;
+  met = c.ask_all.ensures.met;
+}
+
+pub returns : goal.returns
+returns g c = record {
+  served = λ first m. manned_same g.T.Terms.trust g.F.Commands.gives g.F.Commands.may_fail g.T.Terms.sources g.S.Site.tells g.T.Terms.kept (IsSurePool g.B.Terms.fits) g.S.Site.files g.S.Site.may_leave g.S.Site.moment g.S.Site.images_since first c.ask_all.new.desk c.ask_all.new.held c.go_on.new.pool.waiting c.go_on.new.pool.heard c.ask_all.new.company c.rest_at.new.self c.rest_at.ensures (c.ask_all.ensures.manned first c.go_on.new.pool.waiting c.go_on.new.pool.heard (manned_on g.T.Terms.trust g.F.Commands.gives g.F.Commands.may_fail g.T.Terms.sources g.S.Site.tells g.T.Terms.kept (IsSurePool g.B.Terms.fits) g.S.Site.files g.S.Site.may_leave g.S.Site.moment g.S.Site.images_since first c.args.desk.now c.go_on.new.desk c.args.held.now c.go_on.new.held c.args.pool.now.waiting c.go_on.new.pool.waiting c.args.pool.now.heard c.go_on.new.pool.heard c.args.company.now.seats m (c.go_on.ensures.underway m.away first m.under)));
+  line = c.go_on.ensures.line;
+  listens = c.ask_all.ensures.listens c.requires.listens;
+  met = met_same c.ask_all.new.company c.rest_at.new.self c.rest_at.ensures c.ask_all.ensures.met;
+}

@@ -1,0 +1,54 @@
+use Rattle.std.proofs.Common.{◌≡◌, ◌≤◌, ◌+◌, ◌∙◌, [], None, arith, ap, refl, rules, subst, sym}
+use Rattle.flow_types.specs.Plans.{IsValid}
+use Rattle.local_run.specs.Underway.{IsSurePool}
+use Rattle.wq_run.proofs.Services.{begins_manned, came_finished, finished_by, met_none, met_then, on_less, on_want}
+use Rattle.wq_run.proofs.Shares.{manned_on}
+use Rattle.wq_run.proofs.serving.turn.Goals as goal
+
+pub hear-requires-clause-valid : goal.hear-requires-clause-valid
+hear-requires-clause-valid g c κs within =
+    let m = c.requires.served.manned in
+    let n = c.start_more.ensures.served c.requires.served.first m in
+    subst IsValid (sym (n.under.goes.plan ∙ sym m.under.goes.plan)) c.requires.valid
+
+pub hear-requires-clause-told : goal.hear-requires-clause-told
+hear-requires-clause-told g c κs within trusted = absurd (c.requires.apart trusted)
+
+pub hear-requires-clause-underway : goal.hear-requires-clause-underway
+hear-requires-clause-underway g c κs within =
+    let m = c.requires.served.manned in
+    let n = c.start_more.ensures.served c.requires.served.first m in
+    (n.away, c.requires.served.first, n.under)
+
+pub round-requires-clause-valid : goal.round-requires-clause-valid
+round-requires-clause-valid g c κs within =
+    let m = c.requires.served.manned in
+    let s = c.start_more.ensures.served c.requires.served.first m in
+    let n = manned_on g.T.Terms.trust g.F.Commands.gives g.F.Commands.may_fail g.T.Terms.sources g.S.Site.tells g.T.Terms.kept (IsSurePool g.B.Terms.fits) g.S.Site.files g.S.Site.may_leave g.S.Site.moment g.S.Site.images_since c.requires.served.first c.start_more.new.desk c.hear.new.desk c.start_more.new.held c.hear.new.held c.start_more.new.pool.waiting c.hear.new.pool.waiting c.start_more.new.pool.heard c.hear.new.pool.heard c.start_more.new.company.seats s (c.hear.ensures.underway s.away c.requires.served.first s.under) in
+    subst IsValid (sym (n.under.goes.plan ∙ sym m.under.goes.plan)) c.requires.valid
+
+pub round-requires-clause-manned : goal.round-requires-clause-manned
+round-requires-clause-manned g c κs within =
+    let m = c.requires.served.manned in
+    let s = c.start_more.ensures.served c.requires.served.first m in
+    let n = manned_on g.T.Terms.trust g.F.Commands.gives g.F.Commands.may_fail g.T.Terms.sources g.S.Site.tells g.T.Terms.kept (IsSurePool g.B.Terms.fits) g.S.Site.files g.S.Site.may_leave g.S.Site.moment g.S.Site.images_since c.requires.served.first c.start_more.new.desk c.hear.new.desk c.start_more.new.held c.hear.new.held c.start_more.new.pool.waiting c.hear.new.pool.waiting c.start_more.new.pool.heard c.hear.new.pool.heard c.start_more.new.company.seats s (c.hear.ensures.underway s.away c.requires.served.first s.under) in
+    record { first = c.requires.served.first; waiting = c.hear.new.pool.waiting; heard = c.hear.new.pool.heard; manned = n }
+
+pub returns-then-start_more : goal.returns-then-start_more
+returns-then-start_more g c = record { served = c.start_more.ensures.served; line = c.start_more.ensures.line; listens = c.start_more.ensures.listens; met = c.start_more.ensures.met }
+
+pub returns-then-hear : goal.returns-then-hear
+returns-then-hear g c = record {
+  served = λ first m. (let s = c.start_more.ensures.served first m in manned_on g.T.Terms.trust g.F.Commands.gives g.F.Commands.may_fail g.T.Terms.sources g.S.Site.tells g.T.Terms.kept (IsSurePool g.B.Terms.fits) g.S.Site.files g.S.Site.may_leave g.S.Site.moment g.S.Site.images_since first c.start_more.new.desk c.hear.new.desk c.start_more.new.held c.hear.new.held c.start_more.new.pool.waiting c.hear.new.pool.waiting c.start_more.new.pool.heard c.hear.new.pool.heard c.start_more.new.company.seats s (c.hear.ensures.underway s.away first s.under));
+  line = c.hear.ensures.line ∙ c.start_more.ensures.line;
+  listens = c.start_more.ensures.listens;
+  met = c.start_more.ensures.met;
+}
+
+pub returns : goal.returns
+returns g c = record {
+  served = λ first m. c.round.ensures.manned first c.hear.new.pool.waiting c.hear.new.pool.heard (let s = c.start_more.ensures.served first m in manned_on g.T.Terms.trust g.F.Commands.gives g.F.Commands.may_fail g.T.Terms.sources g.S.Site.tells g.T.Terms.kept (IsSurePool g.B.Terms.fits) g.S.Site.files g.S.Site.may_leave g.S.Site.moment g.S.Site.images_since first c.start_more.new.desk c.hear.new.desk c.start_more.new.held c.hear.new.held c.start_more.new.pool.waiting c.hear.new.pool.waiting c.start_more.new.pool.heard c.hear.new.pool.heard c.start_more.new.company.seats s (c.hear.ensures.underway s.away first s.under));
+  line = c.hear.ensures.line ∙ c.start_more.ensures.line;
+  listens = c.round.ensures.listens;
+  met = met_then c.start_more.ensures.met c.round.ensures.met;
+}

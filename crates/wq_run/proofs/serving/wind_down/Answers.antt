@@ -1,0 +1,45 @@
+use Rattle.std.proofs.Common.{◌≡◌, ◌≤◌, ◌+◌, ◌∙◌, [], None, arith, ap, refl, rules, subst, sym, true≢false}
+use Rattle.flow_types.specs.Plans.{IsValid}
+use Rattle.local_run.specs.Underway.{IsSurePool}
+use Rattle.wq_run.proofs.Services.{begins_manned, came_finished, finished_by, met_none, met_then, on_less, on_want}
+use Rattle.wq_run.proofs.Shares.{manned_on}
+use Rattle.wq_run.proofs.serving.wind_down.Goals as goal
+
+pub dismiss-requires-clause-manned : goal.dismiss-requires-clause-manned
+dismiss-requires-clause-manned g c κs within = record { first = c.requires.served.first; waiting = c.args.pool.now.waiting; heard = c.args.pool.now.heard; manned = c.requires.served.manned }
+
+pub hear-requires-clause-valid : goal.hear-requires-clause-valid
+hear-requires-clause-valid g c κs within =
+    let m = c.requires.served.manned in
+    let n = c.dismiss.ensures.manned c.requires.served.first c.args.pool.now.waiting c.args.pool.now.heard m in
+    subst IsValid (sym (n.under.goes.plan ∙ sym m.under.goes.plan)) c.requires.valid
+
+pub hear-requires-clause-told : goal.hear-requires-clause-told
+hear-requires-clause-told g c κs within trusted = absurd (c.requires.apart trusted)
+
+pub hear-requires-clause-underway : goal.hear-requires-clause-underway
+hear-requires-clause-underway g c κs within =
+    let m = c.requires.served.manned in
+    let n = c.dismiss.ensures.manned c.requires.served.first c.args.pool.now.waiting c.args.pool.now.heard m in
+    (n.away, c.requires.served.first, n.under)
+
+pub returns-then-out-eq0-clause-served : goal.returns-then-out-eq0-clause-served
+returns-then-out-eq0-clause-served g c first m = c.dismiss.ensures.manned first c.args.pool.now.waiting c.args.pool.now.heard m
+
+pub returns-then-not-hear : goal.returns-then-not-hear
+returns-then-not-hear g c = record {
+  served = λ first m. (let s = c.dismiss.ensures.manned first c.args.pool.now.waiting c.args.pool.now.heard m in manned_on g.T.Terms.trust g.F.Commands.gives g.F.Commands.may_fail g.T.Terms.sources g.S.Site.tells g.T.Terms.kept (IsSurePool g.B.Terms.fits) g.S.Site.files g.S.Site.may_leave g.S.Site.moment g.S.Site.images_since first c.dismiss.new.desk c.hear.new.desk c.dismiss.new.held c.hear.new.held c.args.pool.now.waiting c.hear.new.pool.waiting c.args.pool.now.heard c.hear.new.pool.heard c.dismiss.new.company.seats s (c.hear.ensures.underway s.away first s.under));
+  line = c.hear.ensures.line;
+  listens = c.dismiss.ensures.listens c.requires.listens;
+  met = c.dismiss.ensures.met;
+  over = λ is. absurd (true≢false (sym is));
+}
+
+pub returns-else-not-hear : goal.returns-else-not-hear
+returns-else-not-hear g c = record {
+  served = λ first m. (let s = c.dismiss.ensures.manned first c.args.pool.now.waiting c.args.pool.now.heard m in manned_on g.T.Terms.trust g.F.Commands.gives g.F.Commands.may_fail g.T.Terms.sources g.S.Site.tells g.T.Terms.kept (IsSurePool g.B.Terms.fits) g.S.Site.files g.S.Site.may_leave g.S.Site.moment g.S.Site.images_since first c.dismiss.new.desk c.hear.new.desk c.dismiss.new.held c.hear.new.held c.args.pool.now.waiting c.hear.new.pool.waiting c.args.pool.now.heard c.hear.new.pool.heard c.dismiss.new.company.seats s (c.hear.ensures.underway s.away first s.under));
+  line = c.hear.ensures.line;
+  listens = c.dismiss.ensures.listens c.requires.listens;
+  met = c.dismiss.ensures.met;
+  over = λ is. absurd (true≢false (sym is));
+}

@@ -1,0 +1,41 @@
+use Rattle.std.proofs.Common.{◌≡◌, ◌≤◌, ◌+◌, ◌∙◌, [], None, arith, ap, refl, rules, subst, sym}
+use Rattle.flow_types.specs.Plans.{IsValid}
+use Rattle.local_run.specs.Underway.{IsSurePool}
+use Rattle.wq_run.proofs.Services.{begins_manned, came_finished, finished_by, met_none, met_then, on_less, on_want}
+use Rattle.wq_run.proofs.waiting.look.Goals as goal
+
+pub loop-init : goal.loop-init
+loop-init g c = record { manned = λ first waiting heard m. m; listens = c.requires.listens; met = met_none }
+
+pub round-requires-clause-valid : goal.round-requires-clause-valid
+round-requires-clause-valid g c κs within =
+    let m = c.requires.manned.manned in
+    let n = c.loop.invariant.manned c.requires.manned.first c.requires.manned.waiting c.requires.manned.heard m in
+    subst IsValid (sym (n.under.goes.plan ∙ sym m.under.goes.plan)) c.requires.valid
+
+pub round-requires-clause-manned : goal.round-requires-clause-manned
+round-requires-clause-manned g c κs within =
+    let m = c.requires.manned.manned in
+    let n = c.loop.invariant.manned c.requires.manned.first c.requires.manned.waiting c.requires.manned.heard m in
+    record { first = c.requires.manned.first; waiting = c.requires.manned.waiting; heard = c.requires.manned.heard; manned = n }
+
+pub loop-preserved : goal.loop-preserved
+loop-preserved g c = record {
+  manned = λ first waiting heard m. c.round.ensures.manned first waiting heard (c.loop.invariant.manned first waiting heard m);
+  listens = c.round.ensures.listens;
+  met = met_then c.loop.invariant.met c.round.ensures.met;
+}
+
+pub returns-then-not-is_going : goal.returns-then-not-is_going
+returns-then-not-is_going g c = record {
+  manned = λ first waiting heard m. c.round.ensures.manned first waiting heard (c.loop.invariant.manned first waiting heard m);
+  listens = c.round.ensures.listens;
+  met = met_then c.loop.invariant.met c.round.ensures.met;
+}
+
+pub returns-then-saturating_sub-from : goal.returns-then-saturating_sub-from
+returns-then-saturating_sub-from g c = record {
+  manned = λ first waiting heard m. c.round.ensures.manned first waiting heard (c.loop.invariant.manned first waiting heard m);
+  listens = c.round.ensures.listens;
+  met = met_then c.loop.invariant.met c.round.ensures.met;
+}

@@ -1,0 +1,65 @@
+-- How a run with workers ends.
+use Rattle.std.specs.Prelude.{◌≡◌, ◌≤◌, ◌<◌, ◌+◌, ℕ, true, List, ◌++◌, length, Option, Some, None, Result, Ok, Err, All}
+use Rattle.flow_types.specs.declared.numbers.LinkNo.{LinkNo}
+use Rattle.flow_types.specs.declared.plan.Plan.{Plan}
+use Rattle.flow_types.specs.declared.records.Record.{Record}
+use Rattle.run_history.specs.declared.answers.Check.{Check}
+use Rattle.run_history.specs.declared.answers.Check.TheVariants as checks
+use Rattle.run_history.specs.declared.answers.Stop.{Stop}
+use Rattle.run_history.specs.declared.answers.Stop.TheVariants as stops
+use Rattle.run_history.specs.declared.moves.Move.{Move}
+use Rattle.run_history.specs.declared.options.Options.{Options}
+use Rattle.run_history.specs.Answers.{before_end, end_over, is_in_vain}
+use Rattle.run_history.specs.Links.{records_of}
+use Rattle.desk.specs.declared.answers.Trouble.{Trouble}
+use Rattle.desk.specs.State.{IsFine}
+use Rattle.local_run.specs.declared.ended.Stopped.{Stopped}
+use Rattle.local_run.specs.declared.ended.Stopped.TheVariants as stopped
+use Rattle.local_run.specs.declared.halt.Halt.TheVariants as halts
+use Rattle.local_run.specs.Course.{IsHalt}
+use Rattle.local_run.specs.Losses.{LosesAway}
+
+-- Why a run that was started stopped, where it did, by what the desk and the counts of the faults of its runners and of its hall are then.
+abbrev pub StopsBy : Trouble → ℕ → ℕ → ℕ → ℕ → Result Check Stopped → Type 0
+StopsBy after before now hall_before hall_now (Ok check) = IsFine after
+StopsBy after before now hall_before hall_now (Err (stopped.Refused why)) = ⊥
+StopsBy after before now hall_before hall_now (Err (stopped.Halted halt)) = IsHalt after before now halt
+StopsBy after before now hall_before hall_now (Err stopped.Hall) = IsFine after × (hall_before < hall_now)
+
+-- It doesn't stop by the failure of a runner.
+abbrev pub IsSparedRunners : Result Check Stopped → Type 0
+IsSparedRunners (Err (stopped.Halted halts.Runner)) = ⊥
+IsSparedRunners how = Unit {0}
+
+-- More records stand behind these, and each of those that gives an attempt up gives up one that was started on a link.
+pub record LosesOnLinks (H all : List Record) : Type 0 where
+  pub more : List Record
+  pub are : all ≡ H ++ more
+  pub each : All (LosesAway all) more
+
+-- The stop is none; or it is for waiting in vain, by these moves, after so many looks for which nobody came: at least as many as the limit, and at most as many as this run made.
+abbrev pub IsVain : Plan → Options → List Move → ℕ → ℕ → Option Stop → Type 0
+IsVain P O M limit rise None = Unit {0}
+IsVain P O M limit rise (Some (stops.Waited idles)) = (limit ≤ idles) × (idles ≤ rise) × (is_in_vain P O M ≡ true)
+IsVain P O M limit rise (Some stops.Halt) = ⊥
+
+-- the run has come to an end
+abbrev pub IsOver : Check → Type 0
+IsOver checks.Going = ⊥
+IsOver checks.Halted = ⊥
+IsOver check = Unit {0}
+
+-- How a run with workers ends, by its records and a stop for waiting in vain, if one was set.
+pub record EndsWaiting (P : Plan) (O : Options) (limit rise : ℕ) (all : List Record) (check : Check) : Type 0 where
+  pub moves : List Move
+  pub logged : records_of moves ≡ before_end all
+  pub stop : Option Stop
+  pub vain : IsVain P O moves limit rise stop
+  pub answer : check ≡ end_over P O (before_end all) stop
+  pub over : IsOver check
+
+-- As many links were handed back as were given.
+pub record AreBack {L : Type 0} (got got_now : List (Option LinkNo × L)) (given given_now : ℕ) : Type 0 where
+  pub more : List (Option LinkNo × L)
+  pub are : got_now ≡ got ++ more
+  pub many : length more + given ≡ given_now

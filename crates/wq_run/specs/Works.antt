@@ -1,0 +1,105 @@
+-- What rounds of a run with workers come to.
+use Rattle.std.specs.Prelude.{◌≡◌, ◌≤◌, ◌<◌, ◌-◌, ℕ, false, List, [], length, Option, Some, None, Result, Ok, Err, OnOk}
+use Rattle.flow_types.specs.declared.job.Job.{Job}
+use Rattle.flow_types.specs.declared.job.Failure.{Failure}
+use Rattle.flow_types.specs.Serial.{Contents, Function}
+use Rattle.run_history.specs.declared.answers.Check.{Check}
+use Rattle.run_history.specs.declared.answers.Stop.{Stop}
+use Rattle.run_history.specs.declared.moves.Move.{Move}
+use Rattle.run_history.specs.Answers.{before_end, end_of, end_over, has_ended}
+use Rattle.run_history.specs.Links.{records_of}
+use Rattle.run_history.specs.Storage.{running_rules}
+use Rattle.outside.specs.Disk.{Outcomes}
+use Rattle.outside.specs.Files.{Files}
+use Rattle.desk.specs.State.{DeskState, IsFine}
+use Rattle.local_run.specs.declared.ended.Stopped.{Stopped}
+use Rattle.local_run.specs.declared.ended.Stopped.TheVariants as stopped
+use Rattle.local_run.specs.declared.halt.Halt.{Halt}
+use Rattle.local_run.specs.Course.{GoesOn, IsHalt}
+use Rattle.local_run.specs.Ends.{IsApart, IsFoundDamaged, IsSureHalt, IsWholeHalt}
+use Rattle.wq_run.specs.declared.rounds.Turn.{Turn}
+use Rattle.wq_run.specs.declared.rounds.Turn.TheVariants as turns
+use Rattle.wq_run.specs.Ends.{EndsWaiting, IsOver, LosesOnLinks}
+
+-- Nothing stopped the run, and it hasn't ended.
+pub record IsOn {S : Type 0} (now : DeskState S) : Type 0 where
+  pub fine : IsFine now.trouble
+  pub unset : now.stop ≡ None
+  pub unended : has_ended (records_of now.moves) ≡ false
+
+-- Why a run stopped, with what is known of it.
+pub record HaltedBy {S : Type 0} (tells kept sure : Type 0) (files : S → Files) (now : DeskState S) (count count_now : ℕ) (why : Halt) : Type 0 where
+  pub is : IsHalt now.trouble count count_now why
+  pub damage : tells → IsApart now.plan now.log → IsFoundDamaged now.plan (records_of now.moves) (files now.site) why
+  pub whole : tells → kept → IsWholeHalt why
+  pub never : sure → IsSureHalt why
+
+-- How a run ended, or why it stopped.
+abbrev pub EndedBy : {S : Type 0} → Type 0 → Type 0 → Type 0 → (S → Files) → ℕ → DeskState S → ℕ → ℕ → ℕ → ℕ → ℕ → ℕ → Result Check Stopped → Type 0
+EndedBy tells kept sure files limit now count count_now hall hall_now idles idles_now (Ok check) =
+    IsFine now.trouble × EndsWaiting now.plan now.options limit (idles_now - idles) (records_of now.moves) check
+EndedBy tells kept sure files limit now count count_now hall hall_now idles idles_now (Err (stopped.Refused why)) = ⊥
+EndedBy tells kept sure files limit now count count_now hall hall_now idles idles_now (Err (stopped.Halted halt)) =
+    HaltedBy tells kept sure files now count count_now halt
+EndedBy tells kept sure files limit now count count_now hall hall_now idles idles_now (Err stopped.Hall) = IsFine now.trouble × (hall < hall_now)
+
+-- What a round of a run tells: it goes on; nobody came so often while nothing could be done; or it ended, with no stop, or stopped.
+abbrev pub TurnsTo : {S : Type 0} → Type 0 → Type 0 → Type 0 → (S → Files) → ℕ → DeskState S → ℕ → ℕ → ℕ → ℕ → ℕ → ℕ → Result Turn Stopped → Type 0
+TurnsTo tells kept sure files limit now count count_now hall hall_now idles idles_now (Ok turns.Again) = IsOn now
+TurnsTo tells kept sure files limit now count count_now hall hall_now idles idles_now (Ok (turns.Vain n)) = IsOn now × (limit ≤ n) × (n ≤ idles_now - idles)
+TurnsTo {S} tells kept sure files limit now count count_now hall hall_now idles idles_now (Ok (turns.Over check)) =
+    (now.stop ≡ None) × EndedBy tells kept sure files limit now count count_now hall hall_now idles idles_now (Ok check)
+TurnsTo tells kept sure files limit now count count_now hall hall_now idles idles_now (Err why) =
+    EndedBy tells kept sure files limit now count count_now hall hall_now idles idles_now (Err why)
+
+-- What a round of a run comes to, whose runners' and hall's counts rise so.
+pub record Rounds {S : Type 0} (trust : Type 0) (gives : Function) (may_fail : Job → Failure → Type 0) (sources : Contents) (tells kept sure : Type 0) (files : S → Files) (may_leave : S → Outcomes) (moment : S → ℕ)
+    (images_since : S → ℕ → Files → Type 0) (limit : ℕ) (d after : DeskState S) (count count_now failures failures_now hall hall_now idles idles_now : ℕ) (result : Result Turn Stopped) : Type 0 where
+  pub links : List Move
+  pub goes : GoesOn trust gives may_fail sources tells files may_leave moment images_since links d after
+  pub idle : IsFine after.trouble → length (running_rules after.plan (records_of after.moves)) ≤ 0
+  pub later : count ≤ count_now
+  pub risen : failures ≤ failures_now
+  pub met : hall ≤ hall_now
+  pub looks : idles ≤ idles_now
+  pub turn : TurnsTo tells kept sure files limit after count count_now hall hall_now idles idles_now result
+
+-- What a whole run comes to.
+pub record Works {S : Type 0} (trust : Type 0) (gives : Function) (may_fail : Job → Failure → Type 0) (sources : Contents) (tells kept sure : Type 0) (files : S → Files) (may_leave : S → Outcomes) (moment : S → ℕ)
+    (images_since : S → ℕ → Files → Type 0) (limit : ℕ) (d after : DeskState S) (count count_now failures failures_now hall hall_now idles idles_now : ℕ) (result : Result Check Stopped) : Type 0 where
+  pub links : List Move
+  pub goes : GoesOn trust gives may_fail sources tells files may_leave moment images_since links d after
+  pub idle : IsFine after.trouble → length (running_rules after.plan (records_of after.moves)) ≤ 0
+  pub later : count ≤ count_now
+  pub risen : failures ≤ failures_now
+  pub met : hall ≤ hall_now
+  pub looks : idles ≤ idles_now
+  pub ended : EndedBy tells kept sure files limit after count count_now hall hall_now idles idles_now result
+  pub lost : OnOk result (LosesOnLinks (records_of d.moves) (records_of after.moves))
+
+-- The answer of an end, by the moves and the stop that it found: the records behind it are theirs and perhaps the end.
+pub record EndsAt {S : Type 0} (after : DeskState S) (moves : List Move) (stop : Option Stop) (check : Check) : Type 0 where
+  pub logged : records_of moves ≡ before_end (records_of after.moves)
+  pub answer : check ≡ end_over after.plan after.options (before_end (records_of after.moves)) stop
+  pub over : IsOver check
+  pub lost : LosesOnLinks (records_of moves) (records_of after.moves)
+
+-- What an end made of the desk, by what it tells.
+abbrev pub HasEnd : {S : Type 0} → Type 0 → Type 0 → (S → Files) → DeskState S → DeskState S → Result (Option Check) Stopped → Type 0
+HasEnd tells kept files d after (Ok (Some check)) = IsFine after.trouble × (after.stop ≡ d.stop) × EndsAt after d.moves d.stop check
+HasEnd tells kept files d after (Ok None) = (after ≡ d) × (IsOver (end_of d.plan d.options d.moves d.stop) → ⊥)
+HasEnd tells kept files d after (Err (stopped.Refused why)) = ⊥
+HasEnd tells kept files d after (Err (stopped.Halted halt)) = HaltedBy tells kept (Unit {0}) files after 0 0 halt
+HasEnd tells kept files d after (Err stopped.Hall) = ⊥
+
+-- What the end of a run makes of the desk: it has ended, with no stop; or nothing changed; or it stopped.
+pub record EndsNow {S : Type 0} (trust : Type 0) (gives : Function) (may_fail : Job → Failure → Type 0) (sources : Contents) (tells kept : Type 0) (files : S → Files) (may_leave : S → Outcomes) (moment : S → ℕ)
+    (images_since : S → ℕ → Files → Type 0) (d after : DeskState S) (result : Result (Option Check) Stopped) : Type 0 where
+  pub goes : GoesOn trust gives may_fail sources tells files may_leave moment images_since [] d after
+  pub idle : IsFine after.trouble → length (running_rules after.plan (records_of after.moves)) ≤ 0
+  pub ends : HasEnd tells kept files d after result
+
+-- an end that was reached, as one that may be
+abbrev pub with_check : Result Check Stopped → Result (Option Check) Stopped
+with_check (Ok check) = Ok (Some check)
+with_check (Err why) = Err why

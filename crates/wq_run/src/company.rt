@@ -1,0 +1,133 @@
+//! All workers of a run.
+ghost use Rattle.std.specs.Prelude.{◌≡◌, [], false, true};
+ghost use Rattle.wq_run.specs.Seats.{IsUnseated, gathered};
+
+mod guests;
+mod hall;
+mod parting;
+mod rounds;
+mod visits;
+
+use crate::seat::Seat;
+use flow_types::LinkNo;
+use links::Link;
+use outside::Commands;
+use peers::Peer;
+pub(crate) use rounds::{disband, dismiss, round};
+use std::alloc::Global;
+use std::marker::Model;
+pub(crate) use visits::ask_all;
+
+/// The workers that joined, and the peers that came and haven't joined yet.
+pub(crate) struct Company<F: Commands, L: Link<F>> {
+    seats: Vec<Seat<F, L>>,
+    guests: Vec<Peer<F, L>>,
+    // The place where peers come failed.
+    failed: bool,
+    // A link was lost for want of memory.
+    lost: bool,
+    // How many looks in a row found nothing.
+    looks: u32,
+    // How many looks in a row found something.
+    busy: u32,
+    // How many moves the desk had when no claim gave a rule.
+    quiet: u64,
+}
+
+impl<F: Commands, L: Link<F>> Model for Company<F, L> {
+    ghost use Rattle.wq_run.specs.Seats.{AreGuests, CompanyState};
+
+    ghost Value = { CompanyState L };
+
+    ghost view = { λ c. record {
+      seats = c.seats.items;
+      guests = c.guests.items;
+      failed = c.failed;
+      lost = c.lost;
+    } };
+
+    ghost invariant = { λ c. AreGuests c.guests.items };
+}
+
+impl<F: Commands, L: Link<F>> Company<F, L> {
+    /// Nobody has come.
+    pub fn new(alloc: Global) -> Company<F, L>
+        ensures { result ≡ record { seats = []; guests = []; failed = false; lost = false } }
+    {
+        Company {
+            seats: Vec::new(alloc),
+            guests: Vec::new(alloc),
+            failed: false,
+            lost: false,
+            looks: 0,
+            busy: 0,
+            quiet: u64::MAX,
+        }
+    }
+
+    /// Whether nothing runs at a worker.
+    pub fn is_idle(&self) -> bool
+        ensures { result ≡ true → gathered self.now.seats ≡ [] }
+    {
+        for seat in &self.seats {
+            if !seat.is_idle() {
+                return false;
+            }
+        }
+        true
+    }
+
+    /// Whether nothing stands in the way of more.
+    pub fn is_going(&self) -> bool {
+        !self.failed && !self.lost
+    }
+
+    /// Whether the place where peers come failed.
+    pub fn has_failed(&self) -> bool
+        ensures { result ≡ self.now.failed }
+    {
+        self.failed
+    }
+
+    /// Whether a link was lost for want of memory.
+    pub fn has_lost(&self) -> bool
+        ensures { result ≡ self.now.lost }
+    {
+        self.lost
+    }
+
+    /// Whether the desk has other moves than when no claim gave a rule.
+    pub fn has_news(&self, moves: u64) -> bool {
+        self.quiet != moves
+    }
+
+    /// No claim gives a rule while the desk has so many moves.
+    pub fn rest_at(&mut self, moves: u64)
+        ensures { self.new ≡ self.old }
+    {
+        self.quiet = moves;
+    }
+
+    /// Ends it, with nobody left.
+    pub fn end(self)
+        requires seats { self.seats ≡ [] }
+    {
+        let Company {
+            seats,
+            guests: _,
+            failed: _,
+            lost: _,
+            looks: _,
+            busy: _,
+            quiet: _,
+        } = self;
+        seats.destroy_empty();
+    }
+
+    // Whether a seat has this link.
+    fn has(&self, link: LinkNo) -> bool
+        ensures { result ≡ false → IsUnseated link.0 self.now.seats }
+    {
+        self.seats.iter().any(|seat| seat.link().0 == link.0)
+    }
+}

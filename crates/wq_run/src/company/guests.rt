@@ -1,0 +1,227 @@
+//! Peers that came and haven't joined yet.
+ghost use Rattle.std.specs.Prelude.{◌≡◌, ◌⊎◌, ◌+◌, ◌++◌, ◌∷◌, [], None, OnOk};
+ghost use Rattle.local_run.specs.Underway.{HeldState, IsSurePool};
+ghost use Rattle.wq_run.specs.Seats.{IsGuest, IsUnseated, KeepsManned, Meets, links_in};
+
+use super::Company;
+use super::hall::hand_back;
+use crate::seat::Seat;
+use desk::{Desk, Terms};
+use flow_types::Amounts;
+use links::{Hall, Link};
+use local_run::join;
+use outside::{Commands, Site};
+use peers::{Leave, Listened, Peer, Told};
+use std::alloc::Global;
+use worker_pool::Terms as PoolTerms;
+
+/// How often a peer may be idle before its hello has come.
+const MOST_IDLES: u64 = 8;
+
+/// What a peer offers.
+#[derive(Clone, Copy)]
+struct Offer {
+    total: Amounts,
+    largest: Amounts,
+    cache: u64,
+}
+
+// Takes the bytes that a guest has sent, if there are some or it has its turn to be idle.
+fn listen<F: Commands, L: Link<F>>(
+    peer: &mut Peer<F, L>,
+    alloc: Global,
+    is_turn: bool,
+) -> Result<(), Leave>
+    ensures session { peer.new.session ≡ peer.old.session }
+    ensures going { peer.old.feed.stop ≡ None → peer.new.feed.stop ≡ None }
+{
+    if !peer.ready() && !is_turn {
+        return Ok(());
+    }
+    match peer.listen(alloc) {
+        Ok(Listened::Piece) => Ok(()),
+        Ok(Listened::Idle(idles)) => {
+            if idles >= MOST_IDLES {
+                return Err(Leave::Closed);
+            }
+            Ok(())
+        }
+        Err(leave) => Err(leave),
+    }
+}
+
+// What a guest offers, once its hello has come.
+fn greet<F: Commands, L: Link<F>>(
+    peer: &mut Peer<F, L>,
+    alloc: Global,
+    is_turn: bool,
+) -> Result<Option<Offer>, Leave>
+    requires guest { IsGuest peer.old }
+    ensures guest { OnOk result (IsGuest peer.new) }
+{
+    match listen(peer, alloc, is_turn) {
+        Ok(()) => {}
+        Err(leave) => return Err(leave),
+    }
+    match peer.hear(alloc) {
+        Ok(Told::Nothing) => Ok(None),
+        Ok(
+            Told::Joined {
+                total,
+                largest,
+                cache,
+            },
+        ) => Ok(Some(Offer {
+            total,
+            largest,
+            cache,
+        })),
+        Ok(_) => Err(Leave::Unexpected),
+        Err(leave) => Err(leave),
+    }
+}
+
+/// A guest stays one.
+fn stay<F: Commands, H: Hall<F>>(
+    company: &mut Company<F, H::Way>,
+    alloc: Global,
+    hall: &mut H,
+    peer: Peer<F, H::Way>,
+)
+    requires guest { IsGuest peer }
+    ensures seats { company.new.seats ≡ company.old.seats }
+    ensures listens { H.listens hall.old → H.listens hall.new }
+    ensures met { Meets (H.count hall.old) (H.count hall.new) (H.got hall.old)
+        (H.got hall.new) (H.given hall.old) (H.given hall.new) (H.idle_count hall.old)
+        (H.idle_count hall.new) (links_in company.old + 1) (links_in company.new)
+        company.old.failed company.new.failed company.old.lost company.new.lost }
+{
+    if let Err(failed) = company.guests.push(peer) {
+        hand_back::<F, H>(company, alloc, hall, None, failed.value.into_way());
+    }
+}
+
+/// A guest that joined gets its seat. Where there is no memory for it the run can't go on.
+fn take_seat<F: Commands, H: Hall<F>>(
+    company: &mut Company<F, H::Way>,
+    alloc: Global,
+    hall: &mut H,
+    seat: Seat<F, H::Way>,
+)
+    requires idle { seat.attempts ≡ [] }
+    ensures seats { (company.new.seats ≡ company.old.seats)
+        ⊎ (IsUnseated seat.link.0 company.old.seats
+        × (company.new.seats ≡ company.old.seats ++ seat ∷ [])) }
+    ensures listens { H.listens hall.old → H.listens hall.new }
+    ensures met { Meets (H.count hall.old) (H.count hall.new) (H.got hall.old)
+        (H.got hall.new) (H.given hall.old) (H.given hall.new) (H.idle_count hall.old)
+        (H.idle_count hall.new) (links_in company.old + 1) (links_in company.new)
+        company.old.failed company.new.failed company.old.lost company.new.lost }
+{
+    let link = seat.link();
+    let seat = if company.has(link) {
+        seat
+    } else {
+        match company.seats.push(seat) {
+            Ok(()) => return,
+            Err(failed) => failed.value,
+        }
+    };
+    hand_back::<F, H>(
+        company,
+        alloc,
+        hall,
+        Some(link),
+        seat.into_peer().into_way(),
+    );
+    company.lost = true;
+}
+
+/// A guest joins with what it offers. Where the desk refuses it its link is handed back.
+fn seat_guest<B: PoolTerms, F: Commands, S: Site, H: Hall<F>, T: Terms>(
+    company: &mut Company<F, H::Way>,
+    alloc: Global,
+    desk: &mut Desk<F, S, T>,
+    hall: &mut H,
+    peer: Peer<F, H::Way>,
+    offer: Offer,
+)
+    requires guest { IsGuest peer }
+    ensures manned { (held : HeldState) → KeepsManned T.trust F.gives F.may_fail T.sources S.tells T.kept (IsSurePool B.fits)
+        S.files S.may_leave S.moment S.images_since desk.old desk.new
+        held held company.old.seats company.new.seats }
+    ensures listens { H.listens hall.old → H.listens hall.new }
+    ensures met { Meets (H.count hall.old) (H.count hall.new) (H.got hall.old)
+        (H.got hall.new) (H.given hall.old) (H.given hall.new) (H.idle_count hall.old)
+        (H.idle_count hall.new) (links_in company.old + 1) (links_in company.new)
+        company.old.failed company.new.failed company.old.lost company.new.lost }
+{
+    match join::<B, F, S, T>(desk, offer.total, offer.largest, offer.cache) {
+        Ok(link) => take_seat::<F, H>(company, alloc, hall, Seat::new(alloc, peer, link)),
+        Err(_) => hand_back::<F, H>(company, alloc, hall, None, peer.into_way()),
+    }
+}
+
+/// Hears the guest that has waited longest, if there is one, and answers whether it is one no
+/// longer.
+fn greet_next<B: PoolTerms, F: Commands, S: Site, H: Hall<F>, T: Terms>(
+    company: &mut Company<F, H::Way>,
+    alloc: Global,
+    desk: &mut Desk<F, S, T>,
+    hall: &mut H,
+    is_turn: bool,
+) -> bool
+    ensures manned { (held : HeldState) → KeepsManned T.trust F.gives F.may_fail T.sources S.tells T.kept (IsSurePool B.fits)
+        S.files S.may_leave S.moment S.images_since desk.old desk.new
+        held held company.old.seats company.new.seats }
+    ensures listens { H.listens hall.old → H.listens hall.new }
+    ensures met { Meets (H.count hall.old) (H.count hall.new) (H.got hall.old)
+        (H.got hall.new) (H.given hall.old) (H.given hall.new) (H.idle_count hall.old)
+        (H.idle_count hall.new) (links_in company.old) (links_in company.new)
+        company.old.failed company.new.failed company.old.lost company.new.lost }
+{
+    if company.guests.is_empty() {
+        return false;
+    }
+    let mut peer = company.guests.remove(0);
+    match greet(&mut peer, alloc, is_turn) {
+        Ok(None) => {
+            stay::<F, H>(company, alloc, hall, peer);
+            false
+        }
+        Ok(Some(offer)) => {
+            seat_guest::<B, F, S, H, T>(company, alloc, desk, hall, peer, offer);
+            true
+        }
+        Err(_) => {
+            hand_back::<F, H>(company, alloc, hall, None, peer.into_way());
+            true
+        }
+    }
+}
+
+/// Hears each guest, and answers whether any is one no longer.
+pub(super) fn greet_all<B: PoolTerms, F: Commands, S: Site, H: Hall<F>, T: Terms>(
+    company: &mut Company<F, H::Way>,
+    alloc: Global,
+    desk: &mut Desk<F, S, T>,
+    hall: &mut H,
+    is_turn: bool,
+) -> bool
+    ensures manned { (held : HeldState) → KeepsManned T.trust F.gives F.may_fail T.sources S.tells T.kept (IsSurePool B.fits)
+        S.files S.may_leave S.moment S.images_since desk.old desk.new
+        held held company.old.seats company.new.seats }
+    ensures listens { H.listens hall.old → H.listens hall.new }
+    ensures met { Meets (H.count hall.old) (H.count hall.new) (H.got hall.old)
+        (H.got hall.new) (H.given hall.old) (H.given hall.new) (H.idle_count hall.old)
+        (H.idle_count hall.new) (links_in company.old) (links_in company.new)
+        company.old.failed company.new.failed company.old.lost company.new.lost }
+{
+    let mut did = false;
+    for _ in 0..company.guests.len() {
+        if greet_next::<B, F, S, H, T>(company, alloc, desk, hall, is_turn) {
+            did = true;
+        }
+    }
+    did
+}

@@ -1,0 +1,125 @@
+//! Where peers come and go.
+ghost use Rattle.std.specs.Prelude.{◌≡◌, ◌+◌};
+ghost use Rattle.wq_run.specs.Seats.{Meets, links_in};
+
+use super::Company;
+use flow_types::LinkNo;
+use links::{Came, Hall};
+use outside::{Commands, Fault};
+use peers::Peer;
+use std::alloc::Global;
+
+/// The most looks in a row that find nothing before each link, and the place where peers come, has
+/// its turn to be idle. A look takes a millisecond.
+const PATIENCE: u32 = 1_000;
+
+/// Hands a link back, under its number if it joined.
+pub(super) fn hand_back<F: Commands, H: Hall<F>>(
+    company: &mut Company<F, H::Way>,
+    alloc: Global,
+    hall: &mut H,
+    link: Option<LinkNo>,
+    way: H::Way,
+)
+    ensures seats { company.new.seats ≡ company.old.seats }
+    ensures guests { company.new.guests ≡ company.old.guests }
+    ensures listens { H.listens hall.old → H.listens hall.new }
+    ensures met { Meets (H.count hall.old) (H.count hall.new) (H.got hall.old)
+        (H.got hall.new) (H.given hall.old) (H.given hall.new) (H.idle_count hall.old)
+        (H.idle_count hall.new) (links_in company.old + 1) (links_in company.new)
+        company.old.failed company.new.failed company.old.lost company.new.lost }
+{
+    if hall.back(alloc, link, way).is_err() {
+        company.lost = true;
+    }
+}
+
+/// A peer comes over this link.
+fn let_in<F: Commands, H: Hall<F>>(
+    company: &mut Company<F, H::Way>,
+    alloc: Global,
+    hall: &mut H,
+    way: H::Way,
+)
+    ensures seats { company.new.seats ≡ company.old.seats }
+    ensures listens { H.listens hall.old → H.listens hall.new }
+    ensures met { Meets (H.count hall.old) (H.count hall.new) (H.got hall.old)
+        (H.got hall.new) (H.given hall.old) (H.given hall.new) (H.idle_count hall.old)
+        (H.idle_count hall.new) (links_in company.old + 1) (links_in company.new)
+        company.old.failed company.new.failed company.old.lost company.new.lost }
+{
+    match Peer::new(alloc, way, 0) {
+        Ok(peer) => {
+            if let Err(failed) = company.guests.push(peer) {
+                hand_back::<F, H>(company, alloc, hall, None, failed.value.into_way());
+            }
+        }
+        Err(way) => hand_back::<F, H>(company, alloc, hall, None, way),
+    }
+}
+
+/// Asks for the next peer, and answers whether one came.
+fn wait<F: Commands, H: Hall<F>>(
+    company: &mut Company<F, H::Way>,
+    alloc: Global,
+    hall: &mut H,
+) -> bool
+    requires { H.listens hall.old }
+    ensures seats { company.new.seats ≡ company.old.seats }
+    ensures listens { H.listens hall.new }
+    ensures met { Meets (H.count hall.old) (H.count hall.new) (H.got hall.old)
+        (H.got hall.new) (H.given hall.old) (H.given hall.new) (H.idle_count hall.old)
+        (H.idle_count hall.new) (links_in company.old) (links_in company.new)
+        company.old.failed company.new.failed company.old.lost company.new.lost }
+{
+    match hall.wait(alloc) {
+        Ok(Came::Link(way)) => {
+            let_in::<F, H>(company, alloc, hall, way);
+            true
+        }
+        Ok(Came::Idle) => false,
+        Err(Fault::Failed) => {
+            company.failed = true;
+            true
+        }
+        Err(Fault::Memory) => {
+            company.lost = true;
+            true
+        }
+    }
+}
+
+/// Lets in who has come, and answers whether anybody did. Where nobody has it is a look more that
+/// found nothing, or the turn to be idle.
+pub(super) fn meet<F: Commands, H: Hall<F>>(
+    company: &mut Company<F, H::Way>,
+    alloc: Global,
+    hall: &mut H,
+    is_turn: bool,
+) -> bool
+    requires { H.listens hall.old }
+    ensures seats { company.new.seats ≡ company.old.seats }
+    ensures listens { H.listens hall.new }
+    ensures met { Meets (H.count hall.old) (H.count hall.new) (H.got hall.old)
+        (H.got hall.new) (H.given hall.old) (H.given hall.new) (H.idle_count hall.old)
+        (H.idle_count hall.new) (links_in company.old) (links_in company.new)
+        company.old.failed company.new.failed company.old.lost company.new.lost }
+{
+    if hall.ready() || is_turn {
+        return wait::<F, H>(company, alloc, hall);
+    }
+    company.looks = company.looks.saturating_add(1);
+    false
+}
+
+/// Whether so many looks in a row found nothing that each has its turn to be idle; then they are
+/// counted anew.
+pub(super) fn has_turn<F: Commands, H: Hall<F>>(company: &mut Company<F, H::Way>) -> bool
+    ensures { company.new ≡ company.old }
+{
+    if company.looks < PATIENCE {
+        return false;
+    }
+    company.looks = 0;
+    true
+}

@@ -1,0 +1,92 @@
+//! Workers that are left.
+ghost use Rattle.std.specs.Prelude.{◌≡◌, ◌<◌, ◌+◌, ◌++◌, ℕ, List, length};
+ghost use Rattle.flow_types.specs.declared.job.Start.{Start as StartValue};
+ghost use Rattle.flow_types.specs.Plans.{IsValid};
+ghost use Rattle.worker_pool.specs.declared.hand.Tally.{Tally};
+ghost use Rattle.desk.specs.State.{DeskState};
+ghost use Rattle.local_run.specs.Underway.{IsSurePool};
+ghost use Rattle.wq_run.specs.Seats.{IsParting, IsPartingAt, Manned, Meets, Parts, PartsAt};
+ghost use Rattle.wq_run.specs.Seats.{SeatState, links_in};
+
+use super::Company;
+use super::hall::hand_back;
+use crate::seat::Seat;
+use desk::{Desk, Terms};
+use links::Hall;
+use local_run::{Held, leave};
+use outside::{Clock, Commands, Site};
+use std::alloc::Global;
+use worker_pool::Terms as PoolTerms;
+
+/// Leaves a seat that was taken out: what runs there is given up, and the link is handed back.
+pub(super) fn part<B: PoolTerms, F: Commands, S: Site, H: Hall<F>, T: Terms, C: Clock>(
+    company: &mut Company<F, H::Way>,
+    alloc: Global,
+    desk: &mut Desk<F, S, T>,
+    held: &mut Held,
+    hall: &mut H,
+    seat: Seat<F, H::Way>,
+    clock: &C,
+)
+    requires valid { IsValid desk.old.plan }
+    requires keen { (k : ℕ) → 0 < k → T.keen k → ⊥ }
+    requires parting { IsParting T.trust F.gives F.may_fail T.sources S.tells T.kept (IsSurePool B.fits)
+        S.files S.may_leave S.moment S.images_since desk.old held.old company.old.seats seat }
+    ensures manned { (before behind : List (SeatState H.Way)) (first : DeskState S)
+        (waiting : List StartValue) (heard : Tally)
+        → company.old.seats ≡ before ++ behind
+        → Parts T.trust F.gives F.may_fail T.sources S.tells T.kept (IsSurePool B.fits)
+        S.files S.may_leave S.moment S.images_since first desk.old held.old
+        waiting heard before behind seat
+        → Manned T.trust F.gives F.may_fail T.sources S.tells T.kept (IsSurePool B.fits)
+        S.files S.may_leave S.moment S.images_since first desk.new held.new
+        waiting heard company.new.seats }
+    ensures seats { company.new.seats ≡ company.old.seats }
+    ensures guests { company.new.guests ≡ company.old.guests }
+    ensures listens { H.listens hall.old → H.listens hall.new }
+    ensures met { Meets (H.count hall.old) (H.count hall.new) (H.got hall.old)
+        (H.got hall.new) (H.given hall.old) (H.given hall.new) (H.idle_count hall.old)
+        (H.idle_count hall.new) (links_in company.old + 1) (links_in company.new)
+        company.old.failed company.new.failed company.old.lost company.new.lost }
+{
+    let mut seat = seat;
+    seat.abandon::<B, S, T, C>(desk, held, clock);
+    let link = seat.link();
+    if desk.works() {
+        leave::<B, F, S, T>(desk, link);
+    }
+    let way = seat.into_peer().into_way();
+    hand_back::<F, H>(company, alloc, hall, Some(link), way);
+}
+
+/// Leaves the seat at this place, if there is one.
+pub(super) fn part_at<B: PoolTerms, F: Commands, S: Site, H: Hall<F>, T: Terms, C: Clock>(
+    company: &mut Company<F, H::Way>,
+    alloc: Global,
+    desk: &mut Desk<F, S, T>,
+    held: &mut Held,
+    hall: &mut H,
+    at: usize,
+    clock: &C,
+)
+    requires valid { IsValid desk.old.plan }
+    requires keen { (k : ℕ) → 0 < k → T.keen k → ⊥ }
+    requires inside { at < length company.old.seats }
+    requires parting { IsPartingAt T.trust F.gives F.may_fail T.sources S.tells T.kept (IsSurePool B.fits)
+        S.files S.may_leave S.moment S.images_since desk.old held.old company.old.seats at }
+    ensures manned { (first : DeskState S) (waiting : List StartValue) (heard : Tally)
+        → PartsAt T.trust F.gives F.may_fail T.sources S.tells T.kept (IsSurePool B.fits)
+        S.files S.may_leave S.moment S.images_since first desk.old held.old
+        waiting heard company.old.seats at
+        → Manned T.trust F.gives F.may_fail T.sources S.tells T.kept (IsSurePool B.fits)
+        S.files S.may_leave S.moment S.images_since first desk.new held.new
+        waiting heard company.new.seats }
+    ensures listens { H.listens hall.old → H.listens hall.new }
+    ensures met { Meets (H.count hall.old) (H.count hall.new) (H.got hall.old)
+        (H.got hall.new) (H.given hall.old) (H.given hall.new) (H.idle_count hall.old)
+        (H.idle_count hall.new) (links_in company.old) (links_in company.new)
+        company.old.failed company.new.failed company.old.lost company.new.lost }
+{
+    let seat = company.seats.remove(at);
+    part::<B, F, S, H, T, C>(company, alloc, desk, held, hall, seat, clock);
+}

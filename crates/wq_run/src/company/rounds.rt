@@ -1,0 +1,166 @@
+//! A look at all that workers tell, and the end of their service.
+ghost use Rattle.std.specs.Prelude.{◌≡◌, ◌<◌, ◌+◌, [], ℕ, false, length, true};
+ghost use Rattle.flow_types.specs.Plans.{IsValid};
+ghost use Rattle.local_run.specs.Underway.{IsSurePool};
+ghost use Rattle.wq_run.specs.Seats.{IsManned, KeepsManned, Meets, gathered, links_in};
+
+use super::Company;
+use super::guests::greet_all;
+use super::hall::{hand_back, has_turn, meet};
+use super::parting::part;
+use super::visits::visit_all;
+use desk::{Desk, Terms};
+use links::Hall;
+use local_run::Held;
+use outside::{Clock, Commands, Site};
+use std::alloc::Global;
+use worker_pool::Terms as PoolTerms;
+
+/// The most looks in a row that find something before it is asked who has come.
+const MOST_BUSY: u32 = 64;
+
+/// Whether it is time to ask who has come: where a look found nothing, and else now and then.
+fn asks_hall<F: Commands, H: Hall<F>>(company: &mut Company<F, H::Way>, did: bool) -> bool
+    ensures { company.new ≡ company.old }
+{
+    company.busy = company.busy.saturating_add(1);
+    if did && company.busy < MOST_BUSY {
+        return false;
+    }
+    company.busy = 0;
+    true
+}
+
+/// Hears what workers and guests tell, and lets in who has come. It answers whether there was
+/// anything. Where there is nothing it takes a millisecond.
+pub(crate) fn round<B: PoolTerms, F: Commands, S: Site, H: Hall<F>, T: Terms, C: Clock>(
+    company: &mut Company<F, H::Way>,
+    alloc: Global,
+    desk: &mut Desk<F, S, T>,
+    held: &mut Held,
+    hall: &mut H,
+    limit: u32,
+    clock: &C,
+) -> bool
+    requires valid { IsValid desk.old.plan }
+    requires apart { T.trust → ⊥ }
+    requires keen { (k : ℕ) → 0 < k → T.keen k → ⊥ }
+    requires listens { H.listens hall.old }
+    requires manned { IsManned T.trust F.gives F.may_fail T.sources S.tells T.kept (IsSurePool B.fits)
+        S.files S.may_leave S.moment S.images_since desk.old held.old company.old.seats }
+    ensures manned { KeepsManned T.trust F.gives F.may_fail T.sources S.tells T.kept (IsSurePool B.fits)
+        S.files S.may_leave S.moment S.images_since desk.old desk.new
+        held.old held.new company.old.seats company.new.seats }
+    ensures listens { H.listens hall.new }
+    ensures met { Meets (H.count hall.old) (H.count hall.new) (H.got hall.old)
+        (H.got hall.new) (H.given hall.old) (H.given hall.new) (H.idle_count hall.old)
+        (H.idle_count hall.new) (links_in company.old) (links_in company.new)
+        company.old.failed company.new.failed company.old.lost company.new.lost }
+{
+    let is_turn = has_turn::<F, H>(company);
+    let told = visit_all::<B, F, S, H, T, C>(
+        company, alloc, desk, held, hall, is_turn, limit, clock,
+    );
+    let joined = greet_all::<B, F, S, H, T>(company, alloc, desk, hall, is_turn);
+    let did = told || joined;
+    if !is_turn && !asks_hall::<F, H>(company, did) {
+        return did;
+    }
+    let came = meet::<F, H>(company, alloc, hall, is_turn);
+    did || came
+}
+
+/// Leaves the last seat, if there is one, and answers whether there was.
+fn dismiss_last<B: PoolTerms, F: Commands, S: Site, H: Hall<F>, T: Terms, C: Clock>(
+    company: &mut Company<F, H::Way>,
+    alloc: Global,
+    desk: &mut Desk<F, S, T>,
+    held: &mut Held,
+    hall: &mut H,
+    clock: &C,
+) -> bool
+    requires valid { IsValid desk.old.plan }
+    requires keen { (k : ℕ) → 0 < k → T.keen k → ⊥ }
+    requires manned { IsManned T.trust F.gives F.may_fail T.sources S.tells T.kept (IsSurePool B.fits)
+        S.files S.may_leave S.moment S.images_since desk.old held.old company.old.seats }
+    ensures manned { KeepsManned T.trust F.gives F.may_fail T.sources S.tells T.kept (IsSurePool B.fits)
+        S.files S.may_leave S.moment S.images_since desk.old desk.new
+        held.old held.new company.old.seats company.new.seats }
+    ensures listens { H.listens hall.old → H.listens hall.new }
+    ensures met { Meets (H.count hall.old) (H.count hall.new) (H.got hall.old)
+        (H.got hall.new) (H.given hall.old) (H.given hall.new) (H.idle_count hall.old)
+        (H.idle_count hall.new) (links_in company.old) (links_in company.new)
+        company.old.failed company.new.failed company.old.lost company.new.lost }
+    ensures fewer { result ≡ true
+        → length company.old.seats ≡ length company.new.seats + 1 }
+    ensures none { result ≡ false → company.new.seats ≡ [] }
+{
+    match company.seats.pop() {
+        Some(mut seat) => {
+            seat.farewell(alloc);
+            part::<B, F, S, H, T, C>(company, alloc, desk, held, hall, seat, clock);
+            true
+        }
+        None => false,
+    }
+}
+
+/// Lets all workers and guests go. What runs at a worker is cancelled and given up.
+pub(crate) fn dismiss<B: PoolTerms, F: Commands, S: Site, H: Hall<F>, T: Terms, C: Clock>(
+    company: &mut Company<F, H::Way>,
+    alloc: Global,
+    desk: &mut Desk<F, S, T>,
+    held: &mut Held,
+    hall: &mut H,
+    clock: &C,
+)
+    requires valid { IsValid desk.old.plan }
+    requires keen { (k : ℕ) → 0 < k → T.keen k → ⊥ }
+    requires manned { IsManned T.trust F.gives F.may_fail T.sources S.tells T.kept (IsSurePool B.fits)
+        S.files S.may_leave S.moment S.images_since desk.old held.old company.old.seats }
+    ensures manned { KeepsManned T.trust F.gives F.may_fail T.sources S.tells T.kept (IsSurePool B.fits)
+        S.files S.may_leave S.moment S.images_since desk.old desk.new
+        held.old held.new company.old.seats company.new.seats }
+    ensures seats { company.new.seats ≡ [] }
+    ensures guests { company.new.guests ≡ [] }
+    ensures listens { H.listens hall.old → H.listens hall.new }
+    ensures met { Meets (H.count hall.old) (H.count hall.new) (H.got hall.old)
+        (H.got hall.new) (H.given hall.old) (H.given hall.new) (H.idle_count hall.old)
+        (H.idle_count hall.new) (links_in company.old) (links_in company.new)
+        company.old.failed company.new.failed company.old.lost company.new.lost }
+{
+    while dismiss_last::<B, F, S, H, T, C>(company, alloc, desk, held, hall, clock) {}
+    while let Some(peer) = company.guests.pop() {
+        hand_back::<F, H>(company, alloc, hall, None, peer.into_way());
+    }
+}
+
+/// Lets all workers and guests go, at whom nothing runs.
+pub(crate) fn disband<F: Commands, H: Hall<F>>(
+    company: &mut Company<F, H::Way>,
+    alloc: Global,
+    hall: &mut H,
+)
+    requires none { gathered company.old.seats ≡ [] }
+    ensures seats { company.new.seats ≡ [] }
+    ensures guests { company.new.guests ≡ [] }
+    ensures met { Meets (H.count hall.old) (H.count hall.new) (H.got hall.old)
+        (H.got hall.new) (H.given hall.old) (H.given hall.new) (H.idle_count hall.old)
+        (H.idle_count hall.new) (links_in company.old) (links_in company.new)
+        company.old.failed company.new.failed company.old.lost company.new.lost }
+{
+    while let Some(mut seat) = company.seats.pop() {
+        seat.farewell(alloc);
+        let link = seat.link();
+        hand_back::<F, H>(
+            company,
+            alloc,
+            hall,
+            Some(link),
+            seat.into_peer().into_way(),
+        );
+    }
+    while let Some(peer) = company.guests.pop() {
+        hand_back::<F, H>(company, alloc, hall, None, peer.into_way());
+    }
+}

@@ -1,0 +1,208 @@
+//! What is heard of the workers, and what they are asked.
+ghost use Rattle.std.specs.Prelude.{◌≡◌, ◌<◌, ℕ, length};
+ghost use Rattle.flow_types.specs.Plans.{IsValid};
+ghost use Rattle.local_run.specs.Underway.{IsSurePool};
+ghost use Rattle.wq_run.specs.Seats.{IsManned, KeepsManned, Meets, SeatsAfter, links_in};
+
+use super::Company;
+use super::parting::part_at;
+use desk::{Desk, Terms};
+use links::Hall;
+use local_run::Held;
+use outside::{Clock, Commands, Site};
+use peers::Leave;
+use std::alloc::Global;
+use worker_pool::Terms as PoolTerms;
+
+/// Hears what the worker at this place tells, and answers whether it told anything.
+fn hear_at<B: PoolTerms, F: Commands, S: Site, H: Hall<F>, T: Terms, C: Clock>(
+    company: &mut Company<F, H::Way>,
+    alloc: Global,
+    desk: &mut Desk<F, S, T>,
+    held: &mut Held,
+    at: usize,
+    is_turn: bool,
+    limit: u32,
+    clock: &C,
+) -> Result<bool, Leave>
+    requires valid { IsValid desk.old.plan }
+    requires apart { T.trust → ⊥ }
+    requires keen { (k : ℕ) → 0 < k → T.keen k → ⊥ }
+    requires manned { IsManned T.trust F.gives F.may_fail T.sources S.tells T.kept (IsSurePool B.fits)
+        S.files S.may_leave S.moment S.images_since desk.old held.old company.old.seats }
+    ensures manned { SeatsAfter T.trust F.gives F.may_fail T.sources S.tells T.kept (IsSurePool B.fits)
+        S.files S.may_leave S.moment S.images_since at desk.old desk.new
+        held.old held.new company.old.seats company.new.seats result }
+    ensures many { length company.new.seats ≡ length company.old.seats }
+    ensures guests { company.new.guests ≡ company.old.guests }
+    ensures failed { company.new.failed ≡ company.old.failed }
+    ensures lost { company.new.lost ≡ company.old.lost }
+{
+    let Some(seat) = company.seats.get_mut(at) else {
+        return Ok(false);
+    };
+    seat.serve::<B, S, T, C>(alloc, desk, held, is_turn, limit, clock)
+}
+
+/// Starts a rule at the worker at this place, if a claim gives one, and answers whether it did
+/// anything.
+fn claim_at<B: PoolTerms, F: Commands, S: Site, H: Hall<F>, T: Terms, C: Clock>(
+    company: &mut Company<F, H::Way>,
+    alloc: Global,
+    desk: &mut Desk<F, S, T>,
+    held: &mut Held,
+    at: usize,
+    clock: &C,
+) -> Result<bool, Leave>
+    requires valid { IsValid desk.old.plan }
+    requires keen { (k : ℕ) → 0 < k → T.keen k → ⊥ }
+    requires manned { IsManned T.trust F.gives F.may_fail T.sources S.tells T.kept (IsSurePool B.fits)
+        S.files S.may_leave S.moment S.images_since desk.old held.old company.old.seats }
+    ensures manned { SeatsAfter T.trust F.gives F.may_fail T.sources S.tells T.kept (IsSurePool B.fits)
+        S.files S.may_leave S.moment S.images_since at desk.old desk.new
+        held.old held.new company.old.seats company.new.seats result }
+    ensures many { length company.new.seats ≡ length company.old.seats }
+    ensures guests { company.new.guests ≡ company.old.guests }
+    ensures failed { company.new.failed ≡ company.old.failed }
+    ensures lost { company.new.lost ≡ company.old.lost }
+{
+    if !held.is_going() {
+        return Ok(false);
+    }
+    let Some(seat) = company.seats.get_mut(at) else {
+        return Ok(false);
+    };
+    seat.claim::<B, S, T, C>(alloc, desk, held, clock)
+}
+
+/// As `hear_at`; a link that is to be left is left.
+fn visit<B: PoolTerms, F: Commands, S: Site, H: Hall<F>, T: Terms, C: Clock>(
+    company: &mut Company<F, H::Way>,
+    alloc: Global,
+    desk: &mut Desk<F, S, T>,
+    held: &mut Held,
+    hall: &mut H,
+    at: usize,
+    is_turn: bool,
+    limit: u32,
+    clock: &C,
+) -> bool
+    requires valid { IsValid desk.old.plan }
+    requires apart { T.trust → ⊥ }
+    requires keen { (k : ℕ) → 0 < k → T.keen k → ⊥ }
+    requires manned { IsManned T.trust F.gives F.may_fail T.sources S.tells T.kept (IsSurePool B.fits)
+        S.files S.may_leave S.moment S.images_since desk.old held.old company.old.seats }
+    ensures manned { KeepsManned T.trust F.gives F.may_fail T.sources S.tells T.kept (IsSurePool B.fits)
+        S.files S.may_leave S.moment S.images_since desk.old desk.new
+        held.old held.new company.old.seats company.new.seats }
+    ensures listens { H.listens hall.old → H.listens hall.new }
+    ensures met { Meets (H.count hall.old) (H.count hall.new) (H.got hall.old)
+        (H.got hall.new) (H.given hall.old) (H.given hall.new) (H.idle_count hall.old)
+        (H.idle_count hall.new) (links_in company.old) (links_in company.new)
+        company.old.failed company.new.failed company.old.lost company.new.lost }
+{
+    match hear_at::<B, F, S, H, T, C>(company, alloc, desk, held, at, is_turn, limit, clock) {
+        Ok(did) => did,
+        Err(_) => {
+            part_at::<B, F, S, H, T, C>(company, alloc, desk, held, hall, at, clock);
+            true
+        }
+    }
+}
+
+/// As `claim_at`; a link that is to be left is left.
+fn ask<B: PoolTerms, F: Commands, S: Site, H: Hall<F>, T: Terms, C: Clock>(
+    company: &mut Company<F, H::Way>,
+    alloc: Global,
+    desk: &mut Desk<F, S, T>,
+    held: &mut Held,
+    hall: &mut H,
+    at: usize,
+    clock: &C,
+) -> bool
+    requires valid { IsValid desk.old.plan }
+    requires keen { (k : ℕ) → 0 < k → T.keen k → ⊥ }
+    requires manned { IsManned T.trust F.gives F.may_fail T.sources S.tells T.kept (IsSurePool B.fits)
+        S.files S.may_leave S.moment S.images_since desk.old held.old company.old.seats }
+    ensures manned { KeepsManned T.trust F.gives F.may_fail T.sources S.tells T.kept (IsSurePool B.fits)
+        S.files S.may_leave S.moment S.images_since desk.old desk.new
+        held.old held.new company.old.seats company.new.seats }
+    ensures listens { H.listens hall.old → H.listens hall.new }
+    ensures met { Meets (H.count hall.old) (H.count hall.new) (H.got hall.old)
+        (H.got hall.new) (H.given hall.old) (H.given hall.new) (H.idle_count hall.old)
+        (H.idle_count hall.new) (links_in company.old) (links_in company.new)
+        company.old.failed company.new.failed company.old.lost company.new.lost }
+{
+    match claim_at::<B, F, S, H, T, C>(company, alloc, desk, held, at, clock) {
+        Ok(did) => did,
+        Err(_) => {
+            part_at::<B, F, S, H, T, C>(company, alloc, desk, held, hall, at, clock);
+            true
+        }
+    }
+}
+
+/// Hears what each worker tells, and answers whether any told something.
+pub(super) fn visit_all<B: PoolTerms, F: Commands, S: Site, H: Hall<F>, T: Terms, C: Clock>(
+    company: &mut Company<F, H::Way>,
+    alloc: Global,
+    desk: &mut Desk<F, S, T>,
+    held: &mut Held,
+    hall: &mut H,
+    is_turn: bool,
+    limit: u32,
+    clock: &C,
+) -> bool
+    requires valid { IsValid desk.old.plan }
+    requires apart { T.trust → ⊥ }
+    requires keen { (k : ℕ) → 0 < k → T.keen k → ⊥ }
+    requires manned { IsManned T.trust F.gives F.may_fail T.sources S.tells T.kept (IsSurePool B.fits)
+        S.files S.may_leave S.moment S.images_since desk.old held.old company.old.seats }
+    ensures manned { KeepsManned T.trust F.gives F.may_fail T.sources S.tells T.kept (IsSurePool B.fits)
+        S.files S.may_leave S.moment S.images_since desk.old desk.new
+        held.old held.new company.old.seats company.new.seats }
+    ensures listens { H.listens hall.old → H.listens hall.new }
+    ensures met { Meets (H.count hall.old) (H.count hall.new) (H.got hall.old)
+        (H.got hall.new) (H.given hall.old) (H.given hall.new) (H.idle_count hall.old)
+        (H.idle_count hall.new) (links_in company.old) (links_in company.new)
+        company.old.failed company.new.failed company.old.lost company.new.lost }
+{
+    let mut did = false;
+    for at in 0..company.seats.len() {
+        if visit::<B, F, S, H, T, C>(company, alloc, desk, held, hall, at, is_turn, limit, clock) {
+            did = true;
+        }
+    }
+    did
+}
+
+/// Starts a rule at each worker for which a claim gives one, and answers whether it did anything.
+pub(crate) fn ask_all<B: PoolTerms, F: Commands, S: Site, H: Hall<F>, T: Terms, C: Clock>(
+    company: &mut Company<F, H::Way>,
+    alloc: Global,
+    desk: &mut Desk<F, S, T>,
+    held: &mut Held,
+    hall: &mut H,
+    clock: &C,
+) -> bool
+    requires valid { IsValid desk.old.plan }
+    requires keen { (k : ℕ) → 0 < k → T.keen k → ⊥ }
+    requires manned { IsManned T.trust F.gives F.may_fail T.sources S.tells T.kept (IsSurePool B.fits)
+        S.files S.may_leave S.moment S.images_since desk.old held.old company.old.seats }
+    ensures manned { KeepsManned T.trust F.gives F.may_fail T.sources S.tells T.kept (IsSurePool B.fits)
+        S.files S.may_leave S.moment S.images_since desk.old desk.new
+        held.old held.new company.old.seats company.new.seats }
+    ensures listens { H.listens hall.old → H.listens hall.new }
+    ensures met { Meets (H.count hall.old) (H.count hall.new) (H.got hall.old)
+        (H.got hall.new) (H.given hall.old) (H.given hall.new) (H.idle_count hall.old)
+        (H.idle_count hall.new) (links_in company.old) (links_in company.new)
+        company.old.failed company.new.failed company.old.lost company.new.lost }
+{
+    let mut did = false;
+    for at in 0..company.seats.len() {
+        if ask::<B, F, S, H, T, C>(company, alloc, desk, held, hall, at, clock) {
+            did = true;
+        }
+    }
+    did
+}

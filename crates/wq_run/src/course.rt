@@ -1,0 +1,101 @@
+//! A run with workers, from its first claim to its end.
+ghost use Rattle.std.specs.Prelude.{◌≡◌, ◌≤◌, ◌<◌, ◌-◌, ℕ, List, length, sum_by, IfOk, OnOk};
+ghost use Rattle.std.specs.Prelude.{None, false};
+ghost use Rattle.flow_types.specs.Plans.{IsValid};
+ghost use Rattle.run_history.specs.declared.moves.Move.{Move};
+ghost use Rattle.run_history.specs.Answers.{has_ended};
+ghost use Rattle.run_history.specs.Links.{records_of};
+ghost use Rattle.run_history.specs.Storage.{running_rules};
+ghost use Rattle.worker_pool.specs.Crews.{AllSure};
+ghost use Rattle.desk.specs.State.{IsFine};
+ghost use Rattle.local_run.specs.Course.{GoesOn};
+ghost use Rattle.local_run.specs.Ends.{IsApart, IsWholeRun, RunDamage};
+ghost use Rattle.local_run.specs.Runs.{IsCutRun};
+ghost use Rattle.wq_run.specs.Ends.{AreBack, EndsWaiting, IsSparedRunners, LosesOnLinks, StopsBy};
+
+use crate::company::{Company, disband};
+use crate::rounds::run_all;
+use crate::workers::Workers;
+use desk::{Desk, Terms};
+use links::Hall;
+use local_run::{Halt, Stopped};
+use outside::{Clock, Commands, Fault, Runner, Site};
+use run_history::Check;
+use std::alloc::Global;
+use std::sync::Wait;
+use std::thread::Threads;
+use worker_pool::Gate;
+
+/// Runs the rules that the desk hands out, here and at the workers that come, and ends the run.
+pub fn work<
+    W: Threads + Wait + Sync,
+    G: Gate,
+    F: Commands,
+    S: Site,
+    H: Hall<F>,
+    R: Runner<F>,
+    C: Clock,
+    T: Terms,
+>(
+    rt: &W,
+    alloc: Global,
+    desk: &mut Desk<F, S, T>,
+    hall: &mut H,
+    workers: Workers,
+    runners: &mut [R],
+    gate: &G,
+    clock: &C,
+) -> Result<Check, Stopped>
+    requires some { 0 < length runners.old }
+    requires valid { IsValid desk.old.plan }
+    requires fine { IsFine desk.old.trouble }
+    requires unset { desk.old.stop ≡ None }
+    requires unended { has_ended (records_of desk.old.moves) ≡ false }
+    requires idle { length (running_rules desk.old.plan (records_of desk.old.moves)) ≤ 0 }
+    requires apart { T.trust → ⊥ }
+    requires keen { (k : ℕ) → 0 < k → T.keen k → ⊥ }
+    ensures goes { (links : List Move) × GoesOn T.trust F.gives F.may_fail T.sources S.tells
+        S.files S.may_leave S.moment S.images_since links desk.old desk.new }
+    ensures idle { IsFine desk.new.trouble
+        → length (running_rules desk.new.plan (records_of desk.new.moves)) ≤ 0 }
+    ensures stops { StopsBy desk.new.trouble (sum_by R.count runners.old)
+        (sum_by R.count runners.new) (H.count hall.old) (H.count hall.new) result }
+    ensures later { sum_by R.count runners.old ≤ sum_by R.count runners.new }
+    ensures risen { sum_by R.failures runners.old ≤ sum_by R.failures runners.new }
+    ensures met { H.count hall.old ≤ H.count hall.new }
+    ensures damage { S.tells → IsApart desk.new.plan desk.new.log → RunDamage desk.new.plan
+        (records_of desk.new.moves) (S.files desk.new.site) result }
+    ensures whole { S.tells → T.kept → IsWholeRun result }
+    ensures never { AllSure R.sure runners.old → IsSparedRunners result }
+    ensures lost { OnOk result
+        (LosesOnLinks (records_of desk.old.moves) (records_of desk.new.moves)) }
+    ensures ends { IfOk result (EndsWaiting desk.new.plan desk.new.options workers.limit
+        (H.idle_count hall.new - H.idle_count hall.old) (records_of desk.new.moves)) }
+    ensures back { (IsCutRun result → ⊥)
+        → AreBack (H.got hall.old) (H.got hall.new) (H.given hall.old) (H.given hall.new) }
+{
+    match hall.listen(workers.port) {
+        Ok(()) => {}
+        Err(Fault::Failed) => return Err(Stopped::Hall),
+        Err(Fault::Memory) => return Err(Stopped::Halted(Halt::Memory)),
+    }
+    let mut company = Company::new(alloc);
+    let done = run_all(
+        rt,
+        alloc,
+        desk,
+        &mut company,
+        hall,
+        workers.limit,
+        runners,
+        gate,
+        clock,
+    );
+    disband::<F, H>(&mut company, alloc, hall);
+    let has_lost = company.has_lost();
+    company.end();
+    if has_lost {
+        return Err(Stopped::Halted(Halt::Memory));
+    }
+    done
+}

@@ -1,0 +1,52 @@
+//! The end of a service: nothing is held any more.
+ghost use Rattle.std.specs.Prelude.{◌≡◌, ◌<◌, ℕ, List};
+ghost use Rattle.flow_types.specs.declared.job.Start.{Start as StartValue};
+ghost use Rattle.flow_types.specs.Plans.{IsValid};
+ghost use Rattle.worker_pool.specs.declared.hand.Tally.{Tally};
+ghost use Rattle.desk.specs.State.{DeskState};
+ghost use Rattle.local_run.specs.Underway.{IsSurePool};
+ghost use Rattle.wq_run.specs.Comes.{Finished};
+ghost use Rattle.wq_run.specs.Seats.{IsManned, Manned, Meets, links_in};
+
+use crate::company::{Company, dismiss};
+use desk::{Desk, Terms};
+use links::Hall;
+use local_run::{Halt, Held, settle};
+use outside::{Clock, Commands, Site};
+use std::alloc::Global;
+use worker_pool::Terms as PoolTerms;
+
+/// Gives up what is still held, here or at a worker, which is something only where memory was
+/// wanting, and tells why the run stopped.
+pub(crate) fn finish<B: PoolTerms, F: Commands, S: Site, H: Hall<F>, T: Terms, C: Clock>(
+    alloc: Global,
+    desk: &mut Desk<F, S, T>,
+    held: Held,
+    company: &mut Company<F, H::Way>,
+    hall: &mut H,
+    clock: &C,
+) -> Result<(), Halt>
+    requires valid { IsValid desk.old.plan }
+    requires keen { (k : ℕ) → 0 < k → T.keen k → ⊥ }
+    requires manned { IsManned T.trust F.gives F.may_fail T.sources S.tells T.kept (IsSurePool B.fits)
+        S.files S.may_leave S.moment S.images_since desk.old held company.old.seats }
+    ensures ended { (first : DeskState S) (waiting : List StartValue) (heard : Tally)
+        → Manned T.trust F.gives F.may_fail T.sources S.tells T.kept (IsSurePool B.fits)
+        S.files S.may_leave S.moment S.images_since first desk.old held waiting heard
+        company.old.seats
+        → Finished T.trust F.gives F.may_fail T.sources S.tells T.kept (IsSurePool B.fits)
+        S.files S.may_leave S.moment S.images_since first desk.new heard
+        company.new.seats result }
+    ensures listens { H.listens hall.old → H.listens hall.new }
+    ensures met { Meets (H.count hall.old) (H.count hall.new) (H.got hall.old)
+        (H.got hall.new) (H.given hall.old) (H.given hall.new) (H.idle_count hall.old)
+        (H.idle_count hall.new) (links_in company.old) (links_in company.new)
+        company.old.failed company.new.failed company.old.lost company.new.lost }
+{
+    let mut held = held;
+    if company.is_idle() {
+        return settle::<B, F, S, T, C>(desk, held, clock);
+    }
+    dismiss::<B, F, S, H, T, C>(company, alloc, desk, &mut held, hall, clock);
+    settle::<B, F, S, T, C>(desk, held, clock)
+}

@@ -1,0 +1,17 @@
+//! A run whose rules run here and at workers.
+//!
+//! The caller's thread alone calls the desk, and has every peer: it hears what they tell and closes
+//! their attempts, claims for each of them, and lets in who comes.
+#![tactic(auto)]
+
+mod company;
+mod course;
+mod finishing;
+mod rounds;
+mod seat;
+mod serving;
+mod waiting;
+mod workers;
+
+pub use course::work;
+pub use workers::Workers;

@@ -1,0 +1,261 @@
+//! The rounds of a run with workers, until it ends.
+ghost use Rattle.std.specs.Prelude.{◌≡◌, ◌≤◌, ◌<◌, [], ℕ, length, sum_by, Some, false, true};
+ghost use Rattle.flow_types.specs.Plans.{IsValid};
+ghost use Rattle.run_history.specs.declared.answers.Stop.TheVariants as stops;
+ghost use Rattle.run_history.specs.Answers.{has_ended, is_in_vain};
+ghost use Rattle.run_history.specs.Links.{records_of};
+ghost use Rattle.run_history.specs.Storage.{running_rules};
+ghost use Rattle.worker_pool.specs.Crews.{AllSure};
+ghost use Rattle.desk.specs.State.{IsFine};
+ghost use Rattle.wq_run.specs.Ends.{IsOver};
+ghost use Rattle.wq_run.specs.Seats.{AreSeats, Meets, gathered, links_in};
+ghost use Rattle.wq_run.specs.Works.{EndsNow, IsOn, Rounds, Works, with_check};
+
+use crate::company::Company;
+use crate::serving::serve_all;
+use crate::waiting::wait;
+use desk::{Desk, EndRefused, Terms};
+use links::Hall;
+use local_run::{Halt, Stopped};
+use outside::{Clock, Commands, Runner, Site};
+use run_history::{Check, Stop};
+use std::alloc::Global;
+use std::marker::Brand;
+use std::sync::Wait;
+use std::thread::Threads;
+use worker_pool::Gate;
+
+/// What a round of a run tells.
+pub(crate) enum Turn {
+    /// The run has ended.
+    Over(Check),
+    /// So often nobody came while nothing could be done.
+    Vain(u64),
+    /// It goes on.
+    Again,
+}
+
+/// Whether a run that is answered so has come to its end.
+fn is_over(check: Check) -> bool
+    ensures over { result ≡ true → IsOver check }
+    ensures goes { result ≡ false → IsOver check → ⊥ }
+{
+    match check {
+        Check::Going => false,
+        Check::Halted => false,
+        Check::Complete { .. } => true,
+        Check::CommandFailed { .. } => true,
+        Check::InputsTooLarge { .. } => true,
+        Check::NoRoom { .. } => true,
+        Check::LogFull { .. } => true,
+        Check::Waited(_) => true,
+    }
+}
+
+/// Ends the run, if it doesn't go on.
+fn end<F: Commands, S: Site, T: Terms, C: Clock>(
+    desk: &mut Desk<F, S, T>,
+    clock: &C,
+) -> Result<Option<Check>, Stopped>
+    requires fine { IsFine desk.old.trouble }
+    requires unended { has_ended (records_of desk.old.moves) ≡ false }
+    requires idle { length (running_rules desk.old.plan (records_of desk.old.moves)) ≤ 0 }
+    ensures ended { EndsNow T.trust F.gives F.may_fail T.sources S.tells T.kept S.files
+        S.may_leave S.moment S.images_since desk.old desk.new result }
+{
+    let _works = desk.works();
+    match desk.end(clock.now()) {
+        Ok(check) => {
+            if is_over(check) {
+                return Ok(Some(check));
+            }
+            Ok(None)
+        }
+        Err(EndRefused::Broken { .. }) => Err(Stopped::Halted(Halt::Site)),
+        Err(EndRefused::Memory) => Err(Stopped::Halted(Halt::Memory)),
+    }
+}
+
+/// Waits for workers, and tells how often nobody came if that was too often.
+fn wait_round<W: Wait, F: Commands, S: Site, H: Hall<F>, C: Clock, T: Terms>(
+    rt: &W,
+    alloc: Global,
+    desk: &mut Desk<F, S, T>,
+    company: &mut Company<F, H::Way>,
+    hall: &mut H,
+    limit: u32,
+    clock: &C,
+) -> Result<Turn, Stopped>
+    requires valid { IsValid desk.old.plan }
+    requires on { IsOn desk.old }
+    requires idle { length (running_rules desk.old.plan (records_of desk.old.moves)) ≤ 0 }
+    requires apart { T.trust → ⊥ }
+    requires keen { (k : ℕ) → 0 < k → T.keen k → ⊥ }
+    requires listens { H.listens hall.old }
+    requires seats { AreSeats desk.old.plan desk.old.options desk.old.moves company.old.seats }
+    requires none { gathered company.old.seats ≡ [] }
+    ensures rounds { (n m : ℕ) → Rounds T.trust F.gives F.may_fail T.sources
+        S.tells T.kept (Unit {0}) S.files S.may_leave S.moment S.images_since limit desk.old desk.new
+        n n m m (H.count hall.old) (H.count hall.new) (H.idle_count hall.old)
+        (H.idle_count hall.new) result }
+    ensures listens { H.listens hall.new }
+    ensures seats { AreSeats desk.new.plan desk.new.options desk.new.moves company.new.seats }
+    ensures none { gathered company.new.seats ≡ [] }
+    ensures met { Meets (H.count hall.old) (H.count hall.new) (H.got hall.old)
+        (H.got hall.new) (H.given hall.old) (H.given hall.new) (H.idle_count hall.old)
+        (H.idle_count hall.new) (links_in company.old) (links_in company.new)
+        company.old.failed company.new.failed company.old.lost company.new.lost }
+{
+    let before = hall.idles();
+    match wait::<Brand, W, F, S, H, T, C>(rt, alloc, desk, company, hall, limit, clock) {
+        Ok(()) => {}
+        Err(halt) => return Err(Stopped::Halted(halt)),
+    }
+    let idles = hall.idles() - before;
+    if idles >= u64::from(limit) {
+        return Ok(Turn::Vain(idles));
+    }
+    Ok(Turn::Again)
+}
+
+/// Runs what can be run, and ends the run or waits for workers.
+fn go_round<
+    W: Threads + Wait + Sync,
+    G: Gate,
+    F: Commands,
+    S: Site,
+    H: Hall<F>,
+    R: Runner<F>,
+    C: Clock,
+    T: Terms,
+>(
+    rt: &W,
+    alloc: Global,
+    desk: &mut Desk<F, S, T>,
+    company: &mut Company<F, H::Way>,
+    hall: &mut H,
+    limit: u32,
+    runners: &mut [R],
+    gate: &G,
+    clock: &C,
+) -> Result<Turn, Stopped>
+    requires some { 0 < length runners.old }
+    requires valid { IsValid desk.old.plan }
+    requires on { IsOn desk.old }
+    requires idle { length (running_rules desk.old.plan (records_of desk.old.moves)) ≤ 0 }
+    requires apart { T.trust → ⊥ }
+    requires keen { (k : ℕ) → 0 < k → T.keen k → ⊥ }
+    requires listens { H.listens hall.old }
+    requires seats { AreSeats desk.old.plan desk.old.options desk.old.moves company.old.seats }
+    requires none { gathered company.old.seats ≡ [] }
+    ensures rounds { (n : ℕ) → n ≤ H.count hall.old → (company.old.failed ≡ true
+        → n < H.count hall.old) → Rounds T.trust F.gives F.may_fail T.sources S.tells T.kept
+        (AllSure R.sure runners.old) S.files S.may_leave S.moment S.images_since limit desk.old
+        desk.new (sum_by R.count runners.old) (sum_by R.count runners.new)
+        (sum_by R.failures runners.old) (sum_by R.failures runners.new)
+        n (H.count hall.new) (H.idle_count hall.old) (H.idle_count hall.new) result }
+    ensures sure { AllSure R.sure runners.old → AllSure R.sure runners.new }
+    ensures seats { AreSeats desk.new.plan desk.new.options desk.new.moves company.new.seats }
+    ensures none { gathered company.new.seats ≡ [] }
+    ensures met { Meets (H.count hall.old) (H.count hall.new) (H.got hall.old)
+        (H.got hall.new) (H.given hall.old) (H.given hall.new) (H.idle_count hall.old)
+        (H.idle_count hall.new) (links_in company.old) (links_in company.new)
+        company.old.failed company.new.failed company.old.lost company.new.lost }
+    ensures listens { H.listens hall.new }
+{
+    match serve_all(rt, alloc, desk, company, hall, limit, runners, gate, clock) {
+        Ok(()) => {}
+        Err(halt) => return Err(Stopped::Halted(halt)),
+    }
+    if company.has_lost() {
+        return Err(Stopped::Halted(Halt::Memory));
+    }
+    if company.has_failed() {
+        return Err(Stopped::Hall);
+    }
+    match end(desk, clock) {
+        Ok(Some(check)) => return Ok(Turn::Over(check)),
+        Ok(None) => {}
+        Err(why) => return Err(why),
+    }
+    wait_round::<W, F, S, H, C, T>(rt, alloc, desk, company, hall, limit, clock)
+}
+
+/// The last end of a run in which waiting was in vain.
+fn end_waiting<F: Commands, S: Site, T: Terms, C: Clock>(
+    desk: &mut Desk<F, S, T>,
+    clock: &C,
+) -> Result<Check, Stopped>
+    requires fine { IsFine desk.old.trouble }
+    requires unended { has_ended (records_of desk.old.moves) ≡ false }
+    requires idle { length (running_rules desk.old.plan (records_of desk.old.moves)) ≤ 0 }
+    requires vain { (n : ℕ) × (desk.old.stop ≡ Some (stops.Waited n))
+        × (is_in_vain desk.old.plan desk.old.options desk.old.moves ≡ true) }
+    ensures ended { EndsNow T.trust F.gives F.may_fail T.sources S.tells T.kept S.files
+        S.may_leave S.moment S.images_since desk.old desk.new (with_check result) }
+{
+    match end(desk, clock) {
+        Ok(Some(check)) => Ok(check),
+        Ok(None) => unreachable!(),
+        Err(why) => Err(why),
+    }
+}
+
+/// Rounds until the run ends.
+pub(crate) fn run_all<
+    W: Threads + Wait + Sync,
+    G: Gate,
+    F: Commands,
+    S: Site,
+    H: Hall<F>,
+    R: Runner<F>,
+    C: Clock,
+    T: Terms,
+>(
+    rt: &W,
+    alloc: Global,
+    desk: &mut Desk<F, S, T>,
+    company: &mut Company<F, H::Way>,
+    hall: &mut H,
+    limit: u32,
+    runners: &mut [R],
+    gate: &G,
+    clock: &C,
+) -> Result<Check, Stopped>
+    requires some { 0 < length runners.old }
+    requires valid { IsValid desk.old.plan }
+    requires on { IsOn desk.old }
+    requires idle { length (running_rules desk.old.plan (records_of desk.old.moves)) ≤ 0 }
+    requires apart { T.trust → ⊥ }
+    requires keen { (k : ℕ) → 0 < k → T.keen k → ⊥ }
+    requires listens { H.listens hall.old }
+    requires seats { AreSeats desk.old.plan desk.old.options desk.old.moves company.old.seats }
+    requires none { gathered company.old.seats ≡ [] }
+    requires going { company.old.failed ≡ false }
+    ensures works { (n : ℕ) → n ≤ H.count hall.old → (company.old.failed ≡ true
+        → n < H.count hall.old) → Works T.trust F.gives F.may_fail T.sources S.tells T.kept
+        (AllSure R.sure runners.old) S.files S.may_leave S.moment S.images_since limit desk.old
+        desk.new (sum_by R.count runners.old) (sum_by R.count runners.new)
+        (sum_by R.failures runners.old) (sum_by R.failures runners.new)
+        n (H.count hall.new) (H.idle_count hall.old) (H.idle_count hall.new) result }
+    ensures seats { AreSeats desk.new.plan desk.new.options desk.new.moves company.new.seats }
+    ensures none { gathered company.new.seats ≡ [] }
+    ensures met { Meets (H.count hall.old) (H.count hall.new) (H.got hall.old)
+        (H.got hall.new) (H.given hall.old) (H.given hall.new) (H.idle_count hall.old)
+        (H.idle_count hall.new) (links_in company.old) (links_in company.new)
+        company.old.failed company.new.failed company.old.lost company.new.lost }
+{
+    for _ in rt.forever() {
+        match go_round(rt, alloc, desk, company, hall, limit, runners, gate, clock) {
+            Ok(Turn::Over(check)) => return Ok(check),
+            Ok(Turn::Vain(idles)) => {
+                if desk.stop(Stop::Waited { idles }) {
+                    return end_waiting(desk, clock);
+                }
+            }
+            Ok(Turn::Again) => {}
+            Err(why) => return Err(why),
+        }
+    }
+    unreachable!()
+}

@@ -1,0 +1,291 @@
+//! What a worker is asked to do.
+ghost use Rattle.std.specs.Prelude.{◌≡◌, ◌≤◌, ◌<◌, ◌∷◌, ◌++◌, [], ℕ, List, None, Some, length};
+ghost use Rattle.std.specs.Prelude.{IfSome, OnErr, OnOk, false};
+ghost use Rattle.std.specs.List.{AllByRecursion};
+ghost use Rattle.flow_types.specs.declared.messages.Message.TheVariants as messages;
+ghost use Rattle.flow_types.specs.Plans.{IsValid};
+ghost use Rattle.run_history.specs.Links.{records_of};
+ghost use Rattle.wq_messages.specs.Spelling.{HasCounts, most_body, spelling};
+ghost use Rattle.desk.specs.declared.attempt.Attempt.{Attempt as AttemptValue};
+ghost use Rattle.desk.specs.Tasks.{task_of};
+ghost use Rattle.link_session.specs.Sessions.{is_open, started};
+ghost use Rattle.local_run.specs.Underway.{IsHeld, IsSurePool};
+ghost use Rattle.wq_run.specs.Seats.{IsAtSeat, IsInside, SeatAfter, seat_with};
+
+use super::Seat;
+use desk::{Attempt, Claim, Desk, Terms};
+use flow_types::{AttemptNo, FileNo, Key, Memory, Rows, Task};
+use links::Link;
+use local_run::{Halt, Held, claim_away, lose_away, read_away};
+use outside::{Clock, Commands, Site};
+use peers::Leave;
+use std::alloc::Global;
+use worker_pool::Terms as PoolTerms;
+
+/// The most bytes of a file.
+const MOST_BYTES: usize = 67_108_864;
+
+// The task of an attempt among these, where memory suffices.
+fn task_at<F: Commands, S: Site, T: Terms>(
+    alloc: Global,
+    desk: &Desk<F, S, T>,
+    attempts: &[Attempt],
+    number: AttemptNo,
+) -> Option<Task>
+    requires valid { IsValid desk.now.plan }
+    requires inside { AllByRecursion (IsInside desk.now.plan) attempts.now }
+    ensures of { IfSome result (λ task. (front : List AttemptValue) × (a : AttemptValue)
+        × (back : List AttemptValue) × (attempts.now ≡ front ++ a ∷ back)
+        × (a.number ≡ number)
+        × (task_of desk.now.plan (records_of desk.now.moves) a ≡ Some task)) }
+    ensures counts { IfSome result (λ task. HasCounts (messages.Task task)) }
+    ensures short { IfSome result
+        (λ task. length (spelling (messages.Task task)) ≤ most_body) }
+{
+    let at = super::place(attempts, number)?;
+    let attempt = attempts.get(at)?;
+    desk.task(alloc, attempt).ok()
+}
+
+impl<F: Commands, L: Link<F>> Seat<F, L> {
+    // The task of an attempt that runs there, where memory suffices.
+    fn task<S: Site, T: Terms>(
+        &self,
+        alloc: Global,
+        desk: &Desk<F, S, T>,
+        number: AttemptNo,
+    ) -> Option<Task>
+        requires valid { IsValid desk.now.plan }
+        requires inside { AllByRecursion (IsInside desk.now.plan) self.now.attempts }
+        ensures of { IfSome result (λ task. (front : List AttemptValue) × (a : AttemptValue)
+            × (back : List AttemptValue) × (self.now.attempts ≡ front ++ a ∷ back)
+            × (a.number ≡ number)
+            × (task_of desk.now.plan (records_of desk.now.moves) a ≡ Some task)) }
+        ensures counts { IfSome result (λ task. HasCounts (messages.Task task)) }
+        ensures short { IfSome result
+            (λ task. length (spelling (messages.Task task)) ≤ most_body) }
+    {
+        task_at(alloc, desk, self.attempts.as_slice(), number)
+    }
+
+    // Sends a content, which is no larger than a file may be.
+    fn send(&mut self, alloc: Global, key: Key, content: &[u8]) -> Result<(), Leave>
+        ensures link { self.new.link ≡ self.old.link }
+        ensures attempts { self.new.attempts ≡ self.old.attempts }
+        ensures session { self.new.peer.session ≡ self.old.peer.session }
+        ensures feed { self.new.peer.feed ≡ self.old.peer.feed }
+    {
+        if content.len() > MOST_BYTES {
+            return Err(Leave::Unexpected);
+        }
+        self.peer.put(alloc, key, content)
+    }
+
+    // Asks for a task.
+    fn ask(&mut self, alloc: Global, task: Task) -> Result<(), Leave>
+        requires counts { HasCounts (messages.Task task) }
+        requires short { length (spelling (messages.Task task)) ≤ most_body }
+        ensures link { self.new.link ≡ self.old.link }
+        ensures attempts { self.new.attempts ≡ self.old.attempts }
+        ensures session { self.new.peer.session ≡ self.old.peer.session }
+        ensures feed { self.new.peer.feed ≡ self.old.peer.feed }
+    {
+        self.peer.ask(alloc, task)
+    }
+
+    // Opens a task at the peer, and gives the inputs that the peer lacks.
+    fn open(&mut self, task: &Task) -> Result<Rows<FileNo>, Memory>
+        requires fresh { is_open task.now.attempt self.old.peer.session.attempts ≡ false }
+        ensures link { self.new.link ≡ self.old.link }
+        ensures attempts { self.new.attempts ≡ self.old.attempts }
+        ensures feed { self.new.peer.feed ≡ self.old.peer.feed }
+        ensures ok { OnOk result
+            (self.new.peer.session ≡ started self.old.peer.session task.now) }
+        ensures err { OnErr result (self.new.peer.session ≡ self.old.peer.session) }
+    {
+        self.peer.open(task)
+    }
+
+    // Puts a file at the peer, as it was logged. Where it can't be read the run stops.
+    fn put<B: PoolTerms, S: Site, T: Terms>(
+        &mut self,
+        alloc: Global,
+        desk: &mut Desk<F, S, T>,
+        held: &mut Held,
+        run: u64,
+        file: FileNo,
+    ) -> Result<(), Leave>
+        requires at { IsAtSeat T.trust F.gives F.may_fail T.sources S.tells T.kept
+            (IsSurePool B.fits) S.files S.may_leave S.moment S.images_since desk.old held.old
+            self.old }
+        ensures keeps { SeatAfter T.trust F.gives F.may_fail T.sources S.tells T.kept
+            (IsSurePool B.fits) S.files S.may_leave S.moment S.images_since desk.old desk.new
+            held.old held.new self.old self.new
+            result }
+    {
+        if !held.is_going() {
+            return Ok(());
+        }
+        if !desk.present(file) {
+            return Err(Leave::Unexpected);
+        }
+        match read_away::<B, F, S, T>(alloc, desk, file) {
+            Ok(content) => self.send(alloc, Key { run, file }, content.as_slice()),
+            Err(why) => {
+                held.stop(why);
+                Ok(())
+            }
+        }
+    }
+
+    // Puts these files at the peer, and then asks it for the task.
+    fn provide<B: PoolTerms, S: Site, T: Terms>(
+        &mut self,
+        alloc: Global,
+        desk: &mut Desk<F, S, T>,
+        held: &mut Held,
+        task: Task,
+        files: &[FileNo],
+    ) -> Result<(), Leave>
+        requires counts { HasCounts (messages.Task task) }
+        requires short { length (spelling (messages.Task task)) ≤ most_body }
+        requires at { IsAtSeat T.trust F.gives F.may_fail T.sources S.tells T.kept
+            (IsSurePool B.fits) S.files S.may_leave S.moment S.images_since desk.old held.old
+            self.old }
+        ensures keeps { SeatAfter T.trust F.gives F.may_fail T.sources S.tells T.kept
+            (IsSurePool B.fits) S.files S.may_leave S.moment S.images_since desk.old desk.new
+            held.old held.new self.old self.new
+            result }
+    {
+        for file in files {
+            match self.put::<B, S, T>(alloc, desk, held, task.run, *file) {
+                Ok(()) => {}
+                Err(leave) => return Err(leave),
+            }
+        }
+        if !held.is_going() {
+            return Ok(());
+        }
+        self.ask(alloc, task)
+    }
+
+    // Puts inputs of an attempt once more, and asks for its task once more.
+    pub(super) fn put_again<B: PoolTerms, S: Site, T: Terms>(
+        &mut self,
+        alloc: Global,
+        desk: &mut Desk<F, S, T>,
+        held: &mut Held,
+        number: AttemptNo,
+        files: &[FileNo],
+    ) -> Result<(), Leave>
+        requires valid { IsValid desk.old.plan }
+        requires at { IsAtSeat T.trust F.gives F.may_fail T.sources S.tells T.kept
+            (IsSurePool B.fits) S.files S.may_leave S.moment S.images_since desk.old held.old
+            self.old }
+        ensures keeps { SeatAfter T.trust F.gives F.may_fail T.sources S.tells T.kept
+            (IsSurePool B.fits) S.files S.may_leave S.moment S.images_since desk.old desk.new
+            held.old held.new self.old self.new
+            result }
+    {
+        match self.task(alloc, desk, number) {
+            Some(task) => self.provide::<B, S, T>(alloc, desk, held, task, files),
+            None => Err(Leave::Memory),
+        }
+    }
+
+    // Opens the attempt of this number, which has just begun there, and asks for its task.
+    fn start<B: PoolTerms, S: Site, T: Terms>(
+        &mut self,
+        alloc: Global,
+        desk: &mut Desk<F, S, T>,
+        held: &mut Held,
+        number: AttemptNo,
+    ) -> Result<(), Leave>
+        requires valid { IsValid desk.old.plan }
+        requires fresh { is_open number self.old.peer.session.attempts ≡ false }
+        requires at { IsAtSeat T.trust F.gives F.may_fail T.sources S.tells T.kept
+            (IsSurePool B.fits) S.files S.may_leave S.moment S.images_since desk.old held.old
+            self.old }
+        ensures keeps { SeatAfter T.trust F.gives F.may_fail T.sources S.tells T.kept
+            (IsSurePool B.fits) S.files S.may_leave S.moment S.images_since desk.old desk.new
+            held.old held.new self.old self.new
+            result }
+    {
+        let Some(task) = self.task(alloc, desk, number) else {
+            held.stop(Halt::Memory);
+            return Ok(());
+        };
+        match self.open(&task) {
+            Ok(files) => self.provide::<B, S, T>(alloc, desk, held, task, files.as_slice()),
+            Err(_) => {
+                held.stop(Halt::Memory);
+                Ok(())
+            }
+        }
+    }
+
+    // Hands an attempt out that has just begun there.
+    fn hand_out<B: PoolTerms, S: Site, T: Terms, C: Clock>(
+        &mut self,
+        alloc: Global,
+        desk: &mut Desk<F, S, T>,
+        held: &mut Held,
+        attempt: Attempt,
+        clock: &C,
+    ) -> Result<(), Leave>
+        requires valid { IsValid desk.old.plan }
+        requires keen { (k : ℕ) → 0 < k → T.keen k → ⊥ }
+        requires fresh { is_open attempt.number self.old.peer.session.attempts ≡ false }
+        requires at { IsAtSeat T.trust F.gives F.may_fail T.sources S.tells T.kept
+            (IsSurePool B.fits) S.files S.may_leave S.moment S.images_since desk.old held.old
+            (seat_with self.old (self.old.attempts ++ attempt ∷ [])) }
+        ensures keeps { SeatAfter T.trust F.gives F.may_fail T.sources S.tells T.kept
+            (IsSurePool B.fits) S.files S.may_leave S.moment S.images_since desk.old desk.new
+            held.old held.new (seat_with self.old (self.old.attempts ++ attempt ∷ [])) self.new
+            result }
+    {
+        let number = attempt.number();
+        match self.hold(attempt) {
+            Ok(()) => self.start::<B, S, T>(alloc, desk, held, number),
+            Err(back) => {
+                let _ = lose_away::<B, F, S, T>(desk, back, clock.now());
+                held.stop(Halt::Memory);
+                Ok(())
+            }
+        }
+    }
+
+    /// Starts a rule there, if a claim for its link gives one; it answers whether it did anything.
+    pub fn claim<B: PoolTerms, S: Site, T: Terms, C: Clock>(
+        &mut self,
+        alloc: Global,
+        desk: &mut Desk<F, S, T>,
+        held: &mut Held,
+        clock: &C,
+    ) -> Result<bool, Leave>
+        requires valid { IsValid desk.old.plan }
+        requires keen { (k : ℕ) → 0 < k → T.keen k → ⊥ }
+        requires going { held.old.halt ≡ None }
+        requires at { IsAtSeat T.trust F.gives F.may_fail T.sources S.tells T.kept
+            (IsSurePool B.fits) S.files S.may_leave S.moment S.images_since desk.old held.old
+            self.old }
+        ensures keeps { SeatAfter T.trust F.gives F.may_fail T.sources S.tells T.kept
+            (IsSurePool B.fits) S.files S.may_leave S.moment S.images_since desk.old desk.new
+            held.old held.new self.old self.new
+            result }
+    {
+        match claim_away::<B, F, S, T>(desk, self.link(), clock.now()) {
+            Ok(Claim::Taken(attempt)) => {
+                match self.hand_out::<B, S, T, C>(alloc, desk, held, attempt, clock) {
+                    Ok(()) => Ok(true),
+                    Err(leave) => Err(leave),
+                }
+            }
+            Ok(Claim::Nothing(_)) => Ok(false),
+            Err(why) => {
+                held.stop(why);
+                Ok(true)
+            }
+        }
+    }
+}

@@ -1,0 +1,475 @@
+//! The caller's thread of a run with workers, beside those of its runners.
+ghost use Rattle.std.specs.Prelude.{◌≡◌, ◌≤◌, ◌<◌, [], ℕ, List, length, sum_by, true};
+ghost use Rattle.crossbeam_queue.specs.Passes.{view, IsPassOf, IsSamePass};
+ghost use Rattle.flow_types.specs.Plans.{IsValid};
+ghost use Rattle.run_history.specs.Links.{records_of};
+ghost use Rattle.run_history.specs.Storage.{running_rules};
+ghost use Rattle.worker_pool.specs.Courses.{MayReport};
+ghost use Rattle.worker_pool.specs.Crews.{AllSure};
+ghost use Rattle.worker_pool.specs.Hands.{Crew};
+ghost use Rattle.worker_pool.specs.Tallies.{GrowsWith};
+ghost use Rattle.worker_pool.specs.Tickets.{fresh};
+ghost use Rattle.desk.specs.State.{IsFine};
+ghost use Rattle.local_run.specs.Underway.{IsShapedPool, IsSurePool, IsWantHalt};
+ghost use Rattle.wq_run.specs.Comes.{ComesOn};
+ghost use Rattle.wq_run.specs.Seats.{AreSeats, IsServed, KeepsServed, Meets};
+ghost use Rattle.wq_run.specs.Seats.{gathered, links_in};
+
+use crate::company::{Company, ask_all, dismiss, round};
+use crate::finishing::finish;
+use desk::{Desk, Terms};
+use links::Hall;
+use local_run::{Halt, Held, call_beside, go_on, hear};
+use outside::{Clock, Commands, Runner, Site};
+use std::alloc::Global;
+use std::marker::Brand;
+use std::sync::Wait;
+use std::thread::Threads;
+use worker_pool::{Gate, Line, Pool, Terms as PoolTerms, Ticket, Tickets, Token, new_tickets};
+
+/// Starts what claims give, here and at workers, if the desk has news since none did. It answers
+/// whether it did anything.
+fn start_more<B: PoolTerms, W: Wait, F: Commands, S: Site, H: Hall<F>, T: Terms, C: Clock>(
+    rt: &W,
+    alloc: Global,
+    desk: &mut Desk<F, S, T>,
+    held: &mut Held,
+    pool: &mut Pool<B>,
+    company: &mut Company<F, H::Way>,
+    hall: &mut H,
+    most: usize,
+    clock: &C,
+) -> bool
+    requires valid { IsValid desk.old.plan }
+    requires apart { T.trust → ⊥ }
+    requires keen { (k : ℕ) → 0 < k → T.keen k → ⊥ }
+    requires shaped { IsShapedPool B.fits }
+    requires listens { H.listens hall.old }
+    requires most { (0 < most) × (most ≤ 64) }
+    requires served { IsServed T.trust F.gives F.may_fail T.sources S.tells T.kept (IsSurePool B.fits)
+        S.files S.may_leave S.moment S.images_since desk.old held.old
+        pool.old.waiting pool.old.heard company.old.seats }
+    ensures served { KeepsServed T.trust F.gives F.may_fail T.sources S.tells T.kept (IsSurePool B.fits)
+        S.files S.may_leave S.moment S.images_since desk.old desk.new
+        held.old held.new pool.old.waiting pool.new.waiting pool.old.heard pool.new.heard
+        company.old.seats company.new.seats }
+    ensures line { pool.new.line ≡ pool.old.line }
+    ensures listens { H.listens hall.new }
+    ensures met { Meets (H.count hall.old) (H.count hall.new) (H.got hall.old)
+        (H.got hall.new) (H.given hall.old) (H.given hall.new) (H.idle_count hall.old)
+        (H.idle_count hall.new) (links_in company.old) (links_in company.new)
+        company.old.failed company.new.failed company.old.lost company.new.lost }
+{
+    if !company.has_news(desk.moves_made()) {
+        return false;
+    }
+    if go_on(rt, alloc, desk, held, pool, most, clock) {
+        return true;
+    }
+    if ask_all::<B, F, S, H, T, C>(company, alloc, desk, held, hall, clock) {
+        return true;
+    }
+    company.rest_at(desk.moves_made());
+    false
+}
+
+/// Starts what can be, or hears what ended, here or at workers, or lets in who has come. It answers
+/// whether there was anything to do.
+fn turn<B: PoolTerms, W: Wait, F: Commands, S: Site, H: Hall<F>, T: Terms, C: Clock>(
+    rt: &W,
+    alloc: Global,
+    desk: &mut Desk<F, S, T>,
+    held: &mut Held,
+    pool: &mut Pool<B>,
+    company: &mut Company<F, H::Way>,
+    hall: &mut H,
+    most: usize,
+    limit: u32,
+    clock: &C,
+) -> bool
+    requires valid { IsValid desk.old.plan }
+    requires apart { T.trust → ⊥ }
+    requires keen { (k : ℕ) → 0 < k → T.keen k → ⊥ }
+    requires shaped { IsShapedPool B.fits }
+    requires listens { H.listens hall.old }
+    requires most { (0 < most) × (most ≤ 64) }
+    requires served { IsServed T.trust F.gives F.may_fail T.sources S.tells T.kept (IsSurePool B.fits)
+        S.files S.may_leave S.moment S.images_since desk.old held.old
+        pool.old.waiting pool.old.heard company.old.seats }
+    ensures served { KeepsServed T.trust F.gives F.may_fail T.sources S.tells T.kept (IsSurePool B.fits)
+        S.files S.may_leave S.moment S.images_since desk.old desk.new
+        held.old held.new pool.old.waiting pool.new.waiting pool.old.heard pool.new.heard
+        company.old.seats company.new.seats }
+    ensures line { pool.new.line ≡ pool.old.line }
+    ensures listens { H.listens hall.new }
+    ensures met { Meets (H.count hall.old) (H.count hall.new) (H.got hall.old)
+        (H.got hall.new) (H.given hall.old) (H.given hall.new) (H.idle_count hall.old)
+        (H.idle_count hall.new) (links_in company.old) (links_in company.new)
+        company.old.failed company.new.failed company.old.lost company.new.lost }
+{
+    if start_more::<B, W, F, S, H, T, C>(rt, alloc, desk, held, pool, company, hall, most, clock) {
+        return true;
+    }
+    if hear(desk, held, pool, clock) {
+        return true;
+    }
+    round::<B, F, S, H, T, C>(company, alloc, desk, held, hall, limit, clock)
+}
+
+/// Once the run has stopped, lets the workers go and hears what runs here. It answers whether
+/// nothing does.
+fn wind_down<B: PoolTerms, W: Wait, F: Commands, S: Site, H: Hall<F>, T: Terms, C: Clock>(
+    rt: &W,
+    alloc: Global,
+    desk: &mut Desk<F, S, T>,
+    held: &mut Held,
+    pool: &mut Pool<B>,
+    company: &mut Company<F, H::Way>,
+    hall: &mut H,
+    most: usize,
+    seen: u64,
+    clock: &C,
+) -> bool
+    requires valid { IsValid desk.old.plan }
+    requires apart { T.trust → ⊥ }
+    requires keen { (k : ℕ) → 0 < k → T.keen k → ⊥ }
+    requires shaped { IsShapedPool B.fits }
+    requires listens { H.listens hall.old }
+    requires most { (0 < most) × (most ≤ 64) }
+    requires served { IsServed T.trust F.gives F.may_fail T.sources S.tells T.kept (IsSurePool B.fits)
+        S.files S.may_leave S.moment S.images_since desk.old held.old
+        pool.old.waiting pool.old.heard company.old.seats }
+    ensures served { KeepsServed T.trust F.gives F.may_fail T.sources S.tells T.kept (IsSurePool B.fits)
+        S.files S.may_leave S.moment S.images_since desk.old desk.new
+        held.old held.new pool.old.waiting pool.new.waiting pool.old.heard pool.new.heard
+        company.old.seats company.new.seats }
+    ensures line { pool.new.line ≡ pool.old.line }
+    ensures listens { H.listens hall.new }
+    ensures met { Meets (H.count hall.old) (H.count hall.new) (H.got hall.old)
+        (H.got hall.new) (H.given hall.old) (H.given hall.new) (H.idle_count hall.old)
+        (H.idle_count hall.new) (links_in company.old) (links_in company.new)
+        company.old.failed company.new.failed company.old.lost company.new.lost }
+    ensures over { result ≡ true → pool.new.waiting ≡ [] }
+{
+    dismiss::<B, F, S, H, T, C>(company, alloc, desk, held, hall, clock);
+    if pool.out() == 0 {
+        return true;
+    }
+    if !hear(desk, held, pool, clock) {
+        pool.rest(rt, seen);
+    }
+    false
+}
+
+/// Starts rules here and at workers, and hears how they ended, until nothing runs and a claim gives
+/// no rule. Once the run stopped nothing more is started, what runs at workers is given up, and
+/// what runs here is heard out.
+fn serve<B: PoolTerms, W: Wait, F: Commands, S: Site, H: Hall<F>, T: Terms, C: Clock>(
+    rt: &W,
+    alloc: Global,
+    desk: &mut Desk<F, S, T>,
+    held: &mut Held,
+    pool: &mut Pool<B>,
+    company: &mut Company<F, H::Way>,
+    hall: &mut H,
+    most: usize,
+    limit: u32,
+    clock: &C,
+)
+    requires valid { IsValid desk.old.plan }
+    requires apart { T.trust → ⊥ }
+    requires keen { (k : ℕ) → 0 < k → T.keen k → ⊥ }
+    requires shaped { IsShapedPool B.fits }
+    requires listens { H.listens hall.old }
+    requires most { (0 < most) × (most ≤ 64) }
+    requires served { IsServed T.trust F.gives F.may_fail T.sources S.tells T.kept (IsSurePool B.fits)
+        S.files S.may_leave S.moment S.images_since desk.old held.old
+        pool.old.waiting pool.old.heard company.old.seats }
+    ensures served { KeepsServed T.trust F.gives F.may_fail T.sources S.tells T.kept (IsSurePool B.fits)
+        S.files S.may_leave S.moment S.images_since desk.old desk.new
+        held.old held.new pool.old.waiting pool.new.waiting pool.old.heard pool.new.heard
+        company.old.seats company.new.seats }
+    ensures line { pool.new.line ≡ pool.old.line }
+    ensures listens { H.listens hall.new }
+    ensures met { Meets (H.count hall.old) (H.count hall.new) (H.got hall.old)
+        (H.got hall.new) (H.given hall.old) (H.given hall.new) (H.idle_count hall.old)
+        (H.idle_count hall.new) (links_in company.old) (links_in company.new)
+        company.old.failed company.new.failed company.old.lost company.new.lost }
+    ensures heard { (IsWantHalt held.new.halt → ⊥) → pool.new.waiting ≡ [] }
+{
+    for _ in rt.forever() {
+        let Some(seen) = pool.seen() else {
+            held.stop(Halt::Memory);
+            return;
+        };
+        if !held.is_going() || !company.is_going() {
+            if wind_down::<B, W, F, S, H, T, C>(
+                rt, alloc, desk, held, pool, company, hall, most, seen, clock,
+            ) {
+                return;
+            }
+            continue;
+        }
+        if turn::<B, W, F, S, H, T, C>(
+            rt, alloc, desk, held, pool, company, hall, most, limit, clock,
+        ) {
+            continue;
+        }
+        if pool.out() == 0 && company.is_idle() {
+            return;
+        }
+    }
+    unreachable!()
+}
+
+/// As `serve`, and then ends the waits of the runners.
+fn serve_and_close<B: PoolTerms, W: Wait, F: Commands, S: Site, H: Hall<F>, T: Terms, C: Clock>(
+    rt: &W,
+    alloc: Global,
+    desk: &mut Desk<F, S, T>,
+    held: &mut Held,
+    pool: &mut Pool<B>,
+    company: &mut Company<F, H::Way>,
+    hall: &mut H,
+    most: usize,
+    limit: u32,
+    clock: &C,
+)
+    requires valid { IsValid desk.old.plan }
+    requires apart { T.trust → ⊥ }
+    requires keen { (k : ℕ) → 0 < k → T.keen k → ⊥ }
+    requires shaped { IsShapedPool B.fits }
+    requires listens { H.listens hall.old }
+    requires most { (0 < most) × (most ≤ 64) }
+    requires served { IsServed T.trust F.gives F.may_fail T.sources S.tells T.kept (IsSurePool B.fits)
+        S.files S.may_leave S.moment S.images_since desk.old held.old
+        pool.old.waiting pool.old.heard company.old.seats }
+    ensures served { KeepsServed T.trust F.gives F.may_fail T.sources S.tells T.kept (IsSurePool B.fits)
+        S.files S.may_leave S.moment S.images_since desk.old desk.new
+        held.old held.new pool.old.waiting pool.new.waiting pool.old.heard pool.new.heard
+        company.old.seats company.new.seats }
+    ensures line { pool.new.line ≡ pool.old.line }
+    ensures listens { H.listens hall.new }
+    ensures met { Meets (H.count hall.old) (H.count hall.new) (H.got hall.old)
+        (H.got hall.new) (H.given hall.old) (H.given hall.new) (H.idle_count hall.old)
+        (H.idle_count hall.new) (links_in company.old) (links_in company.new)
+        company.old.failed company.new.failed company.old.lost company.new.lost }
+    ensures heard { (IsWantHalt held.new.halt → ⊥) → pool.new.waiting ≡ [] }
+{
+    serve::<B, W, F, S, H, T, C>(
+        rt, alloc, desk, held, pool, company, hall, most, limit, clock,
+    );
+    pool.close();
+}
+
+/// The caller's thread beside those of the runners, until all have ended.
+fn serve_beside<
+    B: PoolTerms + Send + Sync,
+    W: Threads + Wait + Sync,
+    G: Gate,
+    F: Commands,
+    S: Site,
+    H: Hall<F>,
+    R: Runner<F>,
+    C: Clock,
+    T: Terms,
+>(
+    rt: &W,
+    alloc: Global,
+    line: &Line<B>,
+    token: &mut Token,
+    desk: &mut Desk<F, S, T>,
+    held: &mut Held,
+    pool: &mut Pool<B>,
+    company: &mut Company<F, H::Way>,
+    hall: &mut H,
+    limit: u32,
+    runners: &mut [R],
+    gate: &G,
+    clock: &C,
+)
+    requires some { 0 < length runners.old }
+    requires token { IsPassOf line.now.reports token.old
+        × (length runners.old ≤ (view token.old).parts) }
+    requires runners { Crew (MayReport F.gives F.may_fail R.tells R.sure B.fits) runners.old }
+    requires valid { IsValid desk.old.plan }
+    requires apart { T.trust → ⊥ }
+    requires keen { (k : ℕ) → 0 < k → T.keen k → ⊥ }
+    requires shaped { IsShapedPool B.fits }
+    requires listens { H.listens hall.old }
+    requires served { IsServed T.trust F.gives F.may_fail T.sources S.tells T.kept (IsSurePool B.fits)
+        S.files S.may_leave S.moment S.images_since desk.old held.old
+        pool.old.waiting pool.old.heard company.old.seats }
+    ensures same { IsSamePass token.old token.new }
+    ensures hand { ((view token.new).parts ≡ (view token.old).parts)
+        × ((view token.new).taken ≡ (view token.old).taken) }
+    ensures counted { GrowsWith (view token.old).put (view token.new).put
+        (sum_by R.count runners.old) (sum_by R.count runners.new)
+        (sum_by R.failures runners.old) (sum_by R.failures runners.new) }
+    ensures sure { AllSure R.sure runners.old → AllSure R.sure runners.new }
+    ensures served { KeepsServed T.trust F.gives F.may_fail T.sources S.tells T.kept (IsSurePool B.fits)
+        S.files S.may_leave S.moment S.images_since desk.old desk.new
+        held.old held.new pool.old.waiting pool.new.waiting pool.old.heard pool.new.heard
+        company.old.seats company.new.seats }
+    ensures line { pool.new.line ≡ pool.old.line }
+    ensures listens { H.listens hall.new }
+    ensures met { Meets (H.count hall.old) (H.count hall.new) (H.got hall.old)
+        (H.got hall.new) (H.given hall.old) (H.given hall.new) (H.idle_count hall.old)
+        (H.idle_count hall.new) (links_in company.old) (links_in company.new)
+        company.old.failed company.new.failed company.old.lost company.new.lost }
+    ensures heard { (IsWantHalt held.new.halt → ⊥) → pool.new.waiting ≡ [] }
+{
+    let most = runners.len().min(64);
+    call_beside::<B, W, G, F, R, Desk<F, S, T>, _>(
+        rt,
+        line,
+        token,
+        runners,
+        gate,
+        desk,
+        &mut |desk: &mut Desk<F, S, T>|
+            requires valid { IsValid desk.old.plan }
+            requires apart { T.trust → ⊥ }
+            requires keen { (k : ℕ) → 0 < k → T.keen k → ⊥ }
+            requires shaped { IsShapedPool B.fits }
+            requires listens { H.listens hall.now }
+            requires most { (0 < most) × (most ≤ 64) }
+            requires served { IsServed T.trust F.gives F.may_fail T.sources S.tells T.kept
+                (IsSurePool B.fits) S.files S.may_leave S.moment S.images_since desk.old held.now
+                pool.now.waiting pool.now.heard company.now.seats }
+            ensures served { KeepsServed T.trust F.gives F.may_fail T.sources S.tells T.kept
+                (IsSurePool B.fits) S.files S.may_leave S.moment S.images_since desk.old desk.new
+                held.entry.now held.exit.now pool.entry.now.waiting pool.exit.now.waiting
+                pool.entry.now.heard pool.exit.now.heard company.entry.now.seats
+                company.exit.now.seats }
+            ensures line { pool.exit.now.line ≡ pool.entry.now.line }
+            ensures listens { H.listens hall.exit.now }
+            ensures met { Meets (H.count hall.entry.now) (H.count hall.exit.now)
+                (H.got hall.entry.now) (H.got hall.exit.now) (H.given hall.entry.now)
+                (H.given hall.exit.now) (H.idle_count hall.entry.now)
+                (H.idle_count hall.exit.now) (links_in company.entry.now)
+                (links_in company.exit.now) company.entry.now.failed company.exit.now.failed
+                company.entry.now.lost company.exit.now.lost }
+            ensures heard { (IsWantHalt held.exit.now.halt → ⊥)
+                → pool.exit.now.waiting ≡ [] }
+        {
+            serve_and_close::<B, W, F, S, H, T, C>(
+                rt, alloc, desk, held, pool, company, hall, most, limit, clock,
+            )
+        },
+    );
+}
+
+/// A run over a pool of these tickets.
+fn serve_in<
+    B: PoolTerms + Send + Sync,
+    W: Threads + Wait + Sync,
+    G: Gate,
+    F: Commands,
+    S: Site,
+    H: Hall<F>,
+    R: Runner<F>,
+    C: Clock,
+    T: Terms,
+>(
+    rt: &W,
+    alloc: Global,
+    tickets: Tickets,
+    pass: Ticket,
+    desk: &mut Desk<F, S, T>,
+    company: &mut Company<F, H::Way>,
+    hall: &mut H,
+    limit: u32,
+    runners: &mut [R],
+    gate: &G,
+    clock: &C,
+) -> Result<(), Halt>
+    requires tickets { (pass.table_id ≡ B.tickets) × IsPassOf tickets pass × (view pass ≡ fresh) }
+    requires some { 0 < length runners.old }
+    requires runners { Crew (MayReport F.gives F.may_fail R.tells R.sure B.fits) runners.old }
+    requires valid { IsValid desk.old.plan }
+    requires fine { IsFine desk.old.trouble }
+    requires idle { length (running_rules desk.old.plan (records_of desk.old.moves)) ≤ 0 }
+    requires apart { T.trust → ⊥ }
+    requires keen { (k : ℕ) → 0 < k → T.keen k → ⊥ }
+    requires shaped { IsShapedPool B.fits }
+    requires listens { H.listens hall.old }
+    requires seats { AreSeats desk.old.plan desk.old.options desk.old.moves company.old.seats }
+    requires none { gathered company.old.seats ≡ [] }
+    ensures came { ComesOn T.trust F.gives F.may_fail T.sources S.tells T.kept (IsSurePool B.fits)
+        S.files S.may_leave S.moment S.images_since desk.old desk.new
+        (sum_by R.count runners.old) (sum_by R.count runners.new)
+        (sum_by R.failures runners.old) (sum_by R.failures runners.new) result }
+    ensures sure { AllSure R.sure runners.old → AllSure R.sure runners.new }
+    ensures seats { AreSeats desk.new.plan desk.new.options desk.new.moves company.new.seats }
+    ensures none { gathered company.new.seats ≡ [] }
+    ensures listens { H.listens hall.new }
+    ensures met { Meets (H.count hall.old) (H.count hall.new) (H.got hall.old)
+        (H.got hall.new) (H.given hall.old) (H.given hall.new) (H.idle_count hall.old)
+        (H.idle_count hall.new) (links_in company.old) (links_in company.new)
+        company.old.failed company.new.failed company.old.lost company.new.lost }
+{
+    let Ok((line, token)) = Line::<B>::new(alloc) else {
+        return Err(Halt::Memory);
+    };
+    let (mut pool, mut other) = Pool::new(&line, tickets, pass, token);
+    let mut held = Held::new(alloc);
+    serve_beside::<B, W, G, F, S, H, R, C, T>(
+        rt, alloc, &line, &mut other, desk, &mut held, &mut pool, company, hall, limit, runners,
+        gate, clock,
+    );
+    pool.end(rt, other);
+    finish::<B, F, S, H, T, C>(alloc, desk, held, company, hall, clock)
+}
+
+/// Runs rules by all runners and workers, and drops files, until nothing runs, a claim gives no rule
+/// and no file is to go first, or the log has no place for its drop.
+pub(crate) fn serve_all<
+    W: Threads + Wait + Sync,
+    G: Gate,
+    F: Commands,
+    S: Site,
+    H: Hall<F>,
+    R: Runner<F>,
+    C: Clock,
+    T: Terms,
+>(
+    rt: &W,
+    alloc: Global,
+    desk: &mut Desk<F, S, T>,
+    company: &mut Company<F, H::Way>,
+    hall: &mut H,
+    limit: u32,
+    runners: &mut [R],
+    gate: &G,
+    clock: &C,
+) -> Result<(), Halt>
+    requires some { 0 < length runners.old }
+    requires valid { IsValid desk.old.plan }
+    requires fine { IsFine desk.old.trouble }
+    requires idle { length (running_rules desk.old.plan (records_of desk.old.moves)) ≤ 0 }
+    requires apart { T.trust → ⊥ }
+    requires keen { (k : ℕ) → 0 < k → T.keen k → ⊥ }
+    requires listens { H.listens hall.old }
+    requires seats { AreSeats desk.old.plan desk.old.options desk.old.moves company.old.seats }
+    requires none { gathered company.old.seats ≡ [] }
+    ensures came { ComesOn T.trust F.gives F.may_fail T.sources S.tells T.kept
+        (AllSure R.sure runners.old) S.files S.may_leave S.moment S.images_since desk.old desk.new
+        (sum_by R.count runners.old) (sum_by R.count runners.new)
+        (sum_by R.failures runners.old) (sum_by R.failures runners.new) result }
+    ensures sure { AllSure R.sure runners.old → AllSure R.sure runners.new }
+    ensures seats { AreSeats desk.new.plan desk.new.options desk.new.moves company.new.seats }
+    ensures none { gathered company.new.seats ≡ [] }
+    ensures listens { H.listens hall.new }
+    ensures met { Meets (H.count hall.old) (H.count hall.new) (H.got hall.old)
+        (H.got hall.new) (H.given hall.old) (H.given hall.new) (H.idle_count hall.old)
+        (H.idle_count hall.new) (links_in company.old) (links_in company.new)
+        company.old.failed company.new.failed company.old.lost company.new.lost }
+{
+    let Ok((tickets, pass)) = new_tickets(alloc) else {
+        return Err(Halt::Memory);
+    };
+    serve_in::<Brand, W, G, F, S, H, R, C, T>(
+        rt, alloc, tickets, pass, desk, company, hall, limit, runners, gate, clock,
+    )
+}

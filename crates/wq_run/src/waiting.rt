@@ -1,0 +1,92 @@
+//! Waiting for workers, while nothing runs.
+ghost use Rattle.std.specs.Prelude.{◌≡◌, ◌≤◌, ◌<◌, [], ℕ, length};
+ghost use Rattle.flow_types.specs.Plans.{IsValid};
+ghost use Rattle.run_history.specs.Links.{records_of};
+ghost use Rattle.run_history.specs.Storage.{running_rules};
+ghost use Rattle.desk.specs.State.{IsFine};
+ghost use Rattle.local_run.specs.Underway.{IsSurePool};
+ghost use Rattle.wq_run.specs.Comes.{ComesOn};
+ghost use Rattle.wq_run.specs.Seats.{AreSeats, IsManned, KeepsManned, Meets, gathered, links_in};
+
+use crate::company::{Company, round};
+use crate::finishing::finish;
+use desk::{Desk, Terms};
+use links::Hall;
+use local_run::{Halt, Held};
+use outside::{Clock, Commands, Site};
+use std::alloc::Global;
+use std::sync::Wait;
+use worker_pool::Terms as PoolTerms;
+
+/// Looks for workers until one joins or states other amounts, or nobody came so often.
+fn look<B: PoolTerms, W: Wait, F: Commands, S: Site, H: Hall<F>, T: Terms, C: Clock>(
+    rt: &W,
+    alloc: Global,
+    desk: &mut Desk<F, S, T>,
+    held: &mut Held,
+    company: &mut Company<F, H::Way>,
+    hall: &mut H,
+    limit: u32,
+    clock: &C,
+)
+    requires valid { IsValid desk.old.plan }
+    requires apart { T.trust → ⊥ }
+    requires keen { (k : ℕ) → 0 < k → T.keen k → ⊥ }
+    requires listens { H.listens hall.old }
+    requires manned { IsManned T.trust F.gives F.may_fail T.sources S.tells T.kept (IsSurePool B.fits)
+        S.files S.may_leave S.moment S.images_since desk.old held.old company.old.seats }
+    ensures manned { KeepsManned T.trust F.gives F.may_fail T.sources S.tells T.kept (IsSurePool B.fits)
+        S.files S.may_leave S.moment S.images_since desk.old desk.new
+        held.old held.new company.old.seats company.new.seats }
+    ensures listens { H.listens hall.new }
+    ensures met { Meets (H.count hall.old) (H.count hall.new) (H.got hall.old)
+        (H.got hall.new) (H.given hall.old) (H.given hall.new) (H.idle_count hall.old)
+        (H.idle_count hall.new) (links_in company.old) (links_in company.new)
+        company.old.failed company.new.failed company.old.lost company.new.lost }
+{
+    let start = hall.idles();
+    let moves = desk.moves_made();
+    for _ in rt.forever() {
+        round::<B, F, S, H, T, C>(company, alloc, desk, held, hall, limit, clock);
+        if !held.is_going() || !company.is_going() || desk.moves_made() != moves {
+            return;
+        }
+        if hall.idles().saturating_sub(start) >= u64::from(limit) {
+            return;
+        }
+    }
+    unreachable!()
+}
+
+/// Waits until a worker joins or states other amounts, or nobody came so often.
+pub(crate) fn wait<B: PoolTerms, W: Wait, F: Commands, S: Site, H: Hall<F>, T: Terms, C: Clock>(
+    rt: &W,
+    alloc: Global,
+    desk: &mut Desk<F, S, T>,
+    company: &mut Company<F, H::Way>,
+    hall: &mut H,
+    limit: u32,
+    clock: &C,
+) -> Result<(), Halt>
+    requires valid { IsValid desk.old.plan }
+    requires fine { IsFine desk.old.trouble }
+    requires idle { length (running_rules desk.old.plan (records_of desk.old.moves)) ≤ 0 }
+    requires apart { T.trust → ⊥ }
+    requires keen { (k : ℕ) → 0 < k → T.keen k → ⊥ }
+    requires listens { H.listens hall.old }
+    requires seats { AreSeats desk.old.plan desk.old.options desk.old.moves company.old.seats }
+    requires none { gathered company.old.seats ≡ [] }
+    ensures came { (n m : ℕ) → ComesOn T.trust F.gives F.may_fail T.sources S.tells T.kept (IsSurePool B.fits)
+        S.files S.may_leave S.moment S.images_since desk.old desk.new n n m m result }
+    ensures seats { AreSeats desk.new.plan desk.new.options desk.new.moves company.new.seats }
+    ensures none { gathered company.new.seats ≡ [] }
+    ensures listens { H.listens hall.new }
+    ensures met { Meets (H.count hall.old) (H.count hall.new) (H.got hall.old)
+        (H.got hall.new) (H.given hall.old) (H.given hall.new) (H.idle_count hall.old)
+        (H.idle_count hall.new) (links_in company.old) (links_in company.new)
+        company.old.failed company.new.failed company.old.lost company.new.lost }
+{
+    let mut held = Held::new(alloc);
+    look::<B, W, F, S, H, T, C>(rt, alloc, desk, &mut held, company, hall, limit, clock);
+    finish::<B, F, S, H, T, C>(alloc, desk, held, company, hall, clock)
+}
