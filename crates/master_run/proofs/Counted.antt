@@ -9,6 +9,10 @@ use Rattle.master_run.specs.declared.rises.Rise.{Rise}
 abbrev pub site_rise : Counts → Counts → Rise
 site_rise b a = record { before = b.site; after = a.site }
 
+-- and both of the hall
+abbrev pub hall_rise : Counts → Counts → Rise
+hall_rise b a = record { before = b.hall; after = a.hall }
+
 -- where one didn't rise, the others behind it did
 pub rises_behind : (b a : List ℕ) (at x y : ℕ) → slice_get b at ≡ Some x → slice_get a at ≡ Some y → y ≤ x → sum (drop at b) < sum (drop at a) → sum (drop (suc at) b) < sum (drop (suc at) a)
 rises_behind (p ∷ b) (q ∷ a) zero x y is_x is_y le more =

@@ -1,5 +1,5 @@
 -- What a call does that the site's failure or want of memory ended.
-use Rattle.std.proofs.Common.{◌≡◌, ◌≢◌, ◌≤◌, ⊎_elim, inl, inr, ◌∙◌, ℕ, true, false, List, [], ◌∷◌, ◌++◌, Option, Some, None, All, refl, sym, ap, subst, true≢false}
+use Rattle.std.proofs.Common.{◌≡◌, ◌≢◌, ◌≤◌, ⊎_elim, inl, inr, ◌∙◌, ℕ, Bool, true, false, List, [], ◌∷◌, ◌++◌, Option, Some, None, All, refl, sym, ap, subst, true≢false}
 use Rattle.std.proofs.lemmas.List.Elements.{All-nil}
 use Rattle.flow_types.specs.declared.plan.Plan.{Plan}
 use Rattle.flow_types.specs.declared.job.Job.{Job}
@@ -12,6 +12,9 @@ use Rattle.outside.proofs.Moments.{weakened}
 use Rattle.txn_log.specs.Spells.{Spells}
 use Rattle.desk.specs.Kept.{StaysBeside}
 use Rattle.run_history.specs.declared.options.Mode.{Mode}
+use Rattle.run_history.specs.declared.options.Options.{Options as RunOptions}
+use Rattle.flow_run.specs.Places.{PlacedBy}
+use Rattle.flow_run.proofs.Placed.{placed_none}
 use Rattle.command_words.specs.declared.options.Work.{Work}
 use Rattle.command_words.specs.declared.options.Work.TheVariants as works
 use Rattle.local_run.specs.Collecting.{CollectsBy}
@@ -25,9 +28,10 @@ use Rattle.report.specs.declared.cause.Kind.TheVariants as kinds
 use Rattle.report.specs.Causes.{is_completion, is_cut, is_failing, is_refusal, kind_of, may_lose, may_replace, was_read}
 use Rattle.master_run.specs.declared.ask.Ask.{Ask}
 use Rattle.master_run.specs.Counts.{Counts}
-use Rattle.master_run.specs.Ends.{FaultEnd, GoesOn, IsStop, NoneRose, RunEnds, Yields, clean_refusal, log_refusal, run_refusal}
-use Rattle.master_run.specs.Headline.{HasLog, IsCleanedBy, IsLegalOr, is_early, is_run_end}
+use Rattle.master_run.specs.Ends.{FaultEnd, GoesOn, IsStop, NoneRose, RunEnds, Yields, clean_refusal, idle_rise, log_refusal, run_refusal}
+use Rattle.master_run.specs.Headline.{HasLog, IsCleanedBy, IsLegalOr, is_early, is_run_end, is_runner_fault}
 use Rattle.master_run.specs.Serves.{AllMoments, Completes, Fit, Serves, StaysResumable}
+use Rattle.master_run.proofs.Moved.{append_nothing}
 
 -- what holds of the two kinds
 pub record IsFaultKind (kind : Kind) : Type 0 where
@@ -38,10 +42,11 @@ pub record IsFaultKind (kind : Kind) : Type 0 where
   pub no_refusal : is_refusal kind ≡ false
   pub sure : is_failing kind ≡ false
   pub late : is_early kind ≡ false
+  pub runs : is_runner_fault kind ≡ false
 
 fault_kind : (kind : Kind) → is_cut kind ≡ true → IsFaultKind kind
-fault_kind kinds.SiteBroke cut = record { replaces = refl; unread = refl; no_end = refl; loses = refl; no_refusal = refl; sure = refl; late = refl }
-fault_kind kinds.NoMemory cut = record { replaces = refl; unread = refl; no_end = refl; loses = refl; no_refusal = refl; sure = refl; late = refl }
+fault_kind kinds.SiteBroke cut = record { replaces = refl; unread = refl; no_end = refl; loses = refl; no_refusal = refl; sure = refl; late = refl; runs = refl }
+fault_kind kinds.NoMemory cut = record { replaces = refl; unread = refl; no_end = refl; loses = refl; no_refusal = refl; sure = refl; late = refl; runs = refl }
 fault_kind kinds.Completed cut = absurd (true≢false (sym cut))
 fault_kind kinds.Told cut = absurd (true≢false (sym cut))
 fault_kind kinds.LogPrinted cut = absurd (true≢false (sym cut))
@@ -53,34 +58,37 @@ fault_kind kinds.WrongFile cut = absurd (true≢false (sym cut))
 fault_kind kinds.PastLimit cut = absurd (true≢false (sym cut))
 fault_kind kinds.LogFilled cut = absurd (true≢false (sym cut))
 fault_kind kinds.RunnerBroke cut = absurd (true≢false (sym cut))
+fault_kind kinds.HallBroke cut = absurd (true≢false (sym cut))
 fault_kind kinds.SinkBroke cut = absurd (true≢false (sym cut))
+fault_kind kinds.WaitedOut cut = absurd (true≢false (sym cut))
 
-is_stop : (P : Plan) (records : List Record) (after : Files) (cause : Cause) → is_cut (kind_of cause) ≡ true → IsStop P records after cause
-is_stop P records after (causes.SiteFault old new) cut = tt
-is_stop P records after causes.Memory cut = tt
-is_stop P records after (causes.RunnerFault old new) cut = tt
-is_stop P records after (causes.SourceChanged file logged found) cut = absurd (true≢false (sym cut))
-is_stop P records after (causes.FileDamaged file logged found) cut = absurd (true≢false (sym cut))
-is_stop P records after (causes.Complete rules collected) cut = absurd (true≢false (sym cut))
-is_stop P records after (causes.Cleaned removed) cut = absurd (true≢false (sym cut))
-is_stop P records after (causes.Printed lines) cut = absurd (true≢false (sym cut))
-is_stop P records after (causes.CommandFailed rule why) cut = absurd (true≢false (sym cut))
-is_stop P records after causes.Usage cut = absurd (true≢false (sym cut))
-is_stop P records after (causes.FlowMissing name) cut = absurd (true≢false (sym cut))
-is_stop P records after (causes.FlowRefused flow fault) cut = absurd (true≢false (sym cut))
-is_stop P records after (causes.LogNameTaken file) cut = absurd (true≢false (sym cut))
-is_stop P records after (causes.Unbuilt line) cut = absurd (true≢false (sym cut))
-is_stop P records after (causes.NeedsTooMuch rule need total) cut = absurd (true≢false (sym cut))
-is_stop P records after (causes.LogDamaged at) cut = absurd (true≢false (sym cut))
-is_stop P records after (causes.OtherFlow logged found) cut = absurd (true≢false (sym cut))
-is_stop P records after (causes.NotLegal at) cut = absurd (true≢false (sym cut))
-is_stop P records after (causes.StoredAboveLimit bytes limit) cut = absurd (true≢false (sym cut))
-is_stop P records after (causes.SourceMissing file) cut = absurd (true≢false (sym cut))
-is_stop P records after (causes.SourceTooLarge file size) cut = absurd (true≢false (sym cut))
-is_stop P records after (causes.SinkFault old new) cut = absurd (true≢false (sym cut))
-is_stop P records after (causes.InputsTooLarge rule total) cut = absurd (true≢false (sym cut))
-is_stop P records after (causes.NoRoom rule need stored limit) cut = absurd (true≢false (sym cut))
-is_stop P records after (causes.LogFull count) cut = absurd (true≢false (sym cut))
+is_stop : (wq : Bool) (P : Plan) (records : List Record) (after : Files) (cause : Cause) → is_cut (kind_of cause) ≡ true → IsStop wq P records after cause
+is_stop wq P records after (causes.SiteFault old new) cut = tt
+is_stop wq P records after causes.Memory cut = tt
+is_stop wq P records after (causes.RunnerFault old new) cut = tt
+is_stop wq P records after (causes.SourceChanged file logged found) cut = absurd (true≢false (sym cut))
+is_stop wq P records after (causes.FileDamaged file logged found) cut = absurd (true≢false (sym cut))
+is_stop wq P records after (causes.Complete rules collected) cut = absurd (true≢false (sym cut))
+is_stop wq P records after (causes.Cleaned removed) cut = absurd (true≢false (sym cut))
+is_stop wq P records after (causes.Printed lines) cut = absurd (true≢false (sym cut))
+is_stop wq P records after (causes.CommandFailed rule why) cut = absurd (true≢false (sym cut))
+is_stop wq P records after causes.Usage cut = absurd (true≢false (sym cut))
+is_stop wq P records after (causes.FlowMissing name) cut = absurd (true≢false (sym cut))
+is_stop wq P records after (causes.FlowRefused flow fault) cut = absurd (true≢false (sym cut))
+is_stop wq P records after (causes.LogNameTaken file) cut = absurd (true≢false (sym cut))
+is_stop wq P records after (causes.NeedsTooMuch rule need total) cut = absurd (true≢false (sym cut))
+is_stop wq P records after (causes.LogDamaged at) cut = absurd (true≢false (sym cut))
+is_stop wq P records after (causes.OtherFlow logged found) cut = absurd (true≢false (sym cut))
+is_stop wq P records after (causes.NotLegal at) cut = absurd (true≢false (sym cut))
+is_stop wq P records after (causes.StoredAboveLimit bytes limit) cut = absurd (true≢false (sym cut))
+is_stop wq P records after (causes.SourceMissing file) cut = absurd (true≢false (sym cut))
+is_stop wq P records after (causes.SourceTooLarge file size) cut = absurd (true≢false (sym cut))
+is_stop wq P records after (causes.HallFault old new) cut = absurd (true≢false (sym cut))
+is_stop wq P records after (causes.SinkFault old new) cut = absurd (true≢false (sym cut))
+is_stop wq P records after (causes.Waited wait) cut = absurd (true≢false (sym cut))
+is_stop wq P records after (causes.InputsTooLarge rule total) cut = absurd (true≢false (sym cut))
+is_stop wq P records after (causes.NoRoom rule need stored limit) cut = absurd (true≢false (sym cut))
+is_stop wq P records after (causes.LogFull count) cut = absurd (true≢false (sym cut))
 
 -- how a call ends by a fault that could come to its end
 fault_completes : (limit : Option ℕ) (cause : Cause) → is_completion (kind_of cause) ≡ true → Completes limit cause
@@ -95,12 +103,12 @@ fault_yields : (refusal : Option Cause) (cause : Cause) (rest : Type 0) → may_
 fault_yields None cause rest replaces holds = holds
 fault_yields (Some refusal) cause rest replaces holds = λ stays. absurd (true≢false (sym replaces ∙ stays))
 
-pub fault_goes : (work : Work) (ask : Ask) (H : List Record) (before after : Files) (records : List Record) (cause : Cause) → is_cut (kind_of cause) ≡ true → GoesOn work ask H before after records cause
-fault_goes works.Run ask H before after records cause cut =
-    fault_yields (run_refusal ask.plan ask.options H before) cause (RunEnds ask records after cause) (fault_kind (kind_of cause) cut).replaces (inr (is_stop ask.plan records after cause cut))
-fault_goes works.Clean ask H before after records cause cut =
+pub fault_goes : (work : Work) (ask : Ask) (rise : ℕ) (H : List Record) (before after : Files) (records : List Record) (cause : Cause) → is_cut (kind_of cause) ≡ true → GoesOn work ask rise H before after records cause
+fault_goes works.Run ask rise H before after records cause cut =
+    fault_yields (run_refusal ask.plan ask.options H before) cause (RunEnds ask rise records after cause) (fault_kind (kind_of cause) cut).replaces (inr (is_stop ask.options.wq ask.plan records after cause cut))
+fault_goes works.Clean ask rise H before after records cause cut =
     fault_yields (clean_refusal ask.plan H) cause _ (fault_kind (kind_of cause) cut).replaces (λ stays. absurd (true≢false (sym (fault_kind (kind_of cause) cut).replaces ∙ stays)))
-fault_goes works.PrintLog ask H before after records cause cut =
+fault_goes works.PrintLog ask rise H before after records cause cut =
     fault_yields (log_refusal ask.plan H) cause _ (fault_kind (kind_of cause) cut).replaces (λ stays. absurd (true≢false (sym (fault_kind (kind_of cause) cut).replaces ∙ stays)))
 
 undamaged : (cause : Cause) (at : ℕ) → is_cut (kind_of cause) ≡ true → cause ≡ causes.LogDamaged at → ⊥
@@ -125,6 +133,7 @@ module _ {S : Type 0} (tells : Type 0) (files : S → Files) (may_leave : S → 
         → TellsJobs ask.plan told (serial ask.plan gives (read_sources ask.plan (files old)))
         → BeginsWith H records → Adds (Unit {0}) gives may_fail (read_sources ask.plan (files old)) ask.plan H records
     pub modes : tells → (H : List Record) → Spells H (files old ask.log) → BeginsWith H records → CollectsBy ask.plan ask.options.mode H records
+    pub places : tells → (H : List Record) → Spells H (files old ask.log) → BeginsWith H records → PlacedBy ask.plan ask.options H records
     pub none_rose : NoneRose before after → is_completion (kind_of cause) ≡ true
 
   pub fault_serves : Faulted → Serves tells files may_leave moment images_since born gives may_fail told sure before after ask old new records cause
@@ -132,7 +141,7 @@ module _ {S : Type 0} (tells : Type 0) (files : S → Files) (may_leave : S → 
     ends = λ t. record {
       damaged = λ at is. absurd (undamaged cause at f.cut is);
       read = inr (inr (fault_kind (kind_of cause) f.cut).replaces);
-      whole = λ H spelled. fault_goes ask.work ask H (files old) (files new) records cause f.cut;
+      whole = λ H spelled. fault_goes ask.work ask (idle_rise before after) H (files old) (files new) records cause f.cut;
     };
     late = (fault_kind (kind_of cause) f.cut).late;
     faults = f.faults;
@@ -141,17 +150,20 @@ module _ {S : Type 0} (tells : Type 0) (files : S → Files) (may_leave : S → 
     logged = f.logged;
     closed = λ ends. absurd (true≢false (sym ends ∙ (fault_kind (kind_of cause) f.cut).no_end));
     spent = λ t H spelled whole. absurd (whole f.cut);
-    lost = λ t H spelled loses. absurd (true≢false (sym (fault_kind (kind_of cause) f.cut).loses ∙ loses));
+    lost = λ t H spelled alone loses. absurd (true≢false (sym (fault_kind (kind_of cause) f.cut).loses ∙ loses));
+    lost_away = λ t H spelled loses. absurd (true≢false (sym (fault_kind (kind_of cause) f.cut).loses ∙ loses));
     moments = f.moments;
     resumable = f.resumable;
     now = λ t H spelled resumable whole. absurd (whole f.cut);
     untouched = λ t refused. absurd (true≢false (sym refused ∙ (fault_kind (kind_of cause) f.cut).no_refusal));
     others = f.others;
-    contents = f.contents;
-    honest = f.honest;
-    sure_end = λ is_sure. (fault_kind (kind_of cause) f.cut).sure;
-    completes = λ t H spelled work resumable free there fit room is_sure jobs none. fault_completes ask.options.limit cause (f.none_rose none);
+    contents = λ t H spelled alone. f.contents t H spelled;
+    honest = λ t H spelled alone. f.honest t H spelled;
+    sure_end = λ alone is_sure. (fault_kind (kind_of cause) f.cut).sure;
+    never = λ is_sure. (fault_kind (kind_of cause) f.cut).runs;
+    completes = λ t H spelled alone work resumable free there fit room is_sure jobs none. fault_completes ask.options.limit cause (f.none_rose none);
     modes = f.modes;
+    places = f.places;
     gone = λ t H spelled whole. absurd (whole f.cut);
     cleaned = λ t H spelled. fault_cleans ask.plan H (files new) cause f.cut;
   }
@@ -192,3 +204,7 @@ collects_none P mode H all same = record { more = []; are = same; each = λ befo
 
 pub unread_collects : (P : Plan) (mode : Mode) (H : List Record) → BeginsWith H [] → CollectsBy P mode H []
 unread_collects P mode H begins = collects_none P mode H [] (begins.1 ∙ ap (λ (xs : List Record). H ++ xs) (begins_none H begins.0 begins.1))
+
+-- and nothing was started
+pub unread_placed : (P : Plan) (O : RunOptions) (H : List Record) → BeginsWith H [] → PlacedBy P O H []
+unread_placed P O H begins = placed_none P O H [] (begins.1 ∙ ap (λ (xs : List Record). H ++ xs) (begins_none H begins.0 begins.1) ∙ append_nothing H)

@@ -1,5 +1,5 @@
 -- Rules that need no more than there is.
-use Rattle.std.proofs.Common.{◌≡◌, ◌<◌, ◌+◌, ◌∙◌, ℕ, zero, suc, Bool, true, false, ◌&&◌, List, [], ◌∷◌, length, Option, Some, None, refl, ap, arith, if◌then◌else◌}
+use Rattle.std.proofs.Common.{◌≡◌, ◌<◌, ◌+◌, ◌∙◌, ℕ, zero, suc, Bool, true, false, not, ◌&&◌, ◌||◌, List, [], ◌∷◌, length, Option, Some, None, refl, sym, ap, arith, if◌then◌else◌}
 use Rattle.std.specs.Prelude.{nat_le, nat_lt, slice_get}
 use Rattle.std.specs.Option.{option_map_or}
 use Rattle.std.proofs.lemmas.Bool.{le-leb, ltb-false}
@@ -11,7 +11,7 @@ use Rattle.rule_graph.specs.Faults.{or_else}
 use Rattle.run_history.specs.declared.options.Options.{Options}
 use Rattle.run_history.specs.Links.{amounts_on, is_at_most}
 use Rattle.master_run.specs.declared.needs.Excess.{Excess}
-use Rattle.master_run.specs.Needs.{exceeds, excess_among, excess_of, rule_excess, taken_here}
+use Rattle.master_run.specs.Needs.{exceeds, excess_among, excess_of, here_excess, rule_excess, runs_here, taken_here}
 
 taken_so : (total : Amounts) (needs : Needs) → amounts_on 0 total needs ≡ taken_here needs
 taken_so total Whole = refl
@@ -39,13 +39,24 @@ first_none : {A : Type 0} (first rest : Option A) → or_else first rest ≡ Non
 first_none None rest none = (refl, none)
 first_none (Some x) rest none = some_is_none x none
 
-pub all_fit : (O : Options) (rules : List Rule) (first : ℕ) → excess_among O first rules ≡ None → (r : ℕ) → r < length rules
+-- where all rules run here, each is asked
+here_none : (O : Options) (r : ℕ) (rule : Rule) → O.wq ≡ false → here_excess O r rule ≡ None → rule_excess r (taken_here rule.needs) O.local ≡ None
+here_none O r rule alone none = sym (ap (λ (b : Bool). if b then rule_excess r (taken_here rule.needs) O.local else None) runs) ∙ none
+  where
+    by_local : (b : Bool) → (b || not false) ≡ true
+    by_local true = refl
+    by_local false = refl
+
+    runs : runs_here O rule ≡ true
+    runs = ap (λ (b : Bool). rule.local || not b) alone ∙ by_local rule.local
+
+pub all_fit : (O : Options) (rules : List Rule) (first : ℕ) → O.wq ≡ false → excess_among O first rules ≡ None → (r : ℕ) → r < length rules
     → is_at_most (amounts_on 0 O.local (option_map_or (λ (rule : Rule). rule.needs) (slice_get rules r) Whole)) O.local ≡ true
-all_fit O [] first none r inside = absurd (let wrong : ⊥ = omega (arith, inside) in wrong)
-all_fit O (rule ∷ rules) first none zero inside =
+all_fit O [] first alone none r inside = absurd (let wrong : ⊥ = omega (arith, inside) in wrong)
+all_fit O (rule ∷ rules) first alone none zero inside =
     let parts = first_none (excess_of O first rule) _ none in
-    let needs = first_none (rule_excess first (taken_here rule.needs) O.local) _ parts.0 in
-    ap (λ (a : Amounts). is_at_most a O.local) (taken_so O.local rule.needs) ∙ within first (taken_here rule.needs) O.local needs.0
-all_fit O (rule ∷ rules) first none (suc r) inside =
+    let needs = first_none (here_excess O first rule) _ parts.0 in
+    ap (λ (a : Amounts). is_at_most a O.local) (taken_so O.local rule.needs) ∙ within first (taken_here rule.needs) O.local (here_none O first rule alone needs.0)
+all_fit O (rule ∷ rules) first alone none (suc r) inside =
     let parts = first_none (excess_of O first rule) _ none in
-    all_fit O rules (first + 1) parts.1 r (omega (arith, inside))
+    all_fit O rules (first + 1) alone parts.1 r (omega (arith, inside))

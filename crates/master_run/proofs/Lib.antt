@@ -15,3 +15,4 @@ pub mod Refusals
 pub mod Unread
 pub mod Unneeded
 pub mod TableBytes
+pub mod Waits

@@ -16,7 +16,7 @@ use Rattle.local_run.specs.Runs.{Adds, Held, SerialFits, read_sources}
 use Rattle.report.specs.declared.cause.Cause.{Cause}
 use Rattle.master_run.specs.declared.ask.Ask.{Ask}
 use Rattle.master_run.specs.Counts.{Counts}
-use Rattle.master_run.specs.Ends.{LogEnds}
+use Rattle.master_run.specs.Ends.{LogEnds, idle_rise}
 use Rattle.master_run.specs.Serves.{AllMoments, CanComplete, Fit, IsCut, Serves}
 
 -- what was an outcome at the entry
@@ -63,7 +63,7 @@ module _ {S : Type 0} (tells : Type 0) (files : S → Files) (may_leave : S → 
   pub serves_from : Serves tells files may_leave moment images_since born gives may_fail told sure before after ask mid new records cause
       → Serves tells files may_leave moment images_since born gives may_fail told sure before after ask old new records cause
   serves_from s = record {
-    ends = λ t. subst (λ (fs : Files). LogEnds ask fs (files new) records cause) (looked t).same (s.ends t);
+    ends = λ t. subst (λ (fs : Files). LogEnds ask (idle_rise before after) fs (files new) records cause) (looked t).same (s.ends t);
     late = s.late;
     faults = s.faults;
     has_log = λ t H spelled. s.has_log t H (at_mid t H spelled);
@@ -72,6 +72,7 @@ module _ {S : Type 0} (tells : Type 0) (files : S → Files) (may_leave : S → 
     closed = s.closed;
     spent = λ t H spelled. s.spent t H (at_mid t H spelled);
     lost = λ t H spelled. s.lost t H (at_mid t H spelled);
+    lost_away = λ t H spelled. s.lost_away t H (at_mid t H spelled);
     moments = λ t H spelled. all_from Held H t (s.moments t H (at_mid t H spelled));
     resumable = λ t some image left.
         ⊎_elim
@@ -85,24 +86,26 @@ module _ {S : Type 0} (tells : Type 0) (files : S → Files) (may_leave : S → 
           now = λ m file beside left. (looked t).within m file left;
           any_moment = weakened moment images_since old mid (IsImage (may_leave old)) (λ image. (m : List ℕ) → IsUnmade ask.plan ask.log m → may_leave old m (image m)) (looked t).only (λ image is m beside. is m);
         }) (s.others t);
-    contents = λ t H spelled jobs. all_from (SerialFits gives (read_sources ask.plan (files old))) H t
+    contents = λ t H spelled alone jobs. all_from (SerialFits gives (read_sources ask.plan (files old))) H t
         (subst (λ (fs : Files). AllMoments files may_leave images_since (SerialFits gives (read_sources ask.plan fs)) born ask H mid new records cause) (looked t).same
-        (s.contents t H (at_mid t H spelled) (subst (λ (fs : Files). TellsJobs ask.plan told (serial ask.plan gives (read_sources ask.plan fs))) (sym (looked t).same) jobs)));
-    honest = λ t H spelled resumable jobs begins.
+        (s.contents t H (at_mid t H spelled) alone (subst (λ (fs : Files). TellsJobs ask.plan told (serial ask.plan gives (read_sources ask.plan fs))) (sym (looked t).same) jobs)));
+    honest = λ t H spelled alone resumable jobs begins.
         subst (λ (fs : Files). Adds (Unit {0}) gives may_fail (read_sources ask.plan fs) ask.plan H records) (looked t).same
-        (s.honest t H (at_mid t H spelled)
+        (s.honest t H (at_mid t H spelled) alone
         (subst (λ (fs : Files). IsResumable (SerialFits gives (read_sources ask.plan fs)) ask.plan ask.log H (may_leave mid)) (sym (looked t).same)
         (resumable_from (SerialFits gives (read_sources ask.plan (files old))) ask.plan ask.log H (may_leave old) (may_leave mid) (looked t).within resumable))
         (subst (λ (fs : Files). TellsJobs ask.plan told (serial ask.plan gives (read_sources ask.plan fs))) (sym (looked t).same) jobs) begins);
     modes = λ t H spelled. s.modes t H (at_mid t H spelled);
+    places = λ t H spelled. s.places t H (at_mid t H spelled);
     gone = λ t H spelled. s.gone t H (at_mid t H spelled);
     cleaned = λ t H spelled. s.cleaned t H (at_mid t H spelled);
     sure_end = s.sure_end;
+    never = s.never;
     completes = λ t H spelled.
-        λ work resumable free.
+        λ alone work resumable free.
         let at_entry : CanComplete gives told sure ask (files old) (may_leave mid) H before after cause =
         subst (λ (fs : Files). CanComplete gives told sure ask fs (may_leave mid) H before after cause) (looked t).same (s.completes t H (at_mid t H spelled)) in
-        at_entry work (resumable_from (SerialFits gives (read_sources ask.plan (files old))) ask.plan ask.log H (may_leave old) (may_leave mid) (looked t).within resumable) free;
+        at_entry alone work (resumable_from (SerialFits gives (read_sources ask.plan (files old))) ask.plan ask.log H (may_leave old) (may_leave mid) (looked t).within resumable) free;
   }
     where
       at_mid : (t : tells) (H : List Record) → Spells H (files old ask.log) → Spells H (files mid ask.log)

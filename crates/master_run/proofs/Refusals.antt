@@ -21,11 +21,11 @@ use Rattle.master_run.specs.declared.asking.Refusal.TheVariants as refusals
 use Rattle.master_run.specs.Counts.{Counts}
 use Rattle.master_run.specs.declared.rises.Rise.{Rise}
 use Rattle.master_run.specs.Ends.{CallEnds, FaultEnd, NoneRose, WordsEnd}
-use Rattle.master_run.specs.Headline.{is_early, is_run_end}
+use Rattle.master_run.specs.Headline.{is_early, is_run_end, is_runner_fault, is_waited}
 use Rattle.master_run.specs.Runs.{refusal_cause}
 use Rattle.master_run.specs.Serves.{Serves}
 use Rattle.master_run.specs.Stages.{SaysRefusal, Stage, WordsStage, is_refusal}
-use Rattle.master_run.proofs.Faults.{adds_none, before_all, before_beside, fault_goes, fault_serves, unread_collects}
+use Rattle.master_run.proofs.Faults.{adds_none, before_all, before_beside, fault_goes, fault_serves, unread_collects, unread_placed}
 use Rattle.master_run.proofs.Reading.{WasLooked, entry_before}
 
 absent : {A : Type 0} → false ≡ true → A
@@ -43,20 +43,20 @@ refused_cuts asked ask s (refusals.Said cause) stage is whole = no_ask cause ask
 refused_cuts asked ask s refusals.Site stage is whole = absurd (whole refl)
 refused_cuts asked ask s refusals.Memory stage is whole = absurd (whole refl)
 
-fault_ends : (asked : Result Ask Cause) (before after : Files) (cause : Cause) → is_cut (kind_of cause) ≡ true → may_replace (kind_of cause) ≡ true → (cause_at : (at : ℕ) → cause ≡ causes.LogDamaged at → ⊥) → after ≡ before
-    → CallEnds asked before after [] cause
-fault_ends (Ok ask) before after cause cut replaces whole same = record {
+fault_ends : (asked : Result Ask Cause) (rise : ℕ) (before after : Files) (cause : Cause) → is_cut (kind_of cause) ≡ true → may_replace (kind_of cause) ≡ true → (cause_at : (at : ℕ) → cause ≡ causes.LogDamaged at → ⊥) → after ≡ before
+    → CallEnds asked rise before after [] cause
+fault_ends (Ok ask) rise before after cause cut replaces whole same = record {
   damaged = λ at is. absurd (whole at is);
   read = inr (inr replaces);
-  whole = λ H spelled. fault_goes ask.work ask H before after [] cause cut;
+  whole = λ H spelled. fault_goes ask.work ask rise H before after [] cause cut;
 }
-fault_ends (Err refusal) before after cause cut replaces whole same = (λ stays. absent (sym stays ∙ replaces), same, refl)
+fault_ends (Err refusal) rise before after cause cut replaces whole same = (λ stays. absent (sym stays ∙ replaces), same, refl)
 
 -- how the call ends
-pub refused_ends : (asked : Result Ask Cause) (before after : Files) (s : Rise) (refusal : Refusal) → Stage {T = Ask} asked (Err refusal) → after ≡ before → CallEnds asked before after [] (refusal_cause s refusal)
-refused_ends asked before after s (refusals.Said cause) stage same = subst (λ (e : Result Ask Cause). CallEnds e before after [] cause) (sym stage) (λ stays. inl refl, same, refl)
-refused_ends asked before after s refusals.Site stage same = fault_ends asked before after (causes.SiteFault s.before s.after) refl refl (λ at wrong. absurd (cc)) same
-refused_ends asked before after s refusals.Memory stage same = fault_ends asked before after causes.Memory refl refl (λ at wrong. absurd (cc)) same
+pub refused_ends : (asked : Result Ask Cause) (rise : ℕ) (before after : Files) (s : Rise) (refusal : Refusal) → Stage {T = Ask} asked (Err refusal) → after ≡ before → CallEnds asked rise before after [] (refusal_cause s refusal)
+refused_ends asked rise before after s (refusals.Said cause) stage same = subst (λ (e : Result Ask Cause). CallEnds e rise before after [] cause) (sym stage) (λ stays. inl refl, same, refl)
+refused_ends asked rise before after s refusals.Site stage same = fault_ends asked rise before after (causes.SiteFault s.before s.after) refl refl (λ at wrong. absurd (cc)) same
+refused_ends asked rise before after s refusals.Memory stage same = fault_ends asked rise before after causes.Memory refl refl (λ at wrong. absurd (cc)) same
 
 memory_words : (words : Result Options Cause) → WordsEnd words causes.Memory
 memory_words (Err refusal) = λ other. absurd (true≢false other)
@@ -71,6 +71,7 @@ refused_words words s refusals.Memory stage = memory_words words
 said_fault : (b a : Counts) (cause : Cause) → is_refusal (kind_of cause) ≡ true → FaultEnd b a cause
 said_fault b a (causes.SiteFault old new) says = absent says
 said_fault b a (causes.RunnerFault old new) says = absent says
+said_fault b a (causes.HallFault old new) says = absent says
 said_fault b a (causes.SinkFault old new) says = absent says
 said_fault b a _ says = tt
 
@@ -85,10 +86,12 @@ pub record IsEarlyKind (kind : Kind) : Type 0 where
   pub no_end : is_run_end kind ≡ false
   pub sure : is_failing kind ≡ false
   pub failed : kind ≡ kinds.RuleFailed → ⊥
+  pub runs : is_runner_fault kind ≡ false
+  pub waits : is_waited kind ≡ false
 
 early_kind : (kind : Kind) → is_refusal kind ≡ true → IsEarlyKind kind
-early_kind kinds.WrongWords says = record { unread = refl; no_end = refl; sure = refl; failed = λ wrong. cc }
-early_kind kinds.WrongFlow says = record { unread = refl; no_end = refl; sure = refl; failed = λ wrong. cc }
+early_kind kinds.WrongWords says = record { unread = refl; no_end = refl; sure = refl; failed = λ wrong. cc; runs = refl; waits = refl }
+early_kind kinds.WrongFlow says = record { unread = refl; no_end = refl; sure = refl; failed = λ wrong. cc; runs = refl; waits = refl }
 early_kind kinds.Completed says = absent says
 early_kind kinds.Told says = absent says
 early_kind kinds.LogPrinted says = absent says
@@ -99,13 +102,15 @@ early_kind kinds.PastLimit says = absent says
 early_kind kinds.LogFilled says = absent says
 early_kind kinds.SiteBroke says = absent says
 early_kind kinds.RunnerBroke says = absent says
+early_kind kinds.HallBroke says = absent says
 early_kind kinds.SinkBroke says = absent says
+early_kind kinds.WaitedOut says = absent says
 early_kind kinds.NoMemory says = absent says
 
 pub refused_kind : (s : Rise) (refusal : Refusal) → SaysRefusal {T = Ask} (Err refusal) → IsEarlyKind (kind_of (refusal_cause s refusal))
 refused_kind s (refusals.Said cause) says = early_kind (kind_of cause) says
-refused_kind s refusals.Site says = record { unread = refl; no_end = refl; sure = refl; failed = λ wrong. cc }
-refused_kind s refusals.Memory says = record { unread = refl; no_end = refl; sure = refl; failed = λ wrong. cc }
+refused_kind s refusals.Site says = record { unread = refl; no_end = refl; sure = refl; failed = λ wrong. cc; runs = refl; waits = refl }
+refused_kind s refusals.Memory says = record { unread = refl; no_end = refl; sure = refl; failed = λ wrong. cc; runs = refl; waits = refl }
 
 -- the words, where a plan was read
 pub late_words : (words : Result Options Cause) (cause : Cause) → IsOk words → is_early (kind_of cause) ≡ false → WordsEnd words cause
@@ -113,7 +118,6 @@ late_words (Err refusal) cause ok late = absent ok
 late_words (Ok options) causes.Usage ok late = absurd (true≢false late)
 late_words (Ok options) (causes.FlowMissing name) ok late = absurd (true≢false late)
 late_words (Ok options) (causes.FlowRefused flow fault) ok late = absurd (true≢false late)
-late_words (Ok options) (causes.Unbuilt line) ok late = absurd (true≢false late)
 late_words (Ok options) _ ok late = refl
 
 module _ {S : Type 0} (tells : Type 0) (files : S → Files) (may_leave : S → Outcomes) (moment : S → ℕ) (images_since : S → ℕ → Files → Type 0) (born : ℕ)
@@ -133,6 +137,7 @@ module _ {S : Type 0} (tells : Type 0) (files : S → Files) (may_leave : S → 
         contents = λ t H spelled jobs. before_all tells files may_leave moment images_since born gives may_fail told sure b a ask old new [] cause (SerialFits gives (read_sources ask.plan (files old))) H (later t) (only t);
         honest = λ t H spelled resumable jobs begins. adds_none gives may_fail ask.plan (files old) H begins;
         modes = λ t H spelled begins. unread_collects ask.plan ask.options.mode H begins;
+        places = λ t H spelled begins. unread_placed ask.plan ask.options H begins;
         none_rose = completes;
       })
     where

@@ -1,5 +1,5 @@
 -- What holds of a call holds of it once its text was printed.
-use Rattle.std.proofs.Common.{◌≡◌, ◌<◌, ◌⊎◌, ⊎_elim, inl, inr, ◌∙◌, ℕ, Bool, true, false, List, [], length, ok_or, Option, Some, None, Result, Ok, Err, IsErrOf, refl, sym, ap, subst, arith, true≢false, if◌then◌else◌}
+use Rattle.std.proofs.Common.{◌≡◌, ◌<◌, ◌-◌, ◌⊎◌, ⊎_elim, inl, inr, ◌∙◌, ℕ, Bool, true, false, List, [], length, ok_or, Option, Some, None, Result, Ok, Err, IsErrOf, refl, sym, ap, subst, arith, true≢false, if◌then◌else◌}
 use Rattle.flow_types.specs.declared.plan.Plan.{Plan}
 use Rattle.flow_types.specs.declared.records.Record.{Record}
 use Rattle.run_history.specs.Answers.{before_end, end_over}
@@ -22,13 +22,14 @@ use Rattle.report.specs.Causes.{is_cut, is_end, is_failing, is_refusal, kind_of,
 use Rattle.desk.specs.Kept.{IsLegal}
 use Rattle.local_run.specs.Runs.{Held, SerialFits, read_sources}
 use Rattle.master_run.specs.declared.ask.Ask.{Ask}
-use Rattle.master_run.specs.Ends.{Answers, CallEnds, EndsBy, FaultEnd, GoesOn, IsCause, IsReadOr, IsStop, LogEnds, RunEnds, WordsEnd, Yields, clean_refusal, counts, end_cause, log_refusal, run_refusal}
+use Rattle.run_history.specs.declared.answers.Wait.{Wait}
+use Rattle.master_run.specs.Ends.{Answers, CallEnds, ComesToEnd, FaultEnd, GoesOn, IsCause, IsReadOr, IsStop, LogEnds, RunEnds, WordsEnd, Yields, clean_refusal, counts, end_cause, log_refusal, run_refusal}
 use Rattle.run_history.specs.History.{since_opening}
 use Rattle.run_history.specs.Spent.{SpentOnce}
-use Rattle.master_run.specs.Headline.{FailureEnd, HasLog, IsLegalOr, is_run_end}
+use Rattle.master_run.specs.Headline.{FailureEnd, HasLog, IfWaited, IsLegalOr, is_run_end, is_runner_fault, is_waited}
 use Rattle.master_run.specs.Prints.{IsPrinted, is_no_memory, printed_cause}
 use Rattle.master_run.specs.Serves.{IsCut, Serves}
-use Rattle.master_run.specs.Words.{and_then, built, chosen}
+use Rattle.master_run.specs.Words.{chosen}
 use Rattle.master_run.proofs.Moved.{all_after}
 
 -- The cause that stands is the same, or that of the sink's fault at the end of what was asked for, or want of memory.
@@ -73,7 +74,9 @@ end_stays kinds.PastLimit ends = refl
 end_stays kinds.LogFilled ends = refl
 end_stays kinds.SiteBroke ends = absurd (true≢false (sym ends))
 end_stays kinds.RunnerBroke ends = refl
+end_stays kinds.HallBroke ends = refl
 end_stays kinds.SinkBroke ends = refl
+end_stays kinds.WaitedOut ends = refl
 end_stays kinds.NoMemory ends = absurd (true≢false (sym ends))
 
 -- the sink's fault in the place of an answer
@@ -91,33 +94,41 @@ memory_yields : (refusal : Option Cause) (rest : Type 0) → rest → Yields ref
 memory_yields None rest holds = holds
 memory_yields (Some refusal) rest holds = memory_answers refusal
 
-no_stop : (P : Plan) (records : List Record) (after : Files) (cause : Cause) → is_end (kind_of cause) ≡ true → IsStop P records after cause → ⊥
-no_stop P records after (causes.SourceChanged file logged found) ends stop = true≢false (sym ends)
-no_stop P records after (causes.FileDamaged file logged found) ends stop = true≢false (sym ends)
-no_stop P records after (causes.SiteFault old new) ends stop = true≢false (sym ends)
-no_stop P records after (causes.RunnerFault old new) ends stop = true≢false (sym ends)
-no_stop P records after causes.Memory ends stop = true≢false (sym ends)
-no_stop P records after _ ends stop = stop
+no_stop : (wq : Bool) (P : Plan) (records : List Record) (after : Files) (cause : Cause) → is_end (kind_of cause) ≡ true → IsStop wq P records after cause → ⊥
+no_stop wq P records after (causes.SourceChanged file logged found) ends stop = true≢false (sym ends)
+no_stop wq P records after (causes.FileDamaged file logged found) ends stop = true≢false (sym ends)
+no_stop wq P records after (causes.SiteFault old new) ends stop = true≢false (sym ends)
+no_stop wq P records after (causes.RunnerFault old new) ends stop = true≢false (sym ends)
+no_stop wq P records after (causes.HallFault old new) ends stop = true≢false (sym ends)
+no_stop wq P records after causes.Memory ends stop = true≢false (sym ends)
+no_stop wq P records after _ ends stop = stop
 
-sink_run : (b a : ℕ) (ask : Ask) (records : List Record) (after : Files) (cause : Cause) → is_end (kind_of cause) ≡ true → RunEnds ask records after cause → RunEnds ask records after (causes.SinkFault b a)
-sink_run b a ask records after cause ends run =
-    ⊎_elim (λ (by : EndsBy ask (end_over ask.plan ask.options (before_end records) None) cause).
-    inl (by.0, inr (end_expected (end_cause (length ask.plan.rules) (end_over ask.plan ask.options (before_end records) None)) cause ends by.1, refl)))
-    (λ (stop : IsStop ask.plan records after cause). absurd (no_stop ask.plan records after cause ends stop)) run
+sink_comes : (b a : ℕ) (wq : Bool) (ask : Ask) (rise : ℕ) (records : List Record) (cause : Cause) → is_end (kind_of cause) ≡ true → ComesToEnd wq ask rise records cause → ComesToEnd wq ask rise records (causes.SinkFault b a)
+sink_comes b a false ask rise records cause ends by = (by.0, inr (end_expected (end_cause (length ask.plan.rules) (end_over ask.plan ask.options (before_end records) None)) cause ends by.1, refl))
+sink_comes b a true ask rise records cause ends by = record {
+  ended = by.ended;
+  waiting = by.waiting;
+  is_cause = inr (end_expected (end_cause (length ask.plan.rules) by.ended) cause ends by.is_cause, refl);
+}
 
-sink_goes : (b a : ℕ) (work : Work) (ask : Ask) (H : List Record) (before after : Files) (records : List Record) (cause : Cause) → is_end (kind_of cause) ≡ true
-    → GoesOn work ask H before after records cause → GoesOn work ask H before after records (causes.SinkFault b a)
-sink_goes b a works.Run ask H before after records cause ends goes =
-    sink_yields b a (run_refusal ask.plan ask.options H before) cause (RunEnds ask records after cause) (RunEnds ask records after (causes.SinkFault b a)) ends (sink_run b a ask records after cause ends) goes
-sink_goes b a works.Clean ask H before after records cause ends goes =
+sink_run : (b a : ℕ) (ask : Ask) (rise : ℕ) (records : List Record) (after : Files) (cause : Cause) → is_end (kind_of cause) ≡ true → RunEnds ask rise records after cause → RunEnds ask rise records after (causes.SinkFault b a)
+sink_run b a ask rise records after cause ends run =
+    ⊎_elim (λ (by : ComesToEnd ask.options.wq ask rise records cause). inl (sink_comes b a ask.options.wq ask rise records cause ends by))
+    (λ (stop : IsStop ask.options.wq ask.plan records after cause). absurd (no_stop ask.options.wq ask.plan records after cause ends stop)) run
+
+sink_goes : (b a : ℕ) (work : Work) (ask : Ask) (rise : ℕ) (H : List Record) (before after : Files) (records : List Record) (cause : Cause) → is_end (kind_of cause) ≡ true
+    → GoesOn work ask rise H before after records cause → GoesOn work ask rise H before after records (causes.SinkFault b a)
+sink_goes b a works.Run ask rise H before after records cause ends goes =
+    sink_yields b a (run_refusal ask.plan ask.options H before) cause (RunEnds ask rise records after cause) (RunEnds ask rise records after (causes.SinkFault b a)) ends (sink_run b a ask rise records after cause ends) goes
+sink_goes b a works.Clean ask rise H before after records cause ends goes =
     sink_yields b a (clean_refusal ask.plan H) cause _ _ ends (sink_answers b a _ cause ends) goes
-sink_goes b a works.PrintLog ask H before after records cause ends goes =
+sink_goes b a works.PrintLog ask rise H before after records cause ends goes =
     sink_yields b a (log_refusal ask.plan H) cause _ _ ends (sink_answers b a _ cause ends) goes
 
-memory_goes : (work : Work) (ask : Ask) (H : List Record) (before after : Files) (records : List Record) → GoesOn work ask H before after records causes.Memory
-memory_goes works.Run ask H before after records = memory_yields (run_refusal ask.plan ask.options H before) (RunEnds ask records after causes.Memory) (inr tt)
-memory_goes works.Clean ask H before after records = memory_yields (clean_refusal ask.plan H) _ (memory_answers _)
-memory_goes works.PrintLog ask H before after records = memory_yields (log_refusal ask.plan H) _ (memory_answers _)
+memory_goes : (work : Work) (ask : Ask) (rise : ℕ) (H : List Record) (before after : Files) (records : List Record) → GoesOn work ask rise H before after records causes.Memory
+memory_goes works.Run ask rise H before after records = memory_yields (run_refusal ask.plan ask.options H before) (RunEnds ask rise records after causes.Memory) (inr tt)
+memory_goes works.Clean ask rise H before after records = memory_yields (clean_refusal ask.plan H) _ (memory_answers _)
+memory_goes works.PrintLog ask rise H before after records = memory_yields (log_refusal ask.plan H) _ (memory_answers _)
 
 sink_read : (b a : ℕ) (file : Option (List ℕ)) (cause : Cause) → is_end (kind_of cause) ≡ true → IsReadOr file cause → IsReadOr file (causes.SinkFault b a)
 sink_read b a file cause ends read =
@@ -125,25 +136,25 @@ sink_read b a file cause ends read =
     (λ rest. ⊎_elim (λ (damaged : (at : ℕ) × (cause ≡ causes.LogDamaged at)). absurd (true≢false (sym ends ∙ ap (λ (c : Cause). is_end (kind_of c)) damaged.1)))
     (λ (replaced : may_replace (kind_of cause) ≡ true). absurd (true≢false (sym replaced ∙ end_stays (kind_of cause) ends))) rest) read
 
-pub printed_log : (b a : ℕ) (ask : Ask) (before after : Files) (records : List Record) (cause now : Cause) → Stands b a cause now → LogEnds ask before after records cause → LogEnds ask before after records now
-printed_log b a ask before after records cause now stood ends =
-    of_each (λ (c : Cause). LogEnds ask before after records c) b a cause now stood ends
+pub printed_log : (b a : ℕ) (ask : Ask) (rise : ℕ) (before after : Files) (records : List Record) (cause now : Cause) → Stands b a cause now → LogEnds ask rise before after records cause → LogEnds ask rise before after records now
+printed_log b a ask rise before after records cause now stood ends =
+    of_each (λ (c : Cause). LogEnds ask rise before after records c) b a cause now stood ends
     (λ rose is. record {
       damaged = λ at wrong. absurd (cc);
       read = sink_read b a (before ask.log) cause is ends.read;
-      whole = λ H spelled. sink_goes b a ask.work ask H before after records cause is (ends.whole H spelled);
+      whole = λ H spelled. sink_goes b a ask.work ask rise H before after records cause is (ends.whole H spelled);
     })
     (record {
       damaged = λ at wrong. absurd (cc);
       read = inr (inr refl);
-      whole = λ H spelled. memory_goes ask.work ask H before after records;
+      whole = λ H spelled. memory_goes ask.work ask rise H before after records;
     })
 
 -- how the call ends, once its text was printed
-pub printed_ends : (b a : ℕ) (asked : Result Ask Cause) (before after : Files) (records : List Record) (cause now : Cause) → Stands b a cause now → CallEnds asked before after records cause
-    → CallEnds asked before after records now
-printed_ends b a (Ok ask) before after records cause now stood ends = printed_log b a ask before after records cause now stood ends
-printed_ends b a (Err refusal) before after records cause now stood ends =
+pub printed_ends : (b a : ℕ) (asked : Result Ask Cause) (rise : ℕ) (before after : Files) (records : List Record) (cause now : Cause) → Stands b a cause now → CallEnds asked rise before after records cause
+    → CallEnds asked rise before after records now
+printed_ends b a (Ok ask) rise before after records cause now stood ends = printed_log b a ask rise before after records cause now stood ends
+printed_ends b a (Err refusal) rise before after records cause now stood ends =
     (of_each (λ (c : Cause). Answers refusal c) b a cause now stood ends.0 (λ rose is. sink_answers b a refusal cause is ends.0) (memory_answers refusal), ends.1, ends.2)
 
 memory_words : (words : Result Options Cause) → WordsEnd words causes.Memory
@@ -158,13 +169,9 @@ RefusedEarly (Err cause) = is_end (kind_of cause) ≡ false
 early_words : (words : List (List ℕ)) → RefusedEarly (chosen words)
 early_words words = by_options (options_of words)
   where
-    by_flag : (options : Options) (b : Bool) → RefusedEarly (let built_so : Result Options Cause = if b then Err (causes.Unbuilt 0) else Ok options in built_so)
-    by_flag options true = refl
-    by_flag options false = tt
-
-    by_options : (o : Option Options) → RefusedEarly (and_then (ok_or o causes.Usage) built)
+    by_options : (o : Option Options) → RefusedEarly (ok_or o causes.Usage)
     by_options None = refl
-    by_options (Some options) = by_flag options options.unbuilt
+    by_options (Some options) = tt
 
 end_memory : (kind : Kind) → is_end kind ≡ true → is_no_memory kind ≡ false
 end_memory kinds.NoMemory ends = absurd (true≢false (sym ends))
@@ -179,16 +186,17 @@ pub printed_words : (words : List (List ℕ)) (b a : ℕ) (cause now : Cause) �
 printed_words words b a cause now stood said =
     of_each (WordsEnd (chosen words)) b a cause now stood said (λ rose is. sink_words b a (chosen words) cause (early_words words) is said) (memory_words (chosen words))
 
-wider_fault : (sb : ℕ) (rb : List ℕ) (b sa : ℕ) (ra : List ℕ) (a : ℕ) (cause : Cause) → FaultEnd (counts sb rb 0) (counts sa ra 0) cause → FaultEnd (counts sb rb b) (counts sa ra a) cause
-wider_fault sb rb b sa ra a (causes.SiteFault old new) fault = fault
-wider_fault sb rb b sa ra a (causes.RunnerFault old new) fault = fault
-wider_fault sb rb b sa ra a (causes.SinkFault old new) fault = absurd (let wrong : ⊥ = omega (arith, fault.2) in wrong)
-wider_fault sb rb b sa ra a _ fault = tt
+wider_fault : (sb : ℕ) (rb : List ℕ) (hb ib b sa : ℕ) (ra : List ℕ) (ha ia a : ℕ) (cause : Cause) → FaultEnd (counts sb rb hb ib 0) (counts sa ra ha ia 0) cause → FaultEnd (counts sb rb hb ib b) (counts sa ra ha ia a) cause
+wider_fault sb rb hb ib b sa ra ha ia a (causes.SiteFault old new) fault = fault
+wider_fault sb rb hb ib b sa ra ha ia a (causes.RunnerFault old new) fault = fault
+wider_fault sb rb hb ib b sa ra ha ia a (causes.HallFault old new) fault = fault
+wider_fault sb rb hb ib b sa ra ha ia a (causes.SinkFault old new) fault = absurd (let wrong : ⊥ = omega (arith, fault.2) in wrong)
+wider_fault sb rb hb ib b sa ra ha ia a _ fault = tt
 
 -- of faults: the sink's is told only where its count rose
-pub printed_fault : (sb : ℕ) (rb : List ℕ) (b sa : ℕ) (ra : List ℕ) (a : ℕ) (cause now : Cause) → Stands b a cause now → FaultEnd (counts sb rb 0) (counts sa ra 0) cause → FaultEnd (counts sb rb b) (counts sa ra a) now
-printed_fault sb rb b sa ra a cause now stood fault =
-    of_each (FaultEnd (counts sb rb b) (counts sa ra a)) b a cause now stood (wider_fault sb rb b sa ra a cause fault) (λ rose is. (refl, refl, rose)) tt
+pub printed_fault : (sb : ℕ) (rb : List ℕ) (hb ib b sa : ℕ) (ra : List ℕ) (ha ia a : ℕ) (cause now : Cause) → Stands b a cause now → FaultEnd (counts sb rb hb ib 0) (counts sa ra ha ia 0) cause → FaultEnd (counts sb rb hb ib b) (counts sa ra ha ia a) now
+printed_fault sb rb hb ib b sa ra ha ia a cause now stood fault =
+    of_each (FaultEnd (counts sb rb hb ib b) (counts sa ra ha ia a)) b a cause now stood (wider_fault sb rb hb ib b sa ra ha ia a cause fault) (λ rose is. (refl, refl, rose)) tt
 
 -- where a kind is the end of what was asked for
 end_read : (kind : Kind) → is_end kind ≡ true → was_read kind ≡ true
@@ -204,7 +212,9 @@ end_read kinds.PastLimit ends = refl
 end_read kinds.LogFilled ends = refl
 end_read kinds.SiteBroke ends = absurd (true≢false (sym ends))
 end_read kinds.RunnerBroke ends = refl
+end_read kinds.HallBroke ends = refl
 end_read kinds.SinkBroke ends = refl
+end_read kinds.WaitedOut ends = refl
 end_read kinds.NoMemory ends = absurd (true≢false (sym ends))
 
 end_whole : (kind : Kind) → is_end kind ≡ true → is_cut kind ≡ true → ⊥
@@ -216,6 +226,7 @@ end_loses : (kind : Kind) → is_end kind ≡ true → may_lose kind ≡ false
 end_loses kinds.WrongFile ends = absurd (true≢false (sym ends))
 end_loses kinds.SiteBroke ends = absurd (true≢false (sym ends))
 end_loses kinds.RunnerBroke ends = absurd (true≢false (sym ends))
+end_loses kinds.HallBroke ends = absurd (true≢false (sym ends))
 end_loses kinds.NoMemory ends = absurd (true≢false (sym ends))
 end_loses _ ends = refl
 
@@ -226,23 +237,24 @@ legal_after : (P : Plan) (H all : List Record) (kind now : Kind) → (was_read k
 legal_after P H all kind now unread legal = ⊎_elim (λ is. inl is) (λ (other : ((all ≡ H) ⊎ (all ≡ [])) × (was_read kind ≡ false)). inr (other.0, unread other.1)) legal
 
 module _ {S : Type 0} (tells : Type 0) (files : S → Files) (may_leave : S → Outcomes) (moment : S → ℕ) (images_since : S → ℕ → Files → Type 0) (born : ℕ)
-    (gives : Function) (may_fail : Job → Failure → Type 0) (told : Job → Type 0) (sure : Type 0) (sb : ℕ) (rb : List ℕ) (b sa : ℕ) (ra : List ℕ) (a : ℕ) (ask : Ask) (old new : S) (records : List Record) where
+    (gives : Function) (may_fail : Job → Failure → Type 0) (told : Job → Type 0) (sure : Type 0) (sb : ℕ) (rb : List ℕ) (hb ib b sa : ℕ) (ra : List ℕ) (ha ia a : ℕ) (ask : Ask) (old new : S) (records : List Record) where
   -- what holds once the text was printed
   pub printed_serves : (cause now : Cause) → Stands b a cause now
-      → Serves tells files may_leave moment images_since born gives may_fail told sure (counts sb rb 0) (counts sa ra 0) ask old new records cause
-      → Serves tells files may_leave moment images_since born gives may_fail told sure (counts sb rb b) (counts sa ra a) ask old new records now
+      → Serves tells files may_leave moment images_since born gives may_fail told sure (counts sb rb hb ib 0) (counts sa ra ha ia 0) ask old new records cause
+      → Serves tells files may_leave moment images_since born gives may_fail told sure (counts sb rb hb ib b) (counts sa ra ha ia a) ask old new records now
   printed_serves cause now stood s =
-      of_each (λ (c : Cause). Serves tells files may_leave moment images_since born gives may_fail told sure (counts sb rb b) (counts sa ra a) ask old new records c) b a cause now stood
+      of_each (λ (c : Cause). Serves tells files may_leave moment images_since born gives may_fail told sure (counts sb rb hb ib b) (counts sa ra ha ia a) ask old new records c) b a cause now stood
       (record {
         ends = s.ends;
         late = s.late;
-        faults = wider_fault sb rb b sa ra a cause s.faults;
+        faults = wider_fault sb rb hb ib b sa ra ha ia a cause s.faults;
         has_log = s.has_log;
         legal = s.legal;
         logged = s.logged;
         closed = s.closed;
         spent = s.spent;
         lost = s.lost;
+        lost_away = s.lost_away;
         moments = s.moments;
         resumable = s.resumable;
         now = s.now;
@@ -251,14 +263,16 @@ module _ {S : Type 0} (tells : Type 0) (files : S → Files) (may_leave : S → 
         contents = s.contents;
         honest = s.honest;
         modes = s.modes;
+        places = s.places;
         gone = s.gone;
         cleaned = s.cleaned;
         sure_end = s.sure_end;
-        completes = λ t H spelled work resumable free there fit room is_sure jobs none.
-            s.completes t H spelled work resumable free there fit room is_sure jobs (record { site = none.site; runners = none.runners; sink = refl });
+        never = s.never;
+        completes = λ t H spelled alone work resumable free there fit room is_sure jobs none.
+            s.completes t H spelled alone work resumable free there fit room is_sure jobs (record { site = none.site; runners = none.runners; sink = refl });
       })
       (λ rose is. record {
-        ends = λ t. printed_log b a ask (files old) (files new) records cause (causes.SinkFault b a) (inr (inl (refl, rose, is))) (s.ends t);
+        ends = λ t. printed_log b a ask (ia - ib) (files old) (files new) records cause (causes.SinkFault b a) (inr (inl (refl, rose, is))) (s.ends t);
         late = refl;
         faults = (refl, refl, rose);
         has_log = λ t H spelled. log_after H records (kind_of cause) kinds.SinkBroke (λ replaced. absurd (true≢false (sym replaced ∙ end_stays (kind_of cause) is))) (s.has_log t H spelled);
@@ -266,22 +280,25 @@ module _ {S : Type 0} (tells : Type 0) (files : S → Files) (may_leave : S → 
         logged = λ t H spelled. legal_after ask.plan H records (kind_of cause) kinds.SinkBroke (λ unread. absurd (true≢false (sym (end_read (kind_of cause) is) ∙ unread))) (s.logged t H spelled);
         closed = λ wrong. absurd (true≢false (sym wrong));
         spent = λ t H spelled whole. s.spent t H spelled (end_whole (kind_of cause) is);
-        lost = λ t H spelled loses. s.lost t H spelled (end_loses (kind_of cause) is);
+        lost = λ t H spelled alone loses. s.lost t H spelled alone (end_loses (kind_of cause) is);
+        lost_away = λ t H spelled loses. s.lost_away t H spelled (end_loses (kind_of cause) is);
         moments = λ t H spelled. all_after files may_leave images_since born ask old new records Held H cause (causes.SinkFault b a) (λ cut. absurd (end_whole (kind_of cause) is cut)) (s.moments t H spelled);
         resumable = s.resumable;
         now = λ t H spelled resumable whole. s.now t H spelled resumable (end_whole (kind_of cause) is);
         untouched = λ t wrong. absurd (true≢false (sym wrong));
         others = s.others;
-        contents = λ t H spelled jobs. all_after files may_leave images_since born ask old new records (SerialFits gives (read_sources ask.plan (files old))) H cause (causes.SinkFault b a) (λ cut. absurd (end_whole (kind_of cause) is cut)) (s.contents t H spelled jobs);
+        contents = λ t H spelled alone jobs. all_after files may_leave images_since born ask old new records (SerialFits gives (read_sources ask.plan (files old))) H cause (causes.SinkFault b a) (λ cut. absurd (end_whole (kind_of cause) is cut)) (s.contents t H spelled alone jobs);
         honest = s.honest;
         modes = s.modes;
+        places = s.places;
         gone = λ t H spelled whole. s.gone t H spelled (end_whole (kind_of cause) is);
         cleaned = λ t H spelled. tt;
-        sure_end = λ is_sure. refl;
-        completes = λ t H spelled work resumable free there fit room is_sure jobs none. absurd (let wrong : ⊥ = omega (arith, rose, none.sink) in wrong);
+        sure_end = λ alone is_sure. refl;
+        never = λ is_sure. refl;
+        completes = λ t H spelled alone work resumable free there fit room is_sure jobs none. absurd (let wrong : ⊥ = omega (arith, rose, none.sink) in wrong);
       })
       (record {
-        ends = λ t. printed_log b a ask (files old) (files new) records cause causes.Memory (inr (inr refl)) (s.ends t);
+        ends = λ t. printed_log b a ask (ia - ib) (files old) (files new) records cause causes.Memory (inr (inr refl)) (s.ends t);
         late = refl;
         faults = tt;
         has_log = λ t H spelled. log_after H records (kind_of cause) kinds.NoMemory (λ replaced. refl) (s.has_log t H spelled);
@@ -289,19 +306,22 @@ module _ {S : Type 0} (tells : Type 0) (files : S → Files) (may_leave : S → 
         logged = λ t H spelled. legal_after ask.plan H records (kind_of cause) kinds.NoMemory (λ unread. refl) (s.logged t H spelled);
         closed = λ wrong. absurd (true≢false (sym wrong));
         spent = λ t H spelled whole. absurd (whole refl);
-        lost = λ t H spelled wrong. absurd (true≢false wrong);
+        lost = λ t H spelled alone wrong. absurd (true≢false wrong);
+        lost_away = λ t H spelled wrong. absurd (true≢false wrong);
         moments = λ t H spelled. all_after files may_leave images_since born ask old new records Held H cause causes.Memory (λ cut. refl) (s.moments t H spelled);
         resumable = s.resumable;
         now = λ t H spelled resumable whole. absurd (whole refl);
         untouched = λ t wrong. absurd (true≢false (sym wrong));
         others = s.others;
-        contents = λ t H spelled jobs. all_after files may_leave images_since born ask old new records (SerialFits gives (read_sources ask.plan (files old))) H cause causes.Memory (λ cut. refl) (s.contents t H spelled jobs);
+        contents = λ t H spelled alone jobs. all_after files may_leave images_since born ask old new records (SerialFits gives (read_sources ask.plan (files old))) H cause causes.Memory (λ cut. refl) (s.contents t H spelled alone jobs);
         honest = s.honest;
         modes = s.modes;
+        places = s.places;
         gone = λ t H spelled whole. absurd (whole refl);
         cleaned = λ t H spelled. tt;
-        sure_end = λ is_sure. refl;
-        completes = λ t H spelled work resumable free there fit room is_sure jobs none. refl;
+        sure_end = λ alone is_sure. refl;
+        never = λ is_sure. refl;
+        completes = λ t H spelled alone work resumable free there fit room is_sure jobs none. refl;
       })
 
 -- ---- of the parts that hold over every site
@@ -341,9 +361,24 @@ run_read kinds.Completed ends = refl
 run_read kinds.RuleFailed ends = refl
 run_read kinds.PastLimit ends = refl
 run_read kinds.RunnerBroke ends = refl
+run_read kinds.HallBroke ends = refl
+run_read kinds.WaitedOut ends = refl
 run_read _ ends = absurd (true≢false (sym ends))
 
 -- what holds where a run ends
 pub after_run : (A : Type 0) (b a : ℕ) (cause now : Cause) → Stands b a cause now → (is_run_end (kind_of cause) ≡ true → A) → is_run_end (kind_of now) ≡ true → A
 after_run A b a cause now stood holds =
     of_each (λ (c : Cause). is_run_end (kind_of c) ≡ true → A) b a cause now stood holds (λ rose is wrong. absurd (true≢false (sym wrong))) (λ wrong. absurd (true≢false (sym wrong)))
+
+-- no runner's fault is told that wasn't
+pub after_spared : (b a : ℕ) (cause now : Cause) → Stands b a cause now → is_runner_fault (kind_of cause) ≡ false → is_runner_fault (kind_of now) ≡ false
+after_spared b a cause now stood spared = of_each (λ (c : Cause). is_runner_fault (kind_of c) ≡ false) b a cause now stood spared (λ rose is. refl) refl
+
+-- what is said of a wait
+pub after_waited : (fact : Wait → Type 0) (b a : ℕ) (cause now : Cause) → Stands b a cause now → IfWaited cause fact → IfWaited now fact
+after_waited fact b a cause now stood waited = of_each (λ (c : Cause). IfWaited c fact) b a cause now stood waited (λ rose is. tt) tt
+
+-- where a call waited a run was started
+pub waited_ran : (kind : Kind) → is_waited kind ≡ true → is_run_end kind ≡ true
+waited_ran kinds.WaitedOut is = refl
+waited_ran _ is = absurd (true≢false (sym is))

@@ -25,7 +25,7 @@ use Rattle.master_run.specs.Ends.{FaultEnd, IsDamagedAt, NoneRose}
 use Rattle.master_run.specs.Headline.{FailureEnd, is_run_end}
 use Rattle.master_run.specs.Runs.{unread_cause}
 use Rattle.master_run.specs.Serves.{Serves}
-use Rattle.master_run.proofs.Faults.{adds_none, before_all, before_beside, fault_serves, unread_collects}
+use Rattle.master_run.proofs.Faults.{adds_none, before_all, before_beside, fault_serves, unread_collects, unread_placed}
 
 -- what a recovery leaves is of before the log was read
 pub recovering_before : (log : List ℕ) (file : Option (List ℕ)) (outcomes : Outcomes) (image : Files) → IsRecovering log file outcomes image → IsBefore log file outcomes image
@@ -84,6 +84,7 @@ module _ {S : Type 0} (tells : Type 0) (files : S → Files) (may_leave : S → 
         contents = λ t H spelled jobs. before_all tells files may_leave moment images_since born gives may_fail told sure b a ask old new [] cause (SerialFits gives (read_sources ask.plan (files old))) H (later t) (only t);
         honest = λ t H spelled resumable jobs begins. adds_none gives may_fail ask.plan (files old) H begins;
         modes = λ t H spelled begins. unread_collects ask.plan ask.options.mode H begins;
+        places = λ t H spelled begins. unread_placed ask.plan ask.options H begins;
         none_rose = completes;
       })
 
@@ -102,17 +103,20 @@ module _ {S : Type 0} (tells : Type 0) (files : S → Files) (may_leave : S → 
     logged = λ t H spelled. absurd (none t H spelled);
     closed = λ wrong. absurd (true≢false (sym wrong));
     spent = λ t H spelled whole. absurd (none t H spelled);
-    lost = λ t H spelled keeps. absurd (none t H spelled);
+    lost = λ t H spelled alone keeps. absurd (none t H spelled);
+    lost_away = λ t H spelled keeps. absurd (none t H spelled);
     moments = λ t H spelled. absurd (none t H spelled);
     resumable = goes_on;
     now = λ t H spelled. absurd (none t H spelled);
     untouched = λ t refused. λ i m. same t m i;
     others = λ t. before_beside tells files may_leave moment images_since born gives may_fail told sure b a ask old new [] (causes.LogDamaged at) (only t) (crash t);
-    contents = λ t H spelled jobs. absurd (none t H spelled);
-    honest = λ t H spelled resumable jobs begins. absurd (none t H spelled);
-    sure_end = λ is_sure. refl;
+    contents = λ t H spelled alone jobs. absurd (none t H spelled);
+    honest = λ t H spelled alone resumable jobs begins. absurd (none t H spelled);
+    sure_end = λ alone is_sure. refl;
+    never = λ is_sure. refl;
     completes = λ t H spelled. absurd (none t H spelled);
     modes = λ t H spelled. absurd (none t H spelled);
+    places = λ t H spelled. absurd (none t H spelled);
     gone = λ t H spelled. absurd (none t H spelled);
     cleaned = λ t H spelled. absurd (none t H spelled);
   }

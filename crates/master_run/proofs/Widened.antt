@@ -1,5 +1,5 @@
 -- What a call does by some of the runners, as one by all of them.
-use Rattle.std.proofs.Common.{◌≡◌, ◌+◌, ◌++◌, ℕ, List, refl, arith}
+use Rattle.std.proofs.Common.{◌≡◌, ◌+◌, ◌-◌, ◌++◌, ℕ, List, [], None, Some, refl, subst, arith}
 use Rattle.std.proofs.lemmas.List.{append_cancel_right}
 use Rattle.flow_types.specs.declared.plan.Plan.{Plan}
 use Rattle.flow_types.specs.declared.job.Job.{Job}
@@ -15,7 +15,7 @@ use Rattle.report.specs.declared.cause.Cause.TheVariants as causes
 use Rattle.report.specs.declared.cause.Kind.{Kind}
 use Rattle.master_run.specs.declared.ask.Ask.{Ask}
 use Rattle.master_run.specs.Counts.{Counts}
-use Rattle.master_run.specs.Ends.{FaultEnd, NoneRose, counts}
+use Rattle.master_run.specs.Ends.{FaultEnd, LogEnds, NoneRose, counts, idle_rise}
 use Rattle.master_run.specs.Headline.{FailureEnd, LogsFailed}
 use Rattle.master_run.specs.Serves.{Serves}
 use Rattle.master_run.proofs.Counted.{stands_before}
@@ -25,15 +25,29 @@ tells_less : (P : Plan) (told wide : Job → Type 0) (contents : Contents) → (
 tells_less P told wide contents each jobs r row at = each (job_of P row contents) (jobs r row at)
 
 -- a fault of one of the first is one of one of all
-pub wider_fault : (s0 s1 k0 k1 : ℕ) (front0 front1 back0 back1 : List ℕ) (cause : Cause) → FaultEnd (counts s0 front0 k0) (counts s1 front1 k1) cause → FaultEnd (counts s0 (front0 ++ back0) k0) (counts s1 (front1 ++ back1) k1) cause
-wider_fault s0 s1 k0 k1 front0 front1 back0 back1 (causes.SiteFault old new) f = f
-wider_fault s0 s1 k0 k1 front0 front1 back0 back1 (causes.RunnerFault old new) f = (f.0, stands_before front0 back0 f.0 old f.1, stands_before front1 back1 f.0 new f.2, f.3)
-wider_fault s0 s1 k0 k1 front0 front1 back0 back1 (causes.SinkFault old new) f = f
-wider_fault s0 s1 k0 k1 front0 front1 back0 back1 _ f = tt
+pub wider_fault : (s0 s1 h0 h1 i0 i1 k0 k1 : ℕ) (front0 front1 back0 back1 : List ℕ) (cause : Cause) → FaultEnd (counts s0 front0 h0 i0 k0) (counts s1 front1 h1 i1 k1) cause
+    → FaultEnd (counts s0 (front0 ++ back0) h0 i0 k0) (counts s1 (front1 ++ back1) h1 i1 k1) cause
+wider_fault s0 s1 h0 h1 i0 i1 k0 k1 front0 front1 back0 back1 (causes.SiteFault old new) f = f
+wider_fault s0 s1 h0 h1 i0 i1 k0 k1 front0 front1 back0 back1 (causes.RunnerFault old new) f = (f.0, stands_before front0 back0 f.0 old f.1, stands_before front1 back1 f.0 new f.2, f.3)
+wider_fault s0 s1 h0 h1 i0 i1 k0 k1 front0 front1 back0 back1 (causes.HallFault old new) f = f
+wider_fault s0 s1 h0 h1 i0 i1 k0 k1 front0 front1 back0 back1 (causes.SinkFault old new) f = f
+wider_fault s0 s1 h0 h1 i0 i1 k0 k1 front0 front1 back0 back1 _ f = tt
+
+-- where nobody was looked for
+pub none_rises : (n : ℕ) → 0 - 0 ≡ n - n
+none_rises n = omega arith
+
+-- of a call that met no hall
+pub unmet_fault : (s0 s1 h i : ℕ) (xs : List ℕ) (cause : Cause) → FaultEnd (counts s0 [] 0 0 0) (counts s1 [] 0 0 0) cause → FaultEnd (counts s0 xs h i 0) (counts s1 xs h i 0) cause
+unmet_fault s0 s1 h i xs (causes.SiteFault old new) f = f
+unmet_fault s0 s1 h i xs (causes.RunnerFault old new) f = absurd (let wrong : None ≡ Some old = f.1 in cc)
+unmet_fault s0 s1 h i xs (causes.HallFault old new) f = absurd (let wrong : ⊥ = omega (arith, f.2) in wrong)
+unmet_fault s0 s1 h i xs (causes.SinkFault old new) f = f
+unmet_fault s0 s1 h i xs _ f = tt
 
 -- where none of all rose, none of the first did
-pub none_first : (s0 s1 : ℕ) (front0 front1 back : List ℕ) → NoneRose (counts s0 (front0 ++ back) 0) (counts s1 (front1 ++ back) 0) → NoneRose (counts s0 front0 0) (counts s1 front1 0)
-none_first s0 s1 front0 front1 back none = record { site = none.site; runners = append_cancel_right front1 front0 back none.runners; sink = refl }
+pub none_first : (s0 s1 h0 h1 i0 i1 : ℕ) (front0 front1 back : List ℕ) → NoneRose (counts s0 (front0 ++ back) h0 i0 0) (counts s1 (front1 ++ back) h1 i1 0) → NoneRose (counts s0 front0 h0 i0 0) (counts s1 front1 h1 i1 0)
+none_first s0 s1 h0 h1 i0 i1 front0 front1 back none = record { site = none.site; runners = append_cancel_right front1 front0 back none.runners; sink = refl }
 
 -- the failures of all, where those of some are known
 pub failures_of_all : (some0 some1 rest all0 all1 : ℕ) (kind : Kind) → all0 ≡ some0 + rest → all1 ≡ some1 + rest → FailureEnd some0 some1 kind → FailureEnd all0 all1 kind
@@ -44,11 +58,11 @@ logged_of_all H all some0 some1 rest all0 all1 was is logs = omega (arith, was, 
 
 module _ {S : Type 0} (tells : Type 0) (files : S → Files) (may_leave : S → Outcomes) (moment : S → ℕ) (images_since : S → ℕ → Files → Type 0) (born : ℕ)
     (gives : Function) (may_fail : Job → Failure → Type 0) (told wide_told : Job → Type 0) (sure wide_sure : Type 0) (b a wb wa : Counts) (ask : Ask) (old new : S) (records : List Record) (cause : Cause) where
-  pub widened : ((job : Job) → wide_told job → told job) → (wide_sure → sure) → (FaultEnd b a cause → FaultEnd wb wa cause) → (NoneRose wb wa → NoneRose b a)
+  pub widened : ((job : Job) → wide_told job → told job) → (wide_sure → sure) → (FaultEnd b a cause → FaultEnd wb wa cause) → (NoneRose wb wa → NoneRose b a) → idle_rise b a ≡ idle_rise wb wa
       → Serves tells files may_leave moment images_since born gives may_fail told sure b a ask old new records cause
       → Serves tells files may_leave moment images_since born gives may_fail wide_told wide_sure wb wa ask old new records cause
-  widened each is fault none s = record {
-    ends = s.ends;
+  widened each is fault none same s = record {
+    ends = λ t. subst (λ (n : ℕ). LogEnds ask n (files old) (files new) records cause) same (s.ends t);
     late = s.late;
     faults = fault s.faults;
     has_log = s.has_log;
@@ -57,18 +71,21 @@ module _ {S : Type 0} (tells : Type 0) (files : S → Files) (may_leave : S → 
     closed = s.closed;
     spent = s.spent;
     lost = s.lost;
+    lost_away = s.lost_away;
     moments = s.moments;
     resumable = s.resumable;
     now = s.now;
     untouched = s.untouched;
     others = s.others;
-    contents = λ t H spelled jobs. s.contents t H spelled (fewer jobs);
-    honest = λ t H spelled resumable jobs. s.honest t H spelled resumable (fewer jobs);
+    contents = λ t H spelled alone jobs. s.contents t H spelled alone (fewer jobs);
+    honest = λ t H spelled alone resumable jobs. s.honest t H spelled alone resumable (fewer jobs);
     modes = s.modes;
+    places = s.places;
     gone = s.gone;
     cleaned = s.cleaned;
-    sure_end = λ w. s.sure_end (is w);
-    completes = λ t H spelled work resumable free there fit room w jobs rose. s.completes t H spelled work resumable free there fit room (is w) (fewer jobs) (none rose);
+    sure_end = λ alone w. s.sure_end alone (is w);
+    never = λ w. s.never (is w);
+    completes = λ t H spelled alone work resumable free there fit room w jobs rose. s.completes t H spelled alone work resumable free there fit room (is w) (fewer jobs) (none rose);
   }
     where
       fewer : TellsJobs ask.plan wide_told (serial ask.plan gives (read_sources ask.plan (files old))) → TellsJobs ask.plan told (serial ask.plan gives (read_sources ask.plan (files old)))

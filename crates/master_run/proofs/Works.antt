@@ -1,5 +1,5 @@
 -- What a call does that cleans or prints.
-use Rattle.std.proofs.Common.{◌≡◌, ◌≤◌, ◌⊎◌, ⊎_elim, inl, inr, ◌∙◌, ℕ, true, false, List, [], sym, subst, true≢false}
+use Rattle.std.proofs.Common.{◌≡◌, ◌≤◌, ◌⊎◌, ⊎_elim, inl, inr, ◌∙◌, ℕ, true, false, List, [], refl, sym, subst, true≢false}
 use Rattle.flow_types.specs.declared.job.Job.{Job}
 use Rattle.flow_types.specs.declared.job.Failure.{Failure}
 use Rattle.flow_types.specs.declared.records.Record.{Record}
@@ -21,12 +21,14 @@ use Rattle.report.specs.declared.cause.Kind.TheVariants as kinds
 use Rattle.report.specs.Causes.{is_cut, is_failing, is_refusal, kind_of, may_lose, was_read}
 use Rattle.master_run.specs.declared.ask.Ask.{Ask}
 use Rattle.master_run.specs.Counts.{Counts}
-use Rattle.master_run.specs.Ends.{FaultEnd, GoesOn, IsDamagedAt, IsReadOr}
-use Rattle.master_run.specs.Headline.{HasLog, IsCleanedBy, IsLegalOr, is_early, is_run_end}
+use Rattle.master_run.specs.Ends.{FaultEnd, GoesOn, IsDamagedAt, IsReadOr, idle_rise}
+use Rattle.master_run.specs.Headline.{HasLog, IsCleanedBy, IsLegalOr, is_early, is_run_end, is_runner_fault}
 use Rattle.master_run.specs.Serves.{AllMoments, Fit, IsCut, Serves}
 use Rattle.master_run.proofs.Moved.{moment_after}
-use Rattle.master_run.proofs.Cared.{adds_nothing, collects_nothing, drops_nothing, loses_nothing, starts_nothing}
-use Rattle.master_run.proofs.Faults.{adds_none, unread_collects}
+use Rattle.flow_run.specs.Places.{PlacedBy}
+use Rattle.flow_run.proofs.Losses.{away_none}
+use Rattle.master_run.proofs.Cared.{adds_nothing, collects_nothing, drops_nothing, loses_nothing, places_nothing, starts_nothing}
+use Rattle.master_run.proofs.Faults.{adds_none, unread_collects, unread_placed}
 
 module _ {S : Type 0} (tells : Type 0) (files : S → Files) (may_leave : S → Outcomes) (moment : S → ℕ) (images_since : S → ℕ → Files → Type 0) (born : ℕ)
     (gives : Function) (may_fail : Job → Failure → Type 0) (told : Job → Type 0) (sure : Type 0) (before after : Counts) (ask : Ask) (old new : S) (records : List Record) (cause : Cause) (time : ℕ) (cut : Type 0) where
@@ -40,7 +42,7 @@ module _ {S : Type 0} (tells : Type 0) (files : S → Files) (may_leave : S → 
     pub faults : FaultEnd before after cause
     pub damaged : tells → (at : ℕ) → cause ≡ causes.LogDamaged at → IsDamagedAt (files old ask.log) at
     pub read : tells → IsReadOr (files old ask.log) cause
-    pub goes : tells → (H : List Record) → Spells H (files old ask.log) → GoesOn ask.work ask H (files old) (files new) records cause
+    pub goes : tells → (H : List Record) → Spells H (files old ask.log) → GoesOn ask.work ask (idle_rise before after) H (files old) (files new) records cause
     pub has_log : tells → (H : List Record) → Spells H (files old ask.log) → HasLog H records (kind_of cause)
     pub legal : was_read (kind_of cause) ≡ true → IsLegal ask.plan records
     pub logged : tells → (H : List Record) → Spells H (files old ask.log) → IsLegalOr ask.plan H records (kind_of cause)
@@ -62,6 +64,10 @@ module _ {S : Type 0} (tells : Type 0) (files : S → Files) (may_leave : S → 
   loses_cut kinds.NoMemory keeps cut = true≢false keeps
   loses_cut _ keeps cut = true≢false (sym cut)
 
+  still_runs : (kind : Kind) → is_failing kind ≡ false → is_runner_fault kind ≡ false
+  still_runs kinds.RunnerBroke still = absurd (true≢false still)
+  still_runs _ still = refl
+
   all_by : (fits : Fit) (H : List Record) → Cared → tells → (IsResumable fits ask.plan ask.log H (may_leave old)
       → LeavesOnly moment images_since old new (IsMoment fits ask.plan ask.log (files old) (may_leave old) H records cut)) → AllMoments files may_leave images_since fits born ask H old new records cause
   all_by fits H c t only resumable image left =
@@ -80,22 +86,27 @@ module _ {S : Type 0} (tells : Type 0) (files : S → Files) (may_leave : S → 
     logged = c.logged;
     closed = λ ends. absurd (true≢false (sym ends ∙ c.runs_not.0));
     spent = λ t H spelled whole. inl (starts_nothing H records time (c.either t H spelled whole));
-    lost = λ t H spelled keeps. loses_nothing H records time (c.either t H spelled (loses_cut (kind_of cause) keeps));
+    lost = λ t H spelled alone keeps. loses_nothing H records time (c.either t H spelled (loses_cut (kind_of cause) keeps));
+    lost_away = λ t H spelled keeps. away_none H records (loses_nothing H records time (c.either t H spelled (loses_cut (kind_of cause) keeps)));
     moments = λ t H spelled. all_by Held H c t (c.moments t H spelled);
     resumable = λ t some image left. (c.resumable t some).before born image (c.later t) left;
     now = λ t H spelled resumable whole. c.at_end t H spelled resumable whole;
     untouched = λ t refused. λ i m. c.untouched t refused m i;
     others = c.others;
-    contents = λ t H spelled jobs. all_by (SerialFits gives (read_sources ask.plan (files old))) H c t (c.contents t H spelled);
-    honest = λ t H spelled resumable jobs begins.
+    contents = λ t H spelled alone jobs. all_by (SerialFits gives (read_sources ask.plan (files old))) H c t (c.contents t H spelled);
+    honest = λ t H spelled alone resumable jobs begins.
         ⊎_elim (λ (either : AreEither H time records). adds_nothing gives may_fail (read_sources ask.plan (files old)) ask.plan H records time either)
         (λ (none : records ≡ []). subst (λ (xs : List Record). Adds (Unit {0}) gives may_fail (read_sources ask.plan (files old)) ask.plan H xs) (sym none)
         (adds_none gives may_fail ask.plan (files old) H (subst (BeginsWith H) none begins))) (c.begun t H spelled begins);
     modes = λ t H spelled begins.
         ⊎_elim (λ (either : AreEither H time records). collects_nothing ask.plan ask.options.mode H records time either)
         (λ (none : records ≡ []). subst (CollectsBy ask.plan ask.options.mode H) (sym none) (unread_collects ask.plan ask.options.mode H (subst (BeginsWith H) none begins))) (c.begun t H spelled begins);
+    places = λ t H spelled begins.
+        ⊎_elim (λ (either : AreEither H time records). places_nothing ask.plan ask.options H records time either)
+        (λ (none : records ≡ []). subst (PlacedBy ask.plan ask.options H) (sym none) (unread_placed ask.plan ask.options H (subst (BeginsWith H) none begins))) (c.begun t H spelled begins);
     gone = λ t H spelled whole. drops_nothing ask.plan (files new) H records time (c.either t H spelled whole);
     cleaned = c.cleaned;
-    sure_end = λ is. c.runs_not.1;
-    completes = λ t H spelled work resumable free there fit room is jobs none. absurd (c.work work);
+    sure_end = λ alone is. c.runs_not.1;
+    never = λ is. still_runs (kind_of cause) c.runs_not.1;
+    completes = λ t H spelled alone work resumable free there fit room is jobs none. absurd (c.work work);
   }

@@ -1,5 +1,5 @@
 -- What words, environment and files ask for, or the first refusal. Each stage is asked once the ones before it let pass.
-use Rattle.std.specs.Prelude.{ℕ, List, map, string_bytes, false, Option, Some, None, Result, Ok, Err, ok_or}
+use Rattle.std.specs.Prelude.{◌≡◌, ℕ, Bool, true, false, List, map, string_bytes, Option, Some, None, Result, Ok, Err, ok_or}
 use Rattle.std.proofs.Common.{String, Global}
 use Rattle.flow_types.specs.declared.flow.RawFlow.{RawFlow}
 use Rattle.flow_types.specs.declared.plan.Plan.{Plan}
@@ -17,6 +17,9 @@ use Rattle.run_history.specs.declared.options.Mode.TheVariants as run_modes
 use Rattle.command_words.specs.declared.options.Mode.{Mode}
 use Rattle.command_words.specs.declared.options.Mode.TheVariants.{Never, RefCount, OnDemand}
 use Rattle.command_words.specs.declared.options.Options.{Options}
+use Rattle.command_words.specs.declared.options.Transport.{Transport}
+use Rattle.command_words.specs.declared.options.Transport.TheVariants as transports
+use Rattle.wq_run.specs.declared.workers.Workers.{Workers}
 use Rattle.command_words.specs.declared.options.Flow.{Flow}
 use Rattle.command_words.specs.declared.options.Flow.TheVariants.{File, Generated}
 use Rattle.command_words.specs.declared.options.Language.{Language}
@@ -84,13 +87,27 @@ run_mode Never = run_modes.Never
 run_mode RefCount = run_modes.RefCount
 run_mode OnDemand = run_modes.OnDemand
 
--- what a run goes by: every rule runs here
+-- rules run at workers, but for the LOCAL ones
+abbrev pub has_workers : Transport → Bool
+has_workers transports.Local = false
+has_workers transports.WorkQueue = true
+
+-- what a run goes by
 abbrev pub run_options : Options → RunOptions
-run_options options = record { mode = run_mode options.mode; limit = options.limits.storage; retries = options.limits.retries; wq = false; local = options.local }
+run_options options = record { mode = run_mode options.mode; limit = options.limits.storage; retries = options.limits.retries; wq = has_workers options.service.transport; local = options.local }
+
+-- where workers come, and how long is waited for them
+abbrev pub workers_of : Options → Workers
+workers_of options = record { port = options.service.port; limit = options.limits.idle }
+
+-- No worker is asked for: every rule runs on this machine.
+abbrev pub IsLocal : Result Options Cause → Type 0
+IsLocal (Ok options) = has_workers options.service.transport ≡ false
+IsLocal (Err refusal) = Unit {0}
 
 -- what is asked for of this plan
 abbrev pub ask_of : Options → Plan → Ask
-ask_of options P = record { plan = P; work = options.work; log = options.log; options = run_options options; jobs = options.service.jobs }
+ask_of options P = record { plan = P; work = options.work; log = options.log; options = run_options options; workers = workers_of options; jobs = options.service.jobs }
 
 -- the same where there is a plan
 abbrev pub ask_by : Options → Result Plan Cause → Result Ask Cause

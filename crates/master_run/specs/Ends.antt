@@ -1,5 +1,5 @@
 -- How a call ends: by the first refusal, or by what was asked for.
-use Rattle.std.specs.Prelude.{◌≡◌, ◌⊎◌, ◌<◌, ℕ, Bool, true, false, List, [], length, Option, Some, None, Result, Ok, Err, IsTrue, IsFalse, option_map, slice_get}
+use Rattle.std.specs.Prelude.{◌≡◌, ◌⊎◌, ◌<◌, ◌-◌, ℕ, Bool, true, false, List, [], length, Option, Some, None, Result, Ok, Err, IsTrue, IsFalse, option_map, slice_get}
 use Rattle.flow_types.specs.declared.plan.Plan.{Plan}
 use Rattle.flow_types.specs.declared.records.Record.{Record}
 use Rattle.flow_types.specs.Plans.{is_source}
@@ -18,6 +18,7 @@ use Rattle.command_words.specs.declared.options.Options.{Options}
 use Rattle.command_words.specs.declared.options.Work.{Work}
 use Rattle.command_words.specs.declared.options.Work.TheVariants as works
 use Rattle.local_run.specs.Ends.{IsDamaged, IsRunEnd, run_fault}
+use Rattle.wq_run.specs.Ends.{EndsWaiting}
 use Rattle.cleaning.specs.Cleanings.{SpellsSome, clean_fault, made_count}
 use Rattle.report.specs.declared.cause.Cause.{Cause}
 use Rattle.report.specs.declared.cause.Cause.TheVariants as causes
@@ -73,34 +74,43 @@ end_cause rules (check.CommandFailed rule why) = causes.CommandFailed rule why
 end_cause rules (check.InputsTooLarge rule total) = causes.InputsTooLarge rule total
 end_cause rules (check.LogFull records) = causes.LogFull records
 end_cause rules (check.NoRoom rule need stored limit) = causes.NoRoom rule need stored limit
+end_cause rules (check.Waited wait) = causes.Waited wait
 end_cause rules _ = causes.Memory
-
--- some run ends so
-abbrev pub IsSomeRunEnd : Check → Type 0
-IsSomeRunEnd ended = (limit : Option ℕ) × IsRunEnd limit ended
 
 -- The cause is that of this end of a run, which is one that a run with these options may have.
 abbrev pub EndsBy : Ask → Check → Cause → Type 0
 EndsBy ask ended cause = IsRunEnd ask.options.limit ended × IsCause (end_cause (length ask.plan.rules) ended) cause
 
--- A run was stopped before its end: a file that it took in isn't what was logged, or there was a fault, or want of memory.
-abbrev pub IsStop : Plan → List Record → Files → Cause → Type 0
-IsStop P records after (causes.SourceChanged file logged found) = (is_source P file.0 ≡ true) × IsDamaged P records after file logged found
-IsStop P records after (causes.FileDamaged file logged found) = (is_source P file.0 ≡ false) × IsDamaged P records after file logged found
-IsStop P records after (causes.SiteFault old new) = Unit {0}
-IsStop P records after (causes.RunnerFault old new) = Unit {0}
-IsStop P records after causes.Memory = Unit {0}
-IsStop P records after _ = ⊥
+-- The cause is that of an end of a run with workers, which waited in vain only by its records and after so many looks for which nobody came, as many as this call made at most.
+pub record EndsAway (ask : Ask) (rise : ℕ) (records : List Record) (cause : Cause) : Type 0 where
+  pub ended : Check
+  pub waiting : EndsWaiting ask.plan ask.options ask.workers.limit rise records ended
+  pub is_cause : IsCause (end_cause (length ask.plan.rules) ended) cause
 
--- A run came to its end, by what the definition of an end answers over its records, or was stopped before.
-abbrev pub RunEnds : Ask → List Record → Files → Cause → Type 0
-RunEnds ask records after cause = EndsBy ask (end_over ask.plan ask.options (before_end records) None) cause ⊎ IsStop ask.plan records after cause
+-- A run came to its end: one without workers, by what the definition of an end answers over its records, or one with workers.
+abbrev pub ComesToEnd : Bool → Ask → ℕ → List Record → Cause → Type 0
+ComesToEnd false ask rise records cause = EndsBy ask (end_over ask.plan ask.options (before_end records) None) cause
+ComesToEnd true ask rise records cause = EndsAway ask rise records cause
 
--- how the call goes on over these records of the log
-abbrev pub GoesOn : Work → Ask → List Record → Files → Files → List Record → Cause → Type 0
-GoesOn works.Run ask H before after records cause = Yields (run_refusal ask.plan ask.options H before) cause (RunEnds ask records after cause)
-GoesOn works.Clean ask H before after records cause = Yields (clean_refusal ask.plan H) cause (Answers (causes.Cleaned (made_count ask.plan H)) cause)
-GoesOn works.PrintLog ask H before after records cause = Yields (log_refusal ask.plan H) cause (Answers (causes.Printed (length (part H))) cause)
+-- A run was stopped before its end: a file that it took in isn't what was logged, or there was a fault, or want of memory. The hall fails only where workers are asked for.
+abbrev pub IsStop : Bool → Plan → List Record → Files → Cause → Type 0
+IsStop wq P records after (causes.SourceChanged file logged found) = (is_source P file.0 ≡ true) × IsDamaged P records after file logged found
+IsStop wq P records after (causes.FileDamaged file logged found) = (is_source P file.0 ≡ false) × IsDamaged P records after file logged found
+IsStop wq P records after (causes.SiteFault old new) = Unit {0}
+IsStop wq P records after (causes.RunnerFault old new) = Unit {0}
+IsStop wq P records after (causes.HallFault old new) = IsTrue wq
+IsStop wq P records after causes.Memory = Unit {0}
+IsStop wq P records after _ = ⊥
+
+-- A run came to its end, or was stopped before.
+abbrev pub RunEnds : Ask → ℕ → List Record → Files → Cause → Type 0
+RunEnds ask rise records after cause = ComesToEnd ask.options.wq ask rise records cause ⊎ IsStop ask.options.wq ask.plan records after cause
+
+-- how the call goes on over these records of the log, in which nobody came to the hall so often
+abbrev pub GoesOn : Work → Ask → ℕ → List Record → Files → Files → List Record → Cause → Type 0
+GoesOn works.Run ask rise H before after records cause = Yields (run_refusal ask.plan ask.options H before) cause (RunEnds ask rise records after cause)
+GoesOn works.Clean ask rise H before after records cause = Yields (clean_refusal ask.plan H) cause (Answers (causes.Cleaned (made_count ask.plan H)) cause)
+GoesOn works.PrintLog ask rise H before after records cause = Yields (log_refusal ask.plan H) cause (Answers (causes.Printed (length (part H))) cause)
 
 -- it is told that the log is damaged
 abbrev pub IsLogDamaged : Cause → Type 0
@@ -115,20 +125,19 @@ abbrev pub IsReadOr : Option (List ℕ) → Cause → Type 0
 IsReadOr file cause = SpellsSome file ⊎ IsLogDamaged cause ⊎ IsTrue (may_replace (kind_of cause))
 
 -- How the call ends that asks for this: the log is damaged, and that is told, or it goes on over the records that it spells.
-pub record LogEnds (ask : Ask) (before after : Files) (records : List Record) (cause : Cause) : Type 0 where
+pub record LogEnds (ask : Ask) (rise : ℕ) (before after : Files) (records : List Record) (cause : Cause) : Type 0 where
   pub damaged : (at : ℕ) → cause ≡ causes.LogDamaged at → IsDamagedAt (before ask.log) at
   pub read : IsReadOr (before ask.log) cause
-  pub whole : (H : List Record) → Spells H (before ask.log) → GoesOn ask.work ask H before after records cause
+  pub whole : (H : List Record) → Spells H (before ask.log) → GoesOn ask.work ask rise H before after records cause
 
--- How a call ends of which this was asked: by the refusal, with all files as before, where one is owed.
-abbrev pub CallEnds : Result Ask Cause → Files → Files → List Record → Cause → Type 0
-CallEnds (Err refusal) before after records cause = Answers refusal cause × (after ≡ before) × (records ≡ [])
-CallEnds (Ok ask) before after records cause = LogEnds ask before after records cause
+-- How a call ends of which this was asked, and in which nobody came to the hall so often: by the refusal, with all files as before, where one is owed.
+abbrev pub CallEnds : Result Ask Cause → ℕ → Files → Files → List Record → Cause → Type 0
+CallEnds (Err refusal) rise before after records cause = Answers refusal cause × (after ≡ before) × (records ≡ [])
+CallEnds (Ok ask) rise before after records cause = LogEnds ask rise before after records cause
 
 -- refused by the words alone
 abbrev pub is_words_refusal : Cause → Bool
 is_words_refusal causes.Usage = true
-is_words_refusal (causes.Unbuilt line) = true
 is_words_refusal _ = false
 
 -- What is said of a flow has its name, and nothing is said of the words.
@@ -154,14 +163,19 @@ OneRose told_before told_after before after = (at : ℕ) × (slice_get before at
 abbrev pub FaultEnd : Counts → Counts → Cause → Type 0
 FaultEnd before after (causes.SiteFault old new) = Rose old new before.site after.site
 FaultEnd before after (causes.RunnerFault old new) = OneRose old new before.runners after.runners
+FaultEnd before after (causes.HallFault old new) = Rose old new before.hall after.hall
 FaultEnd before after (causes.SinkFault old new) = Rose old new before.sink after.sink
 FaultEnd before after cause = Unit {0}
 
 -- counts of these numbers
-abbrev pub counts : ℕ → List ℕ → ℕ → Counts
-counts site runners sink = record { site = site; runners = runners; sink = sink }
+abbrev pub counts : ℕ → List ℕ → ℕ → ℕ → ℕ → Counts
+counts site runners hall idles sink = record { site = site; runners = runners; hall = hall; idles = idles; sink = sink }
 
--- Nothing failed: the counts stand.
+-- how often nobody came to the hall from the one to the other
+abbrev pub idle_rise : Counts → Counts → ℕ
+idle_rise before after = after.idles - before.idles
+
+-- Nothing failed, beside a hall: the counts stand.
 pub record NoneRose (before after : Counts) : Type 0 where
   pub site : after.site ≡ before.site
   pub runners : after.runners ≡ before.runners

@@ -6,8 +6,13 @@ use Rattle.flow_types.specs.declared.numbers.FileNo.{FileNo}
 use Rattle.flow_types.specs.declared.records.Record.{Record}
 use Rattle.flow_types.specs.declared.records.Record.TheVariants as records
 use Rattle.flow_types.specs.Plans.{is_kept, takers_of}
+use Rattle.run_history.specs.declared.answers.Wait.{Wait}
+use Rattle.run_history.specs.declared.moves.Move.{Move}
 use Rattle.run_history.specs.declared.options.Mode.{Mode}
+use Rattle.run_history.specs.declared.options.Options.{Options as RunOptions}
+use Rattle.run_history.specs.Answers.{before_end, is_in_vain}
 use Rattle.run_history.specs.History.{since_opening}
+use Rattle.run_history.specs.Links.{records_of}
 use Rattle.run_history.specs.Spent.{SpentOnce}
 use Rattle.run_history.specs.States.{limit_of}
 use Rattle.run_history.specs.Storage.{is_complete, is_within, reserved, stored}
@@ -21,8 +26,8 @@ use Rattle.local_run.specs.Runs.{BeginsWith}
 use Rattle.report.specs.declared.cause.Cause.{Cause}
 use Rattle.report.specs.declared.cause.Cause.TheVariants as causes
 use Rattle.report.specs.declared.cause.Kind.{Kind}
-use Rattle.report.specs.declared.cause.Kind.TheVariants.{Completed, RuleFailed, WrongWords, WrongFlow, PastLimit, RunnerBroke}
-use Rattle.report.specs.Causes.{may_replace, was_read}
+use Rattle.report.specs.declared.cause.Kind.TheVariants.{Completed, RuleFailed, WrongWords, WrongFlow, PastLimit, RunnerBroke, HallBroke, WaitedOut}
+use Rattle.report.specs.Causes.{kind_of, may_replace, was_read}
 use Rattle.master_run.specs.declared.ask.Ask.{Ask}
 
 -- It holds of what was asked and of the records that the log spelled at the entry.
@@ -72,6 +77,8 @@ is_run_end Completed = true
 is_run_end RuleFailed = true
 is_run_end PastLimit = true
 is_run_end RunnerBroke = true
+is_run_end HallBroke = true
+is_run_end WaitedOut = true
 is_run_end _ = false
 
 -- The count of failed commands never falls, and it rose where a call ends by one.
@@ -110,3 +117,33 @@ pub record DropsUnneeded (P : Plan) (H all : List Record) : Type 0 where
 abbrev pub IsCleanedBy : Plan → List Record → Files → Cause → Type 0
 IsCleanedBy P H files (causes.Cleaned removed) = AreGone P (present_made P H) files
 IsCleanedBy P H files _ = Unit {0}
+
+-- what runs the commands failed
+abbrev pub is_runner_fault : Kind → Bool
+is_runner_fault RunnerBroke = true
+is_runner_fault _ = false
+
+-- the call ended since nobody came
+abbrev pub is_waited : Kind → Bool
+is_waited WaitedOut = true
+is_waited _ = false
+
+-- It waited in vain: workers were asked for, nobody came so often, which is at least the limit and at most as often as in this call, and by the records before the end and some moves of links no attempt ran, no file was wanted, and some ready rule fitted the storage but none that did fitted a live link that it may run on.
+pub record WaitsInVain (P : Plan) (O : RunOptions) (limit rise : ℕ) (records : List Record) (wait : Wait) : Type 0 where
+  pub asked : IsTrue O.wq
+  pub least : limit ≤ wait.idles
+  pub most : wait.idles ≤ rise
+  pub moves : List Move
+  pub logged : records_of moves ≡ before_end records
+  pub vain : IsTrue (is_in_vain P O moves)
+
+-- where the cause is a wait this holds of it
+abbrev pub IfWaited : Cause → (Wait → Type 0) → Type 0
+IfWaited (causes.Waited wait) fact = fact wait
+IfWaited cause fact = Unit {0}
+
+-- Where the call ended since nobody came, it waited in vain, by the plan that was read.
+pub record WaitedBy (is_read : Plan → Type 0) (O : RunOptions) (limit rise : ℕ) (records : List Record) (cause : Cause) : Type 0 where
+  pub plan : Plan
+  pub read : IsTrue (is_waited (kind_of cause)) → is_read plan
+  pub waits : IfWaited cause (WaitsInVain plan O limit rise records)

@@ -1,5 +1,5 @@
 -- What rules need, against what there is on this machine and in its storage.
-use Rattle.std.specs.Prelude.{◌≡◌, ◌<◌, true, length, ℕ, List, nat_lt, Option, Some, None, Result, Ok, Err, if◌then◌else◌}
+use Rattle.std.specs.Prelude.{◌≡◌, ◌<◌, ◌||◌, Bool, true, not, length, ℕ, List, nat_lt, Option, Some, None, Result, Ok, Err, if◌then◌else◌}
 use Rattle.std.specs.List.{enumerate_from}
 use Rattle.flow_types.specs.declared.numbers.Amounts.{Amounts}
 use Rattle.flow_types.specs.declared.numbers.Needs.{Needs}
@@ -35,9 +35,17 @@ abbrev pub bound_excess : ℕ → ℕ → Option ℕ → Option Excess
 bound_excess r bound None = None
 bound_excess r bound (Some limit) = if nat_lt limit bound then exceeds r bound limit else None
 
+-- the rule runs on this machine: it is a LOCAL one, or all rules run here
+abbrev pub runs_here : Options → Rule → Bool
+runs_here O rule = rule.local || not O.wq
+
+-- what a rule that runs on this machine needs too much of it
+abbrev pub here_excess : Options → ℕ → Rule → Option Excess
+here_excess O r rule = if runs_here O rule then rule_excess r (taken_here rule.needs) O.local else None
+
 -- the first of what a rule of the plan needs too much: cores, memory, disk, then storage
 abbrev pub excess_of : Options → ℕ → Rule → Option Excess
-excess_of O r rule = or_else (rule_excess r (taken_here rule.needs) O.local) (bound_excess r rule.bound O.limit)
+excess_of O r rule = or_else (here_excess O r rule) (bound_excess r rule.bound O.limit)
 
 -- the first of these rules, numbered from here, that needs more than there is
 abbrev pub excess_among : Options → ℕ → List Rule → Option Excess

@@ -45,11 +45,12 @@ halt_cause site runner P halts.Runner = causes.RunnerFault runner.before runner.
 halt_cause site runner P halts.Site = site_cause site
 halt_cause site runner P halts.Memory = causes.Memory
 
--- the cause of how a run ended
-abbrev pub run_cause : Rise → Rise → Plan → Result Check Stopped → Cause
-run_cause site runner P (Ok check) = end_cause (length P.rules) check
-run_cause site runner P (Err (stopped.Refused why)) = refused_cause site why
-run_cause site runner P (Err (stopped.Halted halt)) = halt_cause site runner P halt
+-- the cause of how a run ended, by the two counts of the site, those of a runner and those of the hall
+abbrev pub run_cause : Rise → Rise → Rise → Plan → Result Check Stopped → Cause
+run_cause site runner hall P (Ok check) = end_cause (length P.rules) check
+run_cause site runner hall P (Err (stopped.Refused why)) = refused_cause site why
+run_cause site runner hall P (Err (stopped.Halted halt)) = halt_cause site runner P halt
+run_cause site runner hall P (Err stopped.Hall) = causes.HallFault hall.before hall.after
 
 -- the cause of a log that isn't read
 abbrev pub unread_cause : Rise → RecoverFault → Cause

@@ -1,5 +1,5 @@
 -- What a call does of which a plan and some work were asked.
-use Rattle.std.specs.Prelude.{◌≡◌, ◌⊎◌, ℕ, List, Option, Some, None, IsTrue, IsFalse}
+use Rattle.std.specs.Prelude.{◌≡◌, ◌⊎◌, ℕ, false, List, Option, Some, None, IsTrue, IsFalse}
 use Rattle.flow_types.specs.declared.plan.Plan.{Plan}
 use Rattle.flow_types.specs.declared.numbers.Content.{Content}
 use Rattle.flow_types.specs.declared.job.Job.{Job}
@@ -18,13 +18,15 @@ use Rattle.local_run.specs.Course.{IsUnmade, TellsJobs}
 use Rattle.local_run.specs.Moments.{IsMoment, IsResumable, KeepsSome}
 use Rattle.local_run.specs.Runs.{Adds, BeginsWith, Held, LosesNone, SerialFits, read_sources}
 use Rattle.command_words.specs.declared.options.Work.TheVariants.{Run}
+use Rattle.wq_run.specs.Ends.{LosesOnLinks}
+use Rattle.flow_run.specs.Places.{PlacedBy}
 use Rattle.report.specs.declared.cause.Cause.{Cause}
 use Rattle.report.specs.declared.cause.Cause.TheVariants as causes
 use Rattle.report.specs.Causes.{is_completion, is_cut, is_failing, is_refusal, kind_of, may_lose, was_read}
 use Rattle.master_run.specs.declared.ask.Ask.{Ask}
 use Rattle.master_run.specs.Counts.{Counts}
-use Rattle.master_run.specs.Ends.{FaultEnd, LogEnds, NoneRose, run_refusal}
-use Rattle.master_run.specs.Headline.{HasLog, IsCleanedBy, IsLegalOr, IsSpentBy, is_early, is_run_end}
+use Rattle.master_run.specs.Ends.{FaultEnd, LogEnds, NoneRose, idle_rise, run_refusal}
+use Rattle.master_run.specs.Headline.{HasLog, IsCleanedBy, IsLegalOr, IsSpentBy, is_early, is_run_end, is_runner_fault}
 
 -- The call may have ended in the midst of an append.
 abbrev pub IsCut : Cause → Type 0
@@ -59,10 +61,10 @@ abbrev pub Completes : Option ℕ → Cause → Type 0
 Completes limit (causes.NoRoom rule need stored most) = limit ≡ Some most
 Completes limit cause = IsTrue (is_completion (kind_of cause))
 
--- What can come to its end does, where nothing fails: every rule is complete, or memory was wanting, or there is a limit and no room.
+-- What can come to its end on this machine does, where nothing fails: every rule is complete, or memory was wanting, or there is a limit and no room.
 abbrev pub CanComplete : Function → (Job → Type 0) → Type 0 → Ask → Files → Outcomes → List Record → Counts → Counts → Cause → Type 0
 CanComplete gives told sure ask files outcomes H before after cause =
-    ask.work ≡ Run
+    ask.options.wq ≡ false → ask.work ≡ Run
     → IsResumable (SerialFits gives (read_sources ask.plan files)) ask.plan ask.log H outcomes
     → run_refusal ask.plan ask.options H files ≡ None
     → HasSources ask.plan files → SerialInputsFit ask.plan gives (read_sources ask.plan files) → HasRecordRoom ask.plan H
@@ -72,7 +74,7 @@ CanComplete gives told sure ask files outcomes H before after cause =
 -- What a call does of which this is asked, from the site that it finds to the one that it leaves.
 pub record Serves {S : Type 0} (tells : Type 0) (files : S → Files) (may_leave : S → Outcomes) (moment : S → ℕ) (images_since : S → ℕ → Files → Type 0) (born : ℕ)
     (gives : Function) (may_fail : Job → Failure → Type 0) (told : Job → Type 0) (sure : Type 0) (before after : Counts) (ask : Ask) (old new : S) (records : List Record) (cause : Cause) : Type 0 where
-  pub ends : tells → LogEnds ask (files old) (files new) records cause
+  pub ends : tells → LogEnds ask (idle_rise before after) (files old) (files new) records cause
   pub late : IsFalse (is_early (kind_of cause))
   pub faults : FaultEnd before after cause
   pub has_log : tells → (H : List Record) → Spells H (files old ask.log) → HasLog H records (kind_of cause)
@@ -80,21 +82,24 @@ pub record Serves {S : Type 0} (tells : Type 0) (files : S → Files) (may_leave
   pub logged : tells → (H : List Record) → Spells H (files old ask.log) → IsLegalOr ask.plan H records (kind_of cause)
   pub closed : IsTrue (is_run_end (kind_of cause)) → SpentOnce (since_opening records)
   pub spent : tells → (H : List Record) → Spells H (files old ask.log) → (IsCut cause → ⊥) → IsSpentBy H records
-  pub lost : tells → (H : List Record) → Spells H (files old ask.log) → IsFalse (may_lose (kind_of cause)) → LosesNone H records
+  pub lost : tells → (H : List Record) → Spells H (files old ask.log) → ask.options.wq ≡ false → IsFalse (may_lose (kind_of cause)) → LosesNone H records
+  pub lost_away : tells → (H : List Record) → Spells H (files old ask.log) → IsFalse (may_lose (kind_of cause)) → LosesOnLinks H records
   pub moments : tells → (H : List Record) → Spells H (files old ask.log) → AllMoments files may_leave images_since Held born ask H old new records cause
   pub resumable : tells → StaysResumable may_leave images_since born ask old new
   pub now : tells → (H : List Record) → Spells H (files old ask.log) → KeepsAtEnd may_leave ask H old new records cause
   pub untouched : tells → IsTrue (is_refusal (kind_of cause)) → files new ≡ files old
   pub others : tells → StaysBeside may_leave moment images_since (IsUnmade ask.plan ask.log) old new
-  pub contents : tells → (H : List Record) → Spells H (files old ask.log)
+  pub contents : tells → (H : List Record) → Spells H (files old ask.log) → ask.options.wq ≡ false
       → TellsJobs ask.plan told (serial ask.plan gives (read_sources ask.plan (files old)))
       → AllMoments files may_leave images_since (SerialFits gives (read_sources ask.plan (files old))) born ask H old new records cause
-  pub honest : tells → (H : List Record) → Spells H (files old ask.log)
+  pub honest : tells → (H : List Record) → Spells H (files old ask.log) → ask.options.wq ≡ false
       → IsResumable (SerialFits gives (read_sources ask.plan (files old))) ask.plan ask.log H (may_leave old)
       → TellsJobs ask.plan told (serial ask.plan gives (read_sources ask.plan (files old)))
       → BeginsWith H records → Adds (Unit {0}) gives may_fail (read_sources ask.plan (files old)) ask.plan H records
   pub modes : tells → (H : List Record) → Spells H (files old ask.log) → BeginsWith H records → CollectsBy ask.plan ask.options.mode H records
+  pub places : tells → (H : List Record) → Spells H (files old ask.log) → BeginsWith H records → PlacedBy ask.plan ask.options H records
   pub gone : tells → (H : List Record) → Spells H (files old ask.log) → (IsCut cause → ⊥) → AreGone ask.plan (files new) H records
   pub cleaned : tells → (H : List Record) → Spells H (files old ask.log) → IsCleanedBy ask.plan H (files new) cause
-  pub sure_end : sure → IsFalse (is_failing (kind_of cause))
+  pub sure_end : ask.options.wq ≡ false → sure → IsFalse (is_failing (kind_of cause))
+  pub never : sure → IsFalse (is_runner_fault (kind_of cause))
   pub completes : tells → (H : List Record) → Spells H (files old ask.log) → CanComplete gives told sure ask (files old) (may_leave old) H before after cause

@@ -1,24 +1,20 @@
 -- What the words of a command line choose.
-use Rattle.std.specs.Prelude.{ℕ, Bool, true, false, List, Result, Ok, Err, ok_or, codes, if◌then◌else◌}
+use Rattle.std.specs.Prelude.{ℕ, Bool, true, false, List, Result, Ok, Err, ok_or, codes}
 use Rattle.command_words.specs.declared.options.Options.{Options}
 use Rattle.command_words.specs.declared.options.Flow.{Flow}
 use Rattle.command_words.specs.declared.options.Flow.TheVariants.{File, Generated}
 use Rattle.command_words.specs.Choices.{options_of}
 use Rattle.report.specs.declared.cause.Cause.{Cause}
-use Rattle.report.specs.declared.cause.Cause.TheVariants.{Usage, Unbuilt}
+use Rattle.report.specs.declared.cause.Cause.TheVariants.{Usage}
 
 -- one stage after another
 abbrev pub and_then : {T U : Type 0} → Result T Cause → (T → Result U Cause) → Result U Cause
 and_then (Ok value) next = next value
 and_then (Err cause) next = Err cause
 
--- what can be run of what the words choose
-abbrev pub built : Options → Result Options Cause
-built options = if options.unbuilt then Err (Unbuilt 0) else Ok options
-
--- what the words choose, where they are a command line and all of it is built
+-- what the words choose, where they are a command line
 abbrev pub chosen : List (List ℕ) → Result Options Cause
-chosen words = and_then (ok_or (options_of words) Usage) built
+chosen words = ok_or (options_of words) Usage
 
 -- the name by which one speaks of a flow that is made up
 abbrev pub generated_name : List ℕ

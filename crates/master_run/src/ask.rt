@@ -1,6 +1,7 @@
 //! What a call is asked for.
 use command_words::Work;
 use flow_types::{Name, Plan};
+use wq_run::Workers;
 
 /// What a call is asked for.
 #[derive(Drop)]
@@ -13,6 +14,8 @@ pub struct Ask {
     pub log: Name,
     /// What a run goes by.
     pub options: run_history::Options,
-    /// How many jobs of a run may be run at once.
+    /// Where workers come to a run that asks for them.
+    pub workers: Workers,
+    /// How many jobs of a run may be run at once on this machine.
     pub jobs: u32,
 }

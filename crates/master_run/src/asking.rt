@@ -1,5 +1,5 @@
 //! From the words and the flow file to what is asked for.
-ghost use Rattle.std.specs.Prelude.{◌≡◌, ◌≢◌, ◌≤◌, ◌<◌, ℕ, List, IfOk, IsErrOf, Ok};
+ghost use Rattle.std.specs.Prelude.{◌≡◌, ◌≢◌, ◌≤◌, ◌<◌, ℕ, List, IfOk, IsErrOf, Ok, false};
 ghost use Rattle.command_words.specs.declared.options.Options.{Options as OptionsValue};
 ghost use Rattle.flow_types.specs.Plans.{IsValid};
 ghost use Rattle.mf_rules.specs.Flow.{given_pairs};
@@ -7,7 +7,7 @@ ghost use Rattle.outside.specs.Disk.{IsImage, LeavesOnly, Within};
 ghost use Rattle.file_store.specs.Outputs.{file_name};
 ghost use Rattle.local_run.specs.Ends.{FitsHere};
 ghost use Rattle.master_run.specs.Asked.{checked, choice, file_plan, generated_plan, plan_by};
-ghost use Rattle.master_run.specs.Asked.{request, run_mode, run_options};
+ghost use Rattle.master_run.specs.Asked.{has_workers, request, run_mode, run_options, workers_of};
 ghost use Rattle.master_run.specs.Needs.{NeedsFit, with_needs};
 ghost use Rattle.master_run.specs.Stages.{Stage, WordsStage, OfFlow, SaysRefusal, SiteTrace};
 ghost use Rattle.master_run.specs.Words.{flow_name, generated_name};
@@ -17,12 +17,13 @@ use crate::flow_file::read_file;
 use crate::flow_plan::{flow_plan, generated_rules};
 use crate::log_name::with_log_name;
 use crate::needs::{Excess, least_excess};
-use command_words::{Flow, Language, Options, WordsFault, read_words};
+use command_words::{Flow, Language, Options, Transport, WordsFault, read_words};
 use flow_types::{Memory, Name, Plan};
 use outside::{Fault, Site};
 use report::Cause;
 use run_history::{Mode, Options as RunOptions};
 use std::alloc::Global;
+use wq_run::Workers;
 
 /// Why there is no plan.
 #[derive(Drop)]
@@ -35,7 +36,7 @@ pub enum Refusal {
     Memory,
 }
 
-/// What the words choose, if all of it is built.
+/// What the words choose.
 pub fn chosen(alloc: Global, words: &[String]) -> Result<Options, Refusal>
     ensures stage { Stage (choice words.now) result }
     ensures words { WordsStage (choice words.now) result }
@@ -44,13 +45,7 @@ pub fn chosen(alloc: Global, words: &[String]) -> Result<Options, Refusal>
     ensures some { IfOk result (λ options. 0 < options.service.jobs) }
 {
     match read_words(alloc, words) {
-        Ok(options) => {
-            if options.unbuilt {
-                Err(Refusal::Said(Cause::Unbuilt { line: 0 }))
-            } else {
-                Ok(options)
-            }
-        }
+        Ok(options) => Ok(options),
         Err(WordsFault::Usage) => Err(Refusal::Said(Cause::Usage)),
         Err(WordsFault::Memory) => Err(Refusal::Memory),
     }
@@ -63,7 +58,7 @@ fn with_needs(plan: Plan, options: &RunOptions) -> Result<Plan, Refusal>
     ensures flow { (name : List ℕ) → OfFlow name result }
     ensures kind { SaysRefusal result }
     ensures same { IfOk result (λ p. p ≡ plan) }
-    ensures fits { IfOk result (NeedsFit options.now.local) }
+    ensures fits { options.now.wq ≡ false → IfOk result (NeedsFit options.now.local) }
     ensures no_site { IsErrOf result Refusal.Site → ⊥ }
 {
     match least_excess(options, plan.rules.as_slice()) {
@@ -88,7 +83,7 @@ fn checked(
     ensures kind { SaysRefusal result }
     ensures valid { IfOk result IsValid }
     ensures apart { IfOk result (λ plan. (f : ℕ) → file_name plan f ≢ log.now) }
-    ensures fits { IfOk result (NeedsFit options.now.local) }
+    ensures fits { options.now.wq ≡ false → IfOk result (NeedsFit options.now.local) }
     ensures no_site { IsErrOf result Refusal.Site → ⊥ }
 {
     match with_log_name(alloc, log, flow, plan) {
@@ -114,7 +109,7 @@ fn file_plan<S: Site>(
     ensures kind { SaysRefusal result }
     ensures valid { IfOk result IsValid }
     ensures apart { IfOk result (λ plan. (f : ℕ) → file_name plan f ≢ log.now) }
-    ensures fits { IfOk result (NeedsFit options.now.local) }
+    ensures fits { options.now.wq ≡ false → IfOk result (NeedsFit options.now.local) }
     ensures files { S.tells → S.files site.new ≡ S.files site.old }
     ensures crash { S.tells → Within (S.may_leave site.old) (S.may_leave site.new) }
     ensures any_moment { S.tells → LeavesOnly S.moment S.images_since site.old site.new
@@ -148,7 +143,7 @@ fn generated_plan(
     ensures kind { SaysRefusal result }
     ensures valid { IfOk result IsValid }
     ensures apart { IfOk result (λ plan. (f : ℕ) → file_name plan f ≢ log.now) }
-    ensures fits { IfOk result (NeedsFit options.now.local) }
+    ensures fits { options.now.wq ≡ false → IfOk result (NeedsFit options.now.local) }
     ensures no_site { IsErrOf result Refusal.Site → ⊥ }
 {
     match generated_rules(alloc, rules) {
@@ -172,7 +167,7 @@ fn plan_by<S: Site>(
     ensures kind { SaysRefusal result }
     ensures valid { IfOk result IsValid }
     ensures apart { IfOk result (λ plan. (f : ℕ) → file_name plan f ≢ log.now) }
-    ensures fits { IfOk result (NeedsFit options.now.local) }
+    ensures fits { options.now.wq ≡ false → IfOk result (NeedsFit options.now.local) }
     ensures files { S.tells → S.files site.new ≡ S.files site.old }
     ensures crash { S.tells → Within (S.may_leave site.old) (S.may_leave site.new) }
     ensures any_moment { S.tells → LeavesOnly S.moment S.images_since site.old site.new
@@ -195,6 +190,26 @@ fn run_mode(mode: command_words::Mode) -> Mode
     }
 }
 
+// Whether rules run at workers.
+fn has_workers(transport: Transport) -> bool
+    ensures { result ≡ has_workers transport }
+{
+    match transport {
+        Transport::Local => false,
+        Transport::WorkQueue => true,
+    }
+}
+
+// Where workers come.
+fn workers_of(options: &Options) -> Workers
+    ensures { result ≡ workers_of options.now }
+{
+    Workers {
+        port: options.service.port,
+        limit: options.limits.idle,
+    }
+}
+
 // What a run goes by.
 fn run_options(options: &Options) -> RunOptions
     ensures { result ≡ run_options options.now }
@@ -203,7 +218,7 @@ fn run_options(options: &Options) -> RunOptions
         mode: run_mode(options.mode),
         limit: options.limits.storage,
         retries: options.limits.retries,
-        wq: false,
+        wq: has_workers(options.service.transport),
         local: options.local,
     }
 }
@@ -220,9 +235,12 @@ pub fn read_ask<S: Site>(
     ensures kind { SaysRefusal result }
     ensures valid { IfOk result (λ ask. IsValid ask.plan) }
     ensures apart { IfOk result (λ ask. (f : ℕ) → file_name ask.plan f ≢ ask.log) }
-    ensures fits { IfOk result (λ ask. FitsHere ask.plan ask.options) }
+    ensures fits { IfOk result (λ ask. ask.options.wq ≡ false
+        → FitsHere ask.plan ask.options) }
     ensures goes_by { IfOk result (λ ask. (options : OptionsValue)
         → choice words.now ≡ Ok options → ask.options ≡ run_options options) }
+    ensures meets { IfOk result (λ ask. (options : OptionsValue)
+        → choice words.now ≡ Ok options → ask.workers ≡ workers_of options) }
     ensures jobs { IfOk result (λ ask. (options : OptionsValue)
         → choice words.now ≡ Ok options → ask.jobs ≡ options.service.jobs) }
     ensures some { IfOk result (λ ask. 0 < ask.jobs) }
@@ -237,6 +255,7 @@ pub fn read_ask<S: Site>(
         Err(refusal) => return Err(refusal),
     };
     let goes_by = run_options(&options);
+    let workers = workers_of(&options);
     let Options {
         work,
         flow,
@@ -250,6 +269,7 @@ pub fn read_ask<S: Site>(
             work,
             log,
             options: goes_by,
+            workers,
             jobs: service.jobs,
         }),
         Err(refusal) => Err(refusal),

@@ -2,7 +2,8 @@
 ghost use Rattle.std.specs.Prelude.{◌≡◌, length};
 ghost use Rattle.std.specs.Prelude.{◌<◌, ◌^◌, IfOk};
 ghost use Rattle.flow_types.specs.Plans.{is_source};
-ghost use Rattle.master_run.specs.Ends.{IsSomeRunEnd, end_cause, start_cause};
+ghost use Rattle.wq_run.specs.Ends.{IsOver};
+ghost use Rattle.master_run.specs.Ends.{end_cause, start_cause};
 ghost use Rattle.master_run.specs.Runs.{clean_cause, damage_cause, halt_cause, look_cause};
 ghost use Rattle.master_run.specs.Runs.{refusal_cause, refused_cause, run_cause, site_cause};
 ghost use Rattle.master_run.specs.Runs.{unread_cause};
@@ -114,7 +115,7 @@ fn halt_cause(site: Rise, runner: Rise, plan: &Plan, halt: Halt) -> Cause
 }
 
 fn end_cause(rules: u32, check: Check) -> Cause
-    requires { IsSomeRunEnd check }
+    requires { IsOver check }
     ensures { result ≡ end_cause rules check }
 {
     match check {
@@ -133,20 +134,32 @@ fn end_cause(rules: u32, check: Check) -> Cause
             stored,
             limit,
         },
-        Check::Going | Check::Halted | Check::Waited(_) => unreachable!(),
+        Check::Waited(wait) => Cause::Waited(wait),
+        Check::Going | Check::Halted => unreachable!(),
     }
 }
 
-/// The cause of how a run of this plan ended, by the counts of the site and of a runner.
-pub fn run_cause(site: Rise, runner: Rise, plan: &Plan, how: Result<Check, Stopped>) -> Cause
-    requires ends { IfOk how IsSomeRunEnd }
+/// The cause of how a run of this plan ended, by the counts of the site, of a runner and of the
+/// hall.
+pub fn run_cause(
+    site: Rise,
+    runner: Rise,
+    hall: Rise,
+    plan: &Plan,
+    how: Result<Check, Stopped>,
+) -> Cause
+    requires ends { IfOk how IsOver }
     requires few { length plan.now.rules < 2 ^ 32 }
-    ensures { result ≡ run_cause site runner plan.now how }
+    ensures { result ≡ run_cause site runner hall plan.now how }
 {
     match how {
         Ok(check) => end_cause(plan.rules.len() as u32, check),
         Err(Stopped::Refused(why)) => refused_cause(site, why),
         Err(Stopped::Halted(halt)) => halt_cause(site, runner, plan, halt),
+        Err(Stopped::Hall) => Cause::HallFault {
+            before: hall.before,
+            after: hall.after,
+        },
     }
 }
 

@@ -1,7 +1,7 @@
 //! What rules need, against what there is on this machine and in its storage.
 ghost use Rattle.std.specs.Prelude.{◌≡◌, ◌<◌, ◌^◌, length};
 ghost use Rattle.master_run.specs.Needs.{bound_excess, excess_among, excess_of, rule_excess};
-ghost use Rattle.master_run.specs.Needs.{taken_here};
+ghost use Rattle.master_run.specs.Needs.{here_excess, runs_here, taken_here};
 
 use flow_types::{Amounts, Needs, Rule, RuleNo};
 use run_history::Options;
@@ -61,10 +61,27 @@ fn bound_excess(rule: RuleNo, bound: u64, limit: Option<u64>) -> Option<Excess>
     }
 }
 
+// Whether the rule runs on this machine.
+fn runs_here(options: &Options, row: &Rule) -> bool
+    ensures { result ≡ runs_here options.now row.now }
+{
+    row.local || !options.wq
+}
+
+fn here_excess(options: &Options, rule: RuleNo, row: &Rule) -> Option<Excess>
+    ensures { result ≡ here_excess options.now rule.0 row.now }
+{
+    if runs_here(options, row) {
+        rule_excess(rule, taken_here(row.needs), options.local)
+    } else {
+        None
+    }
+}
+
 fn excess_of(options: &Options, rule: RuleNo, row: &Rule) -> Option<Excess>
     ensures { result ≡ excess_of options.now rule.0 row.now }
 {
-    match rule_excess(rule, taken_here(row.needs), options.local) {
+    match here_excess(options, rule, row) {
         Some(over) => Some(over),
         None => bound_excess(rule, row.bound, options.limit),
     }

@@ -1,5 +1,5 @@
 //! The run of a plan over its log.
-ghost use Rattle.std.specs.Prelude.{◌≡◌, ◌≢◌, ◌≤◌, ◌<◌, ℕ, List, IfOk, IsTrue};
+ghost use Rattle.std.specs.Prelude.{◌≡◌, ◌≢◌, ◌≤◌, ◌<◌, ◌-◌, ℕ, List, IfOk, IsTrue, false};
 ghost use Rattle.std.specs.Prelude.{drop, length, map, sum_by};
 ghost use Rattle.flow_types.specs.declared.records.Record.{Record as RecordValue};
 ghost use Rattle.flow_types.specs.Plans.{IsValid};
@@ -11,15 +11,19 @@ ghost use Rattle.local_run.specs.Ends.{FitsHere, OpensBy};
 ghost use Rattle.command_words.specs.declared.options.Work.TheVariants.{Run};
 ghost use Rattle.report.specs.Causes.{kind_of};
 ghost use Rattle.master_run.specs.Ends.{counts};
-ghost use Rattle.master_run.specs.Headline.{FailureEnd, LogsFailed, is_run_end};
+ghost use Rattle.wq_run.specs.Ends.{AreBack};
+ghost use Rattle.master_run.specs.Headline.{FailureEnd, IfWaited, LogsFailed, WaitsInVain};
+ghost use Rattle.master_run.specs.Headline.{is_run_end};
 ghost use Rattle.master_run.specs.Serves.{IsCut, Serves};
 
 use crate::ask::Ask;
 use crate::causes::{run_cause, unread_cause};
 use crate::course::Course;
 use crate::rises::{Rise, counts_of, first_rise};
+use flow_run::resume;
 use flow_types::{Memory, Plan, Rows};
-use local_run::{Born, ResumeRefused, RunEnded, resume};
+use links::Hall;
+use local_run::{Born, ResumeRefused, RunEnded};
 use log_recover::files_spell_one_list;
 use outside::{Clock, Commands, Runner, Site};
 use report::Cause;
@@ -41,11 +45,12 @@ fn kept_aside<F: Commands, R: Runner<F>>(
     Ok((plan, counts))
 }
 
-// Runs the plan over its log, by all of the runners.
+// Runs the plan over its log, by all of the runners, and at workers where it asks for them.
 fn run_by_all<
     F: Commands,
     W: Threads + Wait + Sync,
     S: Site,
+    H: Hall<F>,
     R: Runner<F>,
     C: Clock,
     G: Gate,
@@ -56,6 +61,7 @@ fn run_by_all<
     before: u64,
     ask: Ask,
     site: S,
+    hall: &mut H,
     runners: &mut [R],
     gate: &G,
     clock: &C,
@@ -63,20 +69,28 @@ fn run_by_all<
     requires some { 0 < length runners.old }
     requires valid { IsValid ask.plan }
     requires apart { (f : ℕ) → file_name ask.plan f ≢ ask.log }
-    requires fits { FitsHere ask.plan ask.options }
+    requires fits { ask.options.wq ≡ false → FitsHere ask.plan ask.options }
     requires later { S.tells → B.born ≤ S.moment site }
     requires work { ask.work ≡ Run }
     requires counted { before ≤ S.count site }
     ensures serves { Serves S.tells S.files S.may_leave S.moment S.images_since B.born
         F.gives F.may_fail (AllTell R.tells runners.old) (AllSure R.sure runners.old)
-        (counts before (map R.count runners.old) 0)
-        (counts (S.count result.site) (map R.count runners.new) 0)
+        (counts before (map R.count runners.old) (H.count hall.old) (H.idle_count hall.old) 0)
+        (counts (S.count result.site) (map R.count runners.new) (H.count hall.new)
+        (H.idle_count hall.new) 0)
         ask site result.site result.records result.cause }
-    ensures failures { FailureEnd (sum_by R.failures runners.old) (sum_by R.failures runners.new)
-        (kind_of result.cause) }
-    ensures failed { S.tells → (H : List RecordValue) → Spells H (S.files site ask.log)
+    ensures risen { sum_by R.failures runners.old ≤ sum_by R.failures runners.new }
+    ensures failures { ask.options.wq ≡ false → FailureEnd (sum_by R.failures runners.old)
+        (sum_by R.failures runners.new) (kind_of result.cause) }
+    ensures failed { ask.options.wq ≡ false → S.tells
+        → (H : List RecordValue) → Spells H (S.files site ask.log)
         → (IsCut result.cause → ⊥) → LogsFailed H result.records
         (sum_by R.failures runners.old) (sum_by R.failures runners.new) }
+    ensures alone { ask.options.wq ≡ false → hall.new ≡ hall.old }
+    ensures back { (IsCut result.cause → ⊥)
+        → AreBack (H.got hall.old) (H.got hall.new) (H.given hall.old) (H.given hall.new) }
+    ensures waited { IfWaited result.cause (WaitsInVain ask.plan ask.options ask.workers.limit
+        (H.idle_count hall.new - H.idle_count hall.old) result.records) }
     ensures opened { IsTrue (is_run_end (kind_of result.cause))
         → OpensBy ask.options result.records }
     ensures collects { IsTrue (is_run_end (kind_of result.cause))
@@ -88,6 +102,7 @@ fn run_by_all<
         plan,
         log,
         options,
+        workers,
         ..
     } = ask;
     let Ok((copied, counts)) = kept_aside::<F, R>(alloc, &plan, runners) else {
@@ -98,13 +113,20 @@ fn run_by_all<
             plan,
         };
     };
-    match resume::<W, G, F, S, R, C, B>(rt, alloc, plan, site, log, options, runners, gate, clock) {
+    let met = hall.faults();
+    match resume::<W, G, F, S, H, R, C, B>(
+        rt, alloc, plan, site, log, options, hall, workers, runners, gate, clock,
+    ) {
         Ok(ended) => {
             let RunEnded { site, records, how } = ended;
             let after = site.faults();
             let runner = first_rise::<F, R>(counts.as_slice(), runners);
+            let rose = Rise {
+                before: met,
+                after: hall.faults(),
+            };
             Course {
-                cause: run_cause(Rise { before, after }, runner, &copied, how),
+                cause: run_cause(Rise { before, after }, runner, rose, &copied, how),
                 site,
                 records,
                 plan: copied,
@@ -129,6 +151,7 @@ pub fn run_flow<
     F: Commands,
     W: Threads + Wait + Sync,
     S: Site,
+    H: Hall<F>,
     R: Runner<F>,
     C: Clock,
     G: Gate,
@@ -139,6 +162,7 @@ pub fn run_flow<
     before: u64,
     ask: Ask,
     site: S,
+    hall: &mut H,
     runners: &mut [R],
     gate: &G,
     clock: &C,
@@ -146,21 +170,29 @@ pub fn run_flow<
     requires some { (0 < length runners.old) × (0 < ask.jobs) }
     requires valid { IsValid ask.plan }
     requires apart { (f : ℕ) → file_name ask.plan f ≢ ask.log }
-    requires fits { FitsHere ask.plan ask.options }
+    requires fits { ask.options.wq ≡ false → FitsHere ask.plan ask.options }
     requires later { S.tells → B.born ≤ S.moment site }
     requires work { ask.work ≡ Run }
     requires counted { before ≤ S.count site }
     ensures serves { Serves S.tells S.files S.may_leave S.moment S.images_since B.born
         F.gives F.may_fail (AllTell R.tells runners.old) (AllSure R.sure runners.old)
-        (counts before (map R.count runners.old) 0)
-        (counts (S.count result.site) (map R.count runners.new) 0)
+        (counts before (map R.count runners.old) (H.count hall.old) (H.idle_count hall.old) 0)
+        (counts (S.count result.site) (map R.count runners.new) (H.count hall.new)
+        (H.idle_count hall.new) 0)
         ask site result.site result.records result.cause }
     ensures spare { drop ask.jobs runners.new ≡ drop ask.jobs runners.old }
-    ensures failures { FailureEnd (sum_by R.failures runners.old) (sum_by R.failures runners.new)
-        (kind_of result.cause) }
-    ensures failed { S.tells → (H : List RecordValue) → Spells H (S.files site ask.log)
+    ensures risen { sum_by R.failures runners.old ≤ sum_by R.failures runners.new }
+    ensures failures { ask.options.wq ≡ false → FailureEnd (sum_by R.failures runners.old)
+        (sum_by R.failures runners.new) (kind_of result.cause) }
+    ensures failed { ask.options.wq ≡ false → S.tells
+        → (H : List RecordValue) → Spells H (S.files site ask.log)
         → (IsCut result.cause → ⊥) → LogsFailed H result.records
         (sum_by R.failures runners.old) (sum_by R.failures runners.new) }
+    ensures alone { ask.options.wq ≡ false → hall.new ≡ hall.old }
+    ensures back { (IsCut result.cause → ⊥)
+        → AreBack (H.got hall.old) (H.got hall.new) (H.given hall.old) (H.given hall.new) }
+    ensures waited { IfWaited result.cause (WaitsInVain ask.plan ask.options ask.workers.limit
+        (H.idle_count hall.new - H.idle_count hall.old) result.records) }
     ensures opened { IsTrue (is_run_end (kind_of result.cause))
         → OpensBy ask.options result.records }
     ensures collects { IsTrue (is_run_end (kind_of result.cause))
@@ -169,5 +201,5 @@ pub fn run_flow<
 {
     let count = runners.len().min(ask.jobs as usize);
     let (working, _) = runners.split_at_mut(count);
-    run_by_all::<F, W, S, R, C, G, B>(rt, alloc, before, ask, site, working, gate, clock)
+    run_by_all::<F, W, S, H, R, C, G, B>(rt, alloc, before, ask, site, hall, working, gate, clock)
 }

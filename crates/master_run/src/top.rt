@@ -1,6 +1,6 @@
 //! The top call.
-ghost use Rattle.std.specs.Prelude.{◌≡◌, ◌≢◌, ◌≤◌, ◌<◌, ℕ, List, [], Ok, IsTrue, IsFalse};
-ghost use Rattle.std.specs.Prelude.{drop, length, map, sum_by};
+ghost use Rattle.std.specs.Prelude.{◌≡◌, ◌≢◌, ◌≤◌, ◌<◌, ◌-◌, ℕ, List, [], Ok, IsTrue, IsFalse};
+ghost use Rattle.std.specs.Prelude.{drop, false, length, map, sum_by};
 ghost use Rattle.flow_types.specs.declared.records.Record.{Record as RecordValue};
 ghost use Rattle.flow_types.specs.Plans.{IsValid};
 ghost use Rattle.flow_types.specs.Serial.{serial};
@@ -22,11 +22,15 @@ ghost use Rattle.command_words.specs.declared.options.Options.{Options as Option
 ghost use Rattle.report.specs.Causes.{is_failing, is_refusal, kind_of, may_lose, status_of};
 ghost use Rattle.report.specs.Causes.{was_read};
 ghost use Rattle.master_run.specs.declared.ask.Ask.{Ask as AskValue};
-ghost use Rattle.master_run.specs.Asked.{choice, request, run_mode, run_options};
+ghost use Rattle.wq_run.specs.Ends.{AreBack, LosesOnLinks};
+ghost use Rattle.flow_run.specs.Places.{PlacedBy};
+ghost use Rattle.master_run.specs.Asked.{IsLocal, choice, request, run_mode, run_options};
+ghost use Rattle.master_run.specs.Asked.{workers_of};
 ghost use Rattle.master_run.specs.Ends.{CallEnds, FaultEnd, WordsEnd, counts};
 ghost use Rattle.master_run.specs.Headline.{CollectsSince, DropsUnneeded, FailureEnd, HasLog};
-ghost use Rattle.master_run.specs.Headline.{IsCleanedBy, IsLegalEnd, IsLegalOr, IsPlanOf};
-ghost use Rattle.master_run.specs.Headline.{IsSpentBy, KeepsLimit, LogsFailed, OfLog, is_run_end};
+ghost use Rattle.master_run.specs.Headline.{IfWaited, IsCleanedBy, IsLegalEnd, IsLegalOr};
+ghost use Rattle.master_run.specs.Headline.{IsPlanOf, IsSpentBy, KeepsLimit, LogsFailed, OfLog};
+ghost use Rattle.master_run.specs.Headline.{WaitedBy, WaitsInVain, is_run_end, is_runner_fault};
 ghost use Rattle.master_run.specs.Prints.{Prints};
 ghost use Rattle.master_run.specs.Serves.{CanComplete, IsCut, Serves};
 
@@ -40,6 +44,7 @@ use crate::rises::Rise;
 use crate::running::run_flow;
 use command_words::Work;
 use flow_types::{Plan, Record, Rows};
+use links::Hall;
 use local_run::Born;
 use outside::{Clock, Commands, Runner, Sink, Site};
 use report::Cause;
@@ -73,12 +78,22 @@ fn no_plan(alloc: Global) -> Plan
 }
 
 // Does what is asked for.
-fn serve<F: Commands, W: Threads + Wait + Sync, S: Site, R: Runner<F>, C: Clock, G: Gate, B: Born>(
+fn serve<
+    F: Commands,
+    W: Threads + Wait + Sync,
+    S: Site,
+    H: Hall<F>,
+    R: Runner<F>,
+    C: Clock,
+    G: Gate,
+    B: Born,
+>(
     rt: &W,
     alloc: Global,
     before: u64,
     ask: Ask,
     site: S,
+    hall: &mut H,
     runners: &mut [R],
     gate: &G,
     clock: &C,
@@ -86,20 +101,27 @@ fn serve<F: Commands, W: Threads + Wait + Sync, S: Site, R: Runner<F>, C: Clock,
     requires some { (0 < length runners.old) × (0 < ask.jobs) }
     requires valid { IsValid ask.plan }
     requires apart { (f : ℕ) → file_name ask.plan f ≢ ask.log }
-    requires fits { FitsHere ask.plan ask.options }
+    requires fits { ask.options.wq ≡ false → FitsHere ask.plan ask.options }
     requires later { S.tells → B.born ≤ S.moment site }
     requires counted { before ≤ S.count site }
     ensures serves { Serves S.tells S.files S.may_leave S.moment S.images_since B.born
         F.gives F.may_fail (AllTell R.tells runners.old) (AllSure R.sure runners.old)
-        (counts before (map R.count runners.old) 0)
-        (counts (S.count result.site) (map R.count runners.new) 0)
+        (counts before (map R.count runners.old) (H.count hall.old) (H.idle_count hall.old) 0)
+        (counts (S.count result.site) (map R.count runners.new) (H.count hall.new)
+        (H.idle_count hall.new) 0)
         ask site result.site result.records result.cause }
-    ensures failures { FailureEnd (sum_by R.failures runners.old) (sum_by R.failures runners.new)
-        (kind_of result.cause) }
-    ensures failed { S.tells → (H : List RecordValue) → Spells H (S.files site ask.log)
-        → (IsCut result.cause → ⊥)
-        → LogsFailed H result.records
+    ensures risen { sum_by R.failures runners.old ≤ sum_by R.failures runners.new }
+    ensures failures { ask.options.wq ≡ false → FailureEnd (sum_by R.failures runners.old)
+        (sum_by R.failures runners.new) (kind_of result.cause) }
+    ensures failed { ask.options.wq ≡ false → S.tells
+        → (H : List RecordValue) → Spells H (S.files site ask.log)
+        → (IsCut result.cause → ⊥) → LogsFailed H result.records
         (sum_by R.failures runners.old) (sum_by R.failures runners.new) }
+    ensures alone { ask.options.wq ≡ false → hall.new ≡ hall.old }
+    ensures back { (IsCut result.cause → ⊥)
+        → AreBack (H.got hall.old) (H.got hall.new) (H.given hall.old) (H.given hall.new) }
+    ensures waited { IfWaited result.cause (WaitsInVain ask.plan ask.options ask.workers.limit
+        (H.idle_count hall.new - H.idle_count hall.old) result.records) }
     ensures opened { IsTrue (is_run_end (kind_of result.cause))
         → OpensBy ask.options result.records }
     ensures collects { IsTrue (is_run_end (kind_of result.cause))
@@ -108,20 +130,30 @@ fn serve<F: Commands, W: Threads + Wait + Sync, S: Site, R: Runner<F>, C: Clock,
     ensures spare { drop ask.jobs runners.new ≡ drop ask.jobs runners.old }
 {
     match ask.work {
-        Work::Run => run_flow::<F, W, S, R, C, G, B>(
-            rt, alloc, before, ask, site, runners, gate, clock,
+        Work::Run => run_flow::<F, W, S, H, R, C, G, B>(
+            rt, alloc, before, ask, site, hall, runners, gate, clock,
         ),
         Work::Clean => clean_flow::<F, S, B>(alloc, before, ask, site, clock.now()),
         Work::PrintLog => read_log::<F, S, B>(alloc, before, ask, site),
     }
 }
 
-fn follow<F: Commands, W: Threads + Wait + Sync, S: Site, R: Runner<F>, C: Clock, G: Gate, B: Born>(
+fn follow<
+    F: Commands,
+    W: Threads + Wait + Sync,
+    S: Site,
+    H: Hall<F>,
+    R: Runner<F>,
+    C: Clock,
+    G: Gate,
+    B: Born,
+>(
     rt: &W,
     alloc: Global,
     words: &[String],
     env: &[(String, String)],
     site: S,
+    hall: &mut H,
     runners: &mut [R],
     gate: &G,
     clock: &C,
@@ -129,17 +161,23 @@ fn follow<F: Commands, W: Threads + Wait + Sync, S: Site, R: Runner<F>, C: Clock
     requires some { 0 < length runners.old }
     requires later { S.tells → B.born ≤ S.moment site }
     ensures ends { S.tells → CallEnds (request words.now env.now (S.files site))
+        (H.idle_count hall.new - H.idle_count hall.old)
         (S.files site) (S.files result.site) result.records result.cause }
     ensures serves { S.tells → (ask : AskValue)
         → request words.now env.now (S.files site) ≡ Ok ask
         → Serves S.tells S.files S.may_leave S.moment S.images_since B.born
         F.gives F.may_fail (AllTell R.tells runners.old) (AllSure R.sure runners.old)
-        (counts (S.count site) (map R.count runners.old) 0)
-        (counts (S.count result.site) (map R.count runners.new) 0)
+        (counts (S.count site) (map R.count runners.old) (H.count hall.old)
+        (H.idle_count hall.old) 0)
+        (counts (S.count result.site) (map R.count runners.new) (H.count hall.new)
+        (H.idle_count hall.new) 0)
         ask site result.site result.records result.cause }
     ensures words { WordsEnd (choice words.now) result.cause }
-    ensures faults { FaultEnd (counts (S.count site) (map R.count runners.old) 0)
-        (counts (S.count result.site) (map R.count runners.new) 0) result.cause }
+    ensures faults { FaultEnd
+        (counts (S.count site) (map R.count runners.old) (H.count hall.old)
+        (H.idle_count hall.old) 0)
+        (counts (S.count result.site) (map R.count runners.new) (H.count hall.new)
+        (H.idle_count hall.new) 0) result.cause }
     ensures legal { IsTrue (was_read (kind_of result.cause))
         → IsLegal result.plan result.records }
     ensures valid { IsTrue (was_read (kind_of result.cause)) → IsValid result.plan }
@@ -149,14 +187,24 @@ fn follow<F: Commands, W: Threads + Wait + Sync, S: Site, R: Runner<F>, C: Clock
         → S.files result.site ≡ S.files site }
     ensures closed { IsTrue (is_run_end (kind_of result.cause))
         → SpentOnce (since_opening result.records) }
-    ensures sure { AllSure R.sure runners.old → IsFalse (is_failing (kind_of result.cause)) }
-    ensures failures { FailureEnd (sum_by R.failures runners.old) (sum_by R.failures runners.new)
-        (kind_of result.cause) }
+    ensures never { AllSure R.sure runners.old
+        → IsFalse (is_runner_fault (kind_of result.cause)) }
+    ensures sure { IsLocal (choice words.now) → AllSure R.sure runners.old
+        → IsFalse (is_failing (kind_of result.cause)) }
+    ensures risen { sum_by R.failures runners.old ≤ sum_by R.failures runners.new }
+    ensures failures { IsLocal (choice words.now) → FailureEnd (sum_by R.failures runners.old)
+        (sum_by R.failures runners.new) (kind_of result.cause) }
     ensures failed { S.tells → (ask : AskValue)
-        → request words.now env.now (S.files site) ≡ Ok ask
+        → request words.now env.now (S.files site) ≡ Ok ask → ask.options.wq ≡ false
         → (H : List RecordValue) → Spells H (S.files site ask.log) → (IsCut result.cause → ⊥)
         → LogsFailed H result.records
         (sum_by R.failures runners.old) (sum_by R.failures runners.new) }
+    ensures alone { IsLocal (choice words.now) → hall.new ≡ hall.old }
+    ensures back { (IsCut result.cause → ⊥)
+        → AreBack (H.got hall.old) (H.got hall.new) (H.given hall.old) (H.given hall.new) }
+    ensures waited { (options : OptionsValue) → choice words.now ≡ Ok options
+        → IfWaited result.cause (WaitsInVain result.plan (run_options options)
+        options.limits.idle (H.idle_count hall.new - H.idle_count hall.old) result.records) }
     ensures opened { (options : OptionsValue) → choice words.now ≡ Ok options
         → IsTrue (is_run_end (kind_of result.cause))
         → OpensBy (run_options options) result.records }
@@ -169,7 +217,9 @@ fn follow<F: Commands, W: Threads + Wait + Sync, S: Site, R: Runner<F>, C: Clock
     let mut site = site;
     let before = site.faults();
     match read_ask(alloc, words, env, &mut site) {
-        Ok(ask) => serve::<F, W, S, R, C, G, B>(rt, alloc, before, ask, site, runners, gate, clock),
+        Ok(ask) => serve::<F, W, S, H, R, C, G, B>(
+            rt, alloc, before, ask, site, hall, runners, gate, clock,
+        ),
         Err(refusal) => {
             let after = site.faults();
             Course {
@@ -185,8 +235,9 @@ fn follow<F: Commands, W: Threads + Wait + Sync, S: Site, R: Runner<F>, C: Clock
 /// Reads the flow that the words name and does what they ask for: runs its rules over the log,
 /// removes what they made, or prints the log. At the end one text is printed about it.
 ///
-/// As many jobs run at once as the words say, and no more than there are runners. Each passes the
-/// gate before it runs.
+/// As many jobs run at once on this machine as the words say, and no more than there are runners.
+/// Each passes the gate before it runs. Where the words ask for workers, the hall listens at their
+/// port, and all rules but LOCAL ones run at those that come.
 ///
 /// The clauses speak of the records that the log's file spells at the entry, of which there is one
 /// list at most. A crash at any moment leaves a site from which the same call goes on.
@@ -194,6 +245,7 @@ pub fn makeflow_top<
     F: Commands,
     W: Threads + Wait + Sync,
     S: Site,
+    H: Hall<F>,
     R: Runner<F>,
     C: Clock,
     O: Sink,
@@ -204,6 +256,7 @@ pub fn makeflow_top<
     words: &[String],
     env: &[(String, String)],
     site: S,
+    hall: &mut H,
     runners: &mut [R],
     gate: &G,
     clock: &C,
@@ -216,14 +269,18 @@ pub fn makeflow_top<
     // of the site and want of memory may come in the place of another, and a fault of the sink in
     // that of the end of what was asked for.
     ensures ends { S.tells → CallEnds (request words.now env.now (S.files site))
+        (H.idle_count hall.new - H.idle_count hall.old)
         (S.files site) (S.files result.site) result.records result.cause }
 
-    // Over every site: words that are no command line, or that ask for what isn't built, are
-    // refused, and no others; each fault comes only where that object's count rose in this call,
-    // and that of the runners names both counts of one that rose.
+    // Over every site: words that are no command line are refused, and no others; each fault comes
+    // only where that object's count rose in this call, and that of the runners names both counts
+    // of one that rose.
     ensures words { WordsEnd (choice words.now) result.cause }
-    ensures faults { FaultEnd (counts (S.count site) (map R.count runners.old) (O.count out.old))
-        (counts (S.count result.site) (map R.count runners.new) (O.count out.new)) result.cause }
+    ensures faults { FaultEnd
+        (counts (S.count site) (map R.count runners.old) (H.count hall.old)
+        (H.idle_count hall.old) (O.count out.old))
+        (counts (S.count result.site) (map R.count runners.new) (H.count hall.new)
+        (H.idle_count hall.new) (O.count out.new)) result.cause }
 
     // The records of the log stay, those that were added stand behind them, and together they may
     // stand in a log of the plan.
@@ -262,13 +319,32 @@ pub fn makeflow_top<
     ensures cleaned { S.tells → OfLog (request words.now env.now (S.files site)) (S.files site)
         (λ ask H. IsCleanedBy ask.plan H (S.files result.site) result.cause) }
 
-    // Each attempt of this call is closed once, and given up only where a fault ended the call.
+    // Each attempt of this call is started where its rule may run: on this machine exactly where
+    // the rule is a LOCAL one or no worker is asked for.
+    ensures places { S.tells → OfLog (request words.now env.now (S.files site)) (S.files site)
+        (λ ask H. BeginsWith H result.records → PlacedBy ask.plan ask.options H result.records) }
+
+    // Each attempt of this call is closed once. On this machine it is given up only where a fault
+    // ended the call.
     ensures closed { IsTrue (is_run_end (kind_of result.cause))
         → SpentOnce (since_opening result.records) }
     ensures spent { S.tells → OfLog (request words.now env.now (S.files site)) (S.files site)
         (λ ask H. (IsCut result.cause → ⊥) → IsSpentBy H result.records) }
     ensures lost { S.tells → OfLog (request words.now env.now (S.files site)) (S.files site)
-        (λ ask H. IsFalse (may_lose (kind_of result.cause)) → LosesNone H result.records) }
+        (λ ask H. ask.options.wq ≡ false
+        → IsFalse (may_lose (kind_of result.cause)) → LosesNone H result.records) }
+    ensures lost_away { S.tells → OfLog (request words.now env.now (S.files site)) (S.files site)
+        (λ ask H. IsFalse (may_lose (kind_of result.cause)) → LosesOnLinks H result.records) }
+
+    // Each link that the hall gave is handed back, and where no worker is asked for the hall stays
+    // as it was. The call ends since nobody came only where it waited in vain.
+    ensures back { (IsCut result.cause → ⊥)
+        → AreBack (H.got hall.old) (H.got hall.new) (H.given hall.old) (H.given hall.new) }
+    ensures alone { IsLocal (choice words.now) → hall.new ≡ hall.old }
+    ensures waited { (options : OptionsValue) → choice words.now ≡ Ok options → WaitedBy
+        (λ plan. S.tells → IsPlanOf (request words.now env.now (S.files site)) plan)
+        (run_options options) options.limits.idle
+        (H.idle_count hall.new - H.idle_count hall.old) result.records result.cause }
 
     // A crash at any moment since the entry leaves what it might have left before the log was read,
     // or the records that stood then and the first of those that were added, with every file that
@@ -297,18 +373,21 @@ pub fn makeflow_top<
         → StaysBeside S.may_leave S.moment S.images_since (IsUnmade ask.plan ask.log)
         site result.site }
 
-    // Where the commands are functions of their inputs, every present file has the content of the
-    // serial run at every moment, and each failure is one that its rule's job may have.
+    // Where the commands are functions of their inputs and no worker is asked for, every present
+    // file has the content of the serial run at every moment, and each failure is one that its
+    // rule's job may have.
     ensures contents { S.tells → OfLog (request words.now env.now (S.files site)) (S.files site)
         (λ ask H. let sources = read_sources ask.plan (S.files site) in
-        IsResumable (SerialFits F.gives sources) ask.plan ask.log H (S.may_leave site)
+        ask.options.wq ≡ false
+        → IsResumable (SerialFits F.gives sources) ask.plan ask.log H (S.may_leave site)
         → TellsJobs ask.plan (AllTell R.tells runners.old) (serial ask.plan F.gives sources)
         → (image : Files) → S.images_since result.site (S.moment site) image
         → IsMoment (SerialFits F.gives sources) ask.plan ask.log (S.files site)
         (S.may_leave site) H result.records (IsCut result.cause) image) }
     ensures honest { S.tells → OfLog (request words.now env.now (S.files site)) (S.files site)
         (λ ask H. let sources = read_sources ask.plan (S.files site) in
-        IsResumable (SerialFits F.gives sources) ask.plan ask.log H (S.may_leave site)
+        ask.options.wq ≡ false
+        → IsResumable (SerialFits F.gives sources) ask.plan ask.log H (S.may_leave site)
         → TellsJobs ask.plan (AllTell R.tells runners.old) (serial ask.plan F.gives sources)
         → BeginsWith H result.records
         → Adds (Unit {0}) F.gives F.may_fail sources ask.plan H result.records) }
@@ -321,32 +400,39 @@ pub fn makeflow_top<
         result.records (O.count out.old) (O.count out.new) (O.bytes out.old) (O.bytes out.new)
         result.cause }
 
-    // CommandFailed only where a runner answered that a command failed, and each command that did
-    // is logged once; over sure runners neither that nor their fault.
-    ensures failures { FailureEnd (sum_by R.failures runners.old) (sum_by R.failures runners.new)
-        (kind_of result.cause) }
+    // Without workers CommandFailed comes only where a runner answered that a command failed, and
+    // each command that did is logged once; over sure runners neither that nor their fault. Their
+    // fault comes over sure runners in no call.
+    ensures risen { sum_by R.failures runners.old ≤ sum_by R.failures runners.new }
+    ensures failures { IsLocal (choice words.now) → FailureEnd (sum_by R.failures runners.old)
+        (sum_by R.failures runners.new) (kind_of result.cause) }
     ensures logged_failures { S.tells
         → OfLog (request words.now env.now (S.files site)) (S.files site)
-        (λ ask H. (IsCut result.cause → ⊥)
+        (λ ask H. ask.options.wq ≡ false → (IsCut result.cause → ⊥)
         → LogsFailed H result.records
         (sum_by R.failures runners.old) (sum_by R.failures runners.new)) }
-    ensures sure { AllSure R.sure runners.old → IsFalse (is_failing (kind_of result.cause)) }
+    ensures sure { IsLocal (choice words.now) → AllSure R.sure runners.old
+        → IsFalse (is_failing (kind_of result.cause)) }
+    ensures never { AllSure R.sure runners.old
+        → IsFalse (is_runner_fault (kind_of result.cause)) }
 
-    // What can come to its end does: over sure runners that tell, with nothing in its way, room
-    // in the log and no count rising, every rule is complete, or memory was wanting, or with a limit
-    // of the storage there was no room.
+    // What can come to its end without workers does: over sure runners that tell, with nothing in
+    // its way, room in the log and no count rising, every rule is complete, or memory was wanting,
+    // or with a limit of the storage there was no room.
     ensures completes { S.tells → OfLog (request words.now env.now (S.files site)) (S.files site)
-        (λ ask H. CanComplete F.gives (AllTell R.tells runners.old) (AllSure R.sure runners.old)
-        ask (S.files site) (S.may_leave site) H
-        (counts (S.count site) (map R.count runners.old) (O.count out.old))
-        (counts (S.count result.site) (map R.count runners.new) (O.count out.new)) result.cause) }
+        (λ ask began. CanComplete F.gives (AllTell R.tells runners.old) (AllSure R.sure runners.old)
+        ask (S.files site) (S.may_leave site) began
+        (counts (S.count site) (map R.count runners.old) (H.count hall.old)
+        (H.idle_count hall.old) (O.count out.old))
+        (counts (S.count result.site) (map R.count runners.new) (H.count hall.new)
+        (H.idle_count hall.new) (O.count out.new)) result.cause) }
 
     // Of the runners only so many are used as the words say.
     ensures spare { (options : OptionsValue) → choice words.now ≡ Ok options
         → drop options.service.jobs runners.new ≡ drop options.service.jobs runners.old }
 {
-    let course = follow::<F, W, S, R, C, G, Brand>(
-        rt, alloc, words, env, site, runners, gate, clock,
+    let course = follow::<F, W, S, H, R, C, G, Brand>(
+        rt, alloc, words, env, site, hall, runners, gate, clock,
     );
     let Course {
         cause,

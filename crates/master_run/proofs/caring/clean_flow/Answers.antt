@@ -22,7 +22,7 @@ use Rattle.master_run.proofs.caring.clean_flow.Goals as goal
 pub returns-in-Ok-clause-serves : goal.returns-in-Ok-clause-serves
 returns-in-Ok-clause-serves g c =
     let cause : Cause = causes.Cleaned c.in-Ok.field-0.removed in
-    cared_serves g.S.Site.tells g.S.Site.files g.S.Site.may_leave g.S.Site.moment g.S.Site.images_since g.B.Born.born g.F.Commands.gives g.F.Commands.may_fail (λ (job : Job). Unit {0}) (Unit {0}) (counts c.args.before [] 0) (counts (g.S.Site.count c.clean.new.site) [] 0) c.args.ask c.args.site c.clean.new.site c.in-Ok.field-0.records cause c.args.moment ⊥ (record {
+    cared_serves g.S.Site.tells g.S.Site.files g.S.Site.may_leave g.S.Site.moment g.S.Site.images_since g.B.Born.born g.F.Commands.gives g.F.Commands.may_fail (λ (job : Job). Unit {0}) (Unit {0}) (counts c.args.before [] 0 0 0) (counts (g.S.Site.count c.clean.new.site) [] 0 0 0) c.args.ask c.args.site c.clean.new.site c.in-Ok.field-0.records cause c.args.moment ⊥ (record {
       work = λ wrong. absurd (let both : works.Clean ≡ works.Run = sym c.requires.work ∙ wrong in cc);
       later = c.requires.later;
       cuts = λ cut. absurd cut;
@@ -31,7 +31,7 @@ returns-in-Ok-clause-serves g c =
       faults = tt;
       damaged = λ t at wrong. absurd (cc);
       read = λ t. inl (c.in-Ok.ensures.log t);
-      goes = λ t H spelled. subst (λ (w : Work). GoesOn w c.args.ask H (g.S.Site.files c.args.site) (g.S.Site.files c.clean.new.site) c.in-Ok.field-0.records cause) (sym c.requires.work)
+      goes = λ t H spelled. subst (λ (w : Work). GoesOn w c.args.ask 0 H (g.S.Site.files c.args.site) (g.S.Site.files c.clean.new.site) c.in-Ok.field-0.records cause) (sym c.requires.work)
           (done_goes (clean_fault c.args.ask.plan H) (causes.Cleaned (made_count c.args.ask.plan H)) cause (c.in-Ok.ensures.ends t H spelled).0 (ap (λ n. causes.Cleaned n) (c.in-Ok.ensures.ends t H spelled).1));
       has_log = λ t H spelled. inl (begins_so H c.in-Ok.field-0.records c.args.moment (subst (AreEither H c.args.moment) (sym (c.in-Ok.ensures.records t H spelled)) (ended_either H c.args.moment (is_empty (part H)))));
       legal = λ read. c.in-Ok.ensures.legal;
@@ -51,32 +51,32 @@ pub returns-in-Err-clause-serves : goal.returns-in-Err-clause-serves
 returns-in-Err-clause-serves g c =
     let why = c.in-Err.field-0.why in
     let given = c.in-Err.field-0.records in
-    let same : c.clean_cause.result ≡ clean_cause (site_rise (counts c.args.before [] 0) (counts (g.S.Site.count c.clean.new.site) [] 0)) why =
+    let same : c.clean_cause.result ≡ clean_cause (site_rise (counts c.args.before [] 0 0 0) (counts (g.S.Site.count c.clean.new.site) [] 0 0 0)) why =
     c.clean_cause.ensures ∙ ap (λ (n : ℕ). clean_cause (record { before = c.args.before; after = n }) c.in-Err.field-0.why) c.faults-after.ensures in
-    subst (λ (cause : Cause). Serves g.S.Site.tells g.S.Site.files g.S.Site.may_leave g.S.Site.moment g.S.Site.images_since g.B.Born.born g.F.Commands.gives g.F.Commands.may_fail (λ (job : Job). Unit {0}) (Unit {0}) (counts c.args.before [] 0) (counts (g.S.Site.count c.clean.new.site) [] 0) c.args.ask c.args.site c.clean.new.site given cause) (sym same)
-    (cared_serves g.S.Site.tells g.S.Site.files g.S.Site.may_leave g.S.Site.moment g.S.Site.images_since g.B.Born.born g.F.Commands.gives g.F.Commands.may_fail (λ (job : Job). Unit {0}) (Unit {0}) (counts c.args.before [] 0) (counts (g.S.Site.count c.clean.new.site) [] 0) c.args.ask c.args.site c.clean.new.site given (clean_cause (site_rise (counts c.args.before [] 0) (counts (g.S.Site.count c.clean.new.site) [] 0)) why) c.args.moment (IsCutFor why) (record {
+    subst (λ (cause : Cause). Serves g.S.Site.tells g.S.Site.files g.S.Site.may_leave g.S.Site.moment g.S.Site.images_since g.B.Born.born g.F.Commands.gives g.F.Commands.may_fail (λ (job : Job). Unit {0}) (Unit {0}) (counts c.args.before [] 0 0 0) (counts (g.S.Site.count c.clean.new.site) [] 0 0 0) c.args.ask c.args.site c.clean.new.site given cause) (sym same)
+    (cared_serves g.S.Site.tells g.S.Site.files g.S.Site.may_leave g.S.Site.moment g.S.Site.images_since g.B.Born.born g.F.Commands.gives g.F.Commands.may_fail (λ (job : Job). Unit {0}) (Unit {0}) (counts c.args.before [] 0 0 0) (counts (g.S.Site.count c.clean.new.site) [] 0 0 0) c.args.ask c.args.site c.clean.new.site given (clean_cause (site_rise (counts c.args.before [] 0 0 0) (counts (g.S.Site.count c.clean.new.site) [] 0 0 0)) why) c.args.moment (IsCutFor why) (record {
       work = λ wrong. absurd (let both : works.Clean ≡ works.Run = sym c.requires.work ∙ wrong in cc);
       later = c.requires.later;
-      cuts = clean_cut (site_rise (counts c.args.before [] 0) (counts (g.S.Site.count c.clean.new.site) [] 0)) why;
-      runs_not = clean_still (site_rise (counts c.args.before [] 0) (counts (g.S.Site.count c.clean.new.site) [] 0)) why;
-      late = clean_late (site_rise (counts c.args.before [] 0) (counts (g.S.Site.count c.clean.new.site) [] 0)) why;
-      faults = clean_faults (counts c.args.before [] 0) (counts (g.S.Site.count c.clean.new.site) [] 0) (g.S.Site.count c.args.site) (g.S.Site.count c.clean.new.site) why c.requires.counted refl c.in-Err.ensures.cause;
-      damaged = λ t at told. clean_damaged (site_rise (counts c.args.before [] 0) (counts (g.S.Site.count c.clean.new.site) [] 0)) (g.S.Site.files c.args.site c.args.ask.log) given why at (c.in-Err.ensures.log t) told;
-      read = λ t. clean_of (site_rise (counts c.args.before [] 0) (counts (g.S.Site.count c.clean.new.site) [] 0)) (g.S.Site.files c.args.site c.args.ask.log) given why (c.in-Err.ensures.log t);
-      goes = λ t H spelled. subst (λ (w : Work). GoesOn w c.args.ask H (g.S.Site.files c.args.site) (g.S.Site.files c.clean.new.site) given (clean_cause (site_rise (counts c.args.before [] 0) (counts (g.S.Site.count c.clean.new.site) [] 0)) why)) (sym c.requires.work)
-          (clean_goes (site_rise (counts c.args.before [] 0) (counts (g.S.Site.count c.clean.new.site) [] 0)) c.args.ask H (g.S.Site.files c.args.site) (g.S.Site.files c.clean.new.site) given why (c.in-Err.ensures.ends t H spelled));
-      has_log = λ t H spelled. clean_log (site_rise (counts c.args.before [] 0) (counts (g.S.Site.count c.clean.new.site) [] 0)) c.args.ask.plan H given c.args.moment why (c.in-Err.ensures.ends t H spelled) (c.in-Err.ensures.records t H spelled);
-      legal = λ read. clean_read (site_rise (counts c.args.before [] 0) (counts (g.S.Site.count c.clean.new.site) [] 0)) c.args.ask.plan given why c.in-Err.ensures.legal read;
-      logged = λ t H spelled. clean_legal (site_rise (counts c.args.before [] 0) (counts (g.S.Site.count c.clean.new.site) [] 0)) c.args.ask.plan H given c.args.moment why (c.in-Err.ensures.records t H spelled) c.in-Err.ensures.legal;
-      either = λ t H spelled whole. clean_either H given c.args.moment (site_rise (counts c.args.before [] 0) (counts (g.S.Site.count c.clean.new.site) [] 0)) c.args.ask.plan why (c.in-Err.ensures.ends t H spelled) (c.in-Err.ensures.records t H spelled) whole;
+      cuts = clean_cut (site_rise (counts c.args.before [] 0 0 0) (counts (g.S.Site.count c.clean.new.site) [] 0 0 0)) why;
+      runs_not = clean_still (site_rise (counts c.args.before [] 0 0 0) (counts (g.S.Site.count c.clean.new.site) [] 0 0 0)) why;
+      late = clean_late (site_rise (counts c.args.before [] 0 0 0) (counts (g.S.Site.count c.clean.new.site) [] 0 0 0)) why;
+      faults = clean_faults (counts c.args.before [] 0 0 0) (counts (g.S.Site.count c.clean.new.site) [] 0 0 0) (g.S.Site.count c.args.site) (g.S.Site.count c.clean.new.site) why c.requires.counted refl c.in-Err.ensures.cause;
+      damaged = λ t at told. clean_damaged (site_rise (counts c.args.before [] 0 0 0) (counts (g.S.Site.count c.clean.new.site) [] 0 0 0)) (g.S.Site.files c.args.site c.args.ask.log) given why at (c.in-Err.ensures.log t) told;
+      read = λ t. clean_of (site_rise (counts c.args.before [] 0 0 0) (counts (g.S.Site.count c.clean.new.site) [] 0 0 0)) (g.S.Site.files c.args.site c.args.ask.log) given why (c.in-Err.ensures.log t);
+      goes = λ t H spelled. subst (λ (w : Work). GoesOn w c.args.ask 0 H (g.S.Site.files c.args.site) (g.S.Site.files c.clean.new.site) given (clean_cause (site_rise (counts c.args.before [] 0 0 0) (counts (g.S.Site.count c.clean.new.site) [] 0 0 0)) why)) (sym c.requires.work)
+          (clean_goes (site_rise (counts c.args.before [] 0 0 0) (counts (g.S.Site.count c.clean.new.site) [] 0 0 0)) c.args.ask 0 H (g.S.Site.files c.args.site) (g.S.Site.files c.clean.new.site) given why (c.in-Err.ensures.ends t H spelled));
+      has_log = λ t H spelled. clean_log (site_rise (counts c.args.before [] 0 0 0) (counts (g.S.Site.count c.clean.new.site) [] 0 0 0)) c.args.ask.plan H given c.args.moment why (c.in-Err.ensures.ends t H spelled) (c.in-Err.ensures.records t H spelled);
+      legal = λ read. clean_read (site_rise (counts c.args.before [] 0 0 0) (counts (g.S.Site.count c.clean.new.site) [] 0 0 0)) c.args.ask.plan given why c.in-Err.ensures.legal read;
+      logged = λ t H spelled. clean_legal (site_rise (counts c.args.before [] 0 0 0) (counts (g.S.Site.count c.clean.new.site) [] 0 0 0)) c.args.ask.plan H given c.args.moment why (c.in-Err.ensures.records t H spelled) c.in-Err.ensures.legal;
+      either = λ t H spelled whole. clean_either H given c.args.moment (site_rise (counts c.args.before [] 0 0 0) (counts (g.S.Site.count c.clean.new.site) [] 0 0 0)) c.args.ask.plan why (c.in-Err.ensures.ends t H spelled) (c.in-Err.ensures.records t H spelled) whole;
       begun = λ t H spelled begins. clean_begins H given c.args.moment why (c.in-Err.ensures.records t H spelled);
       moments = c.in-Err.ensures.moments;
       contents = λ t H spelled resumable. c.in-Err.ensures.contents t H spelled g.F.Commands.gives (read_sources c.args.ask.plan (g.S.Site.files c.args.site)) resumable;
       resumable = c.in-Err.ensures.resumable;
-      at_end = λ t H spelled resumable whole image left. c.in-Err.ensures.now t H spelled resumable (clean_uncut (site_rise (counts c.args.before [] 0) (counts (g.S.Site.count c.clean.new.site) [] 0)) why whole) image left;
-      cleaned = λ t H spelled. clean_cleans (site_rise (counts c.args.before [] 0) (counts (g.S.Site.count c.clean.new.site) [] 0)) c.args.ask.plan H (g.S.Site.files c.clean.new.site) why;
-      untouched = λ t refused m. c.in-Err.ensures.reads t (cut_clean (site_rise (counts c.args.before [] 0) (counts (g.S.Site.count c.clean.new.site) [] 0)) why refused)
-          (clean_begun c.files_spell_one_list.ensures.one c.files_spell_one_list.ensures.header c.files_spell_one_list.ensures.whole c.args.ask.plan (g.S.Site.files c.args.site c.args.ask.log) given why (site_rise (counts c.args.before [] 0) (counts (g.S.Site.count c.clean.new.site) [] 0)) refused (c.in-Err.ensures.log t) (λ H spelled. c.in-Err.ensures.ends t H spelled)) m;
+      at_end = λ t H spelled resumable whole image left. c.in-Err.ensures.now t H spelled resumable (clean_uncut (site_rise (counts c.args.before [] 0 0 0) (counts (g.S.Site.count c.clean.new.site) [] 0 0 0)) why whole) image left;
+      cleaned = λ t H spelled. clean_cleans (site_rise (counts c.args.before [] 0 0 0) (counts (g.S.Site.count c.clean.new.site) [] 0 0 0)) c.args.ask.plan H (g.S.Site.files c.clean.new.site) why;
+      untouched = λ t refused m. c.in-Err.ensures.reads t (cut_clean (site_rise (counts c.args.before [] 0 0 0) (counts (g.S.Site.count c.clean.new.site) [] 0 0 0)) why refused)
+          (clean_begun c.files_spell_one_list.ensures.one c.files_spell_one_list.ensures.header c.files_spell_one_list.ensures.whole c.args.ask.plan (g.S.Site.files c.args.site c.args.ask.log) given why (site_rise (counts c.args.before [] 0 0 0) (counts (g.S.Site.count c.clean.new.site) [] 0 0 0)) refused (c.in-Err.ensures.log t) (λ H spelled. c.in-Err.ensures.ends t H spelled)) m;
       others = λ t. (c.in-Err.ensures.others t).crash;
     }))
 

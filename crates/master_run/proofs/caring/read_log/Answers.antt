@@ -35,7 +35,7 @@ overflow_cast-result g c =
 pub returns-in-Ok-clause-serves : goal.returns-in-Ok-clause-serves
 returns-in-Ok-clause-serves g c =
     let cause : Cause = causes.Printed (length c.part_of.result.now) in
-    cared_serves g.S.Site.tells g.S.Site.files g.S.Site.may_leave g.S.Site.moment g.S.Site.images_since g.B.Born.born g.F.Commands.gives g.F.Commands.may_fail (λ (job : Job). Unit {0}) (Unit {0}) (counts c.args.before [] 0) (counts (g.S.Site.count c.look.new.site) [] 0) c.args.ask c.args.site c.look.new.site c.in-Ok.records cause 0 ⊥ (record {
+    cared_serves g.S.Site.tells g.S.Site.files g.S.Site.may_leave g.S.Site.moment g.S.Site.images_since g.B.Born.born g.F.Commands.gives g.F.Commands.may_fail (λ (job : Job). Unit {0}) (Unit {0}) (counts c.args.before [] 0 0 0) (counts (g.S.Site.count c.look.new.site) [] 0 0 0) c.args.ask c.args.site c.look.new.site c.in-Ok.records cause 0 ⊥ (record {
       work = λ wrong. absurd (let both : works.PrintLog ≡ works.Run = sym c.requires.work ∙ wrong in cc);
       later = c.requires.later;
       cuts = λ cut. absurd cut;
@@ -44,7 +44,7 @@ returns-in-Ok-clause-serves g c =
       faults = tt;
       damaged = λ t at wrong. absurd (cc);
       read = λ t. inl (c.in-Ok.records, c.in-Ok.ensures.log t);
-      goes = λ t H spelled. subst (λ (w : Work). GoesOn w c.args.ask H (g.S.Site.files c.args.site) (g.S.Site.files c.look.new.site) c.in-Ok.records cause) (sym c.requires.work)
+      goes = λ t H spelled. subst (λ (w : Work). GoesOn w c.args.ask 0 H (g.S.Site.files c.args.site) (g.S.Site.files c.look.new.site) c.in-Ok.records cause) (sym c.requires.work)
           (done_goes (history_fault c.args.ask.plan H) (causes.Printed (length (part H))) cause (c.in-Ok.ensures.ends t H spelled).1
           (ap (λ n. causes.Printed n) (ap length c.part_of.ensures ∙ ap (λ (xs : List Record). length (part xs)) (c.as_slice.ensures ∙ (c.in-Ok.ensures.ends t H spelled).0))));
       has_log = λ t H spelled. inl ([], (c.in-Ok.ensures.ends t H spelled).0 ∙ sym (append_nothing H));
@@ -67,34 +67,34 @@ pub returns-in-Err-clause-serves : goal.returns-in-Err-clause-serves
 returns-in-Err-clause-serves g c =
     let why = c.in-Err.field-0.why in
     let given = c.in-Err.field-0.records in
-    let same : c.look_cause.result ≡ look_cause (site_rise (counts c.args.before [] 0) (counts (g.S.Site.count c.look.new.site) [] 0)) why =
+    let same : c.look_cause.result ≡ look_cause (site_rise (counts c.args.before [] 0 0 0) (counts (g.S.Site.count c.look.new.site) [] 0 0 0)) why =
     c.look_cause.ensures ∙ ap (λ (n : ℕ). look_cause (record { before = c.args.before; after = n }) c.in-Err.field-0.why) c.faults-after.ensures in
-    subst (λ (cause : Cause). Serves g.S.Site.tells g.S.Site.files g.S.Site.may_leave g.S.Site.moment g.S.Site.images_since g.B.Born.born g.F.Commands.gives g.F.Commands.may_fail (λ (job : Job). Unit {0}) (Unit {0}) (counts c.args.before [] 0) (counts (g.S.Site.count c.look.new.site) [] 0) c.args.ask c.args.site c.look.new.site given cause) (sym same)
-    (cared_serves g.S.Site.tells g.S.Site.files g.S.Site.may_leave g.S.Site.moment g.S.Site.images_since g.B.Born.born g.F.Commands.gives g.F.Commands.may_fail (λ (job : Job). Unit {0}) (Unit {0}) (counts c.args.before [] 0) (counts (g.S.Site.count c.look.new.site) [] 0) c.args.ask c.args.site c.look.new.site given (look_cause (site_rise (counts c.args.before [] 0) (counts (g.S.Site.count c.look.new.site) [] 0)) why) 0 (IsCutFault why) (record {
+    subst (λ (cause : Cause). Serves g.S.Site.tells g.S.Site.files g.S.Site.may_leave g.S.Site.moment g.S.Site.images_since g.B.Born.born g.F.Commands.gives g.F.Commands.may_fail (λ (job : Job). Unit {0}) (Unit {0}) (counts c.args.before [] 0 0 0) (counts (g.S.Site.count c.look.new.site) [] 0 0 0) c.args.ask c.args.site c.look.new.site given cause) (sym same)
+    (cared_serves g.S.Site.tells g.S.Site.files g.S.Site.may_leave g.S.Site.moment g.S.Site.images_since g.B.Born.born g.F.Commands.gives g.F.Commands.may_fail (λ (job : Job). Unit {0}) (Unit {0}) (counts c.args.before [] 0 0 0) (counts (g.S.Site.count c.look.new.site) [] 0 0 0) c.args.ask c.args.site c.look.new.site given (look_cause (site_rise (counts c.args.before [] 0 0 0) (counts (g.S.Site.count c.look.new.site) [] 0 0 0)) why) 0 (IsCutFault why) (record {
       work = λ wrong. absurd (let both : works.PrintLog ≡ works.Run = sym c.requires.work ∙ wrong in cc);
       later = c.requires.later;
-      cuts = look_cut (site_rise (counts c.args.before [] 0) (counts (g.S.Site.count c.look.new.site) [] 0)) why;
-      runs_not = look_still (site_rise (counts c.args.before [] 0) (counts (g.S.Site.count c.look.new.site) [] 0)) why;
-      late = look_late (site_rise (counts c.args.before [] 0) (counts (g.S.Site.count c.look.new.site) [] 0)) why;
-      faults = look_faults (counts c.args.before [] 0) (counts (g.S.Site.count c.look.new.site) [] 0) (g.S.Site.count c.args.site) (g.S.Site.count c.look.new.site) why c.requires.counted refl c.in-Err.ensures.cause;
-      damaged = λ t at told. look_damaged (site_rise (counts c.args.before [] 0) (counts (g.S.Site.count c.look.new.site) [] 0)) (g.S.Site.files c.args.site c.args.ask.log) given why at (c.in-Err.ensures.log t) told;
-      read = λ t. look_read (site_rise (counts c.args.before [] 0) (counts (g.S.Site.count c.look.new.site) [] 0)) (g.S.Site.files c.args.site c.args.ask.log) given why (c.in-Err.ensures.log t);
-      goes = λ t H spelled. subst (λ (w : Work). GoesOn w c.args.ask H (g.S.Site.files c.args.site) (g.S.Site.files c.look.new.site) given (look_cause (site_rise (counts c.args.before [] 0) (counts (g.S.Site.count c.look.new.site) [] 0)) why)) (sym c.requires.work)
-          (look_goes (site_rise (counts c.args.before [] 0) (counts (g.S.Site.count c.look.new.site) [] 0)) c.args.ask H (g.S.Site.files c.args.site) (g.S.Site.files c.look.new.site) given why (c.in-Err.ensures.ends t H spelled).0);
-      has_log = λ t H spelled. look_log (site_rise (counts c.args.before [] 0) (counts (g.S.Site.count c.look.new.site) [] 0)) c.args.ask.plan H given why (c.in-Err.ensures.ends t H spelled).0 (c.in-Err.ensures.ends t H spelled).1;
-      legal = λ read. absurd (true≢false (sym read ∙ look_unread (site_rise (counts c.args.before [] 0) (counts (g.S.Site.count c.look.new.site) [] 0)) why));
-      logged = λ t H spelled. look_legal (site_rise (counts c.args.before [] 0) (counts (g.S.Site.count c.look.new.site) [] 0)) c.args.ask.plan H given why (c.in-Err.ensures.ends t H spelled).1;
-      either = λ t H spelled whole. look_either H given 0 (site_rise (counts c.args.before [] 0) (counts (g.S.Site.count c.look.new.site) [] 0)) c.args.ask.plan why (c.in-Err.ensures.ends t H spelled).0 (c.in-Err.ensures.ends t H spelled).1 whole;
+      cuts = look_cut (site_rise (counts c.args.before [] 0 0 0) (counts (g.S.Site.count c.look.new.site) [] 0 0 0)) why;
+      runs_not = look_still (site_rise (counts c.args.before [] 0 0 0) (counts (g.S.Site.count c.look.new.site) [] 0 0 0)) why;
+      late = look_late (site_rise (counts c.args.before [] 0 0 0) (counts (g.S.Site.count c.look.new.site) [] 0 0 0)) why;
+      faults = look_faults (counts c.args.before [] 0 0 0) (counts (g.S.Site.count c.look.new.site) [] 0 0 0) (g.S.Site.count c.args.site) (g.S.Site.count c.look.new.site) why c.requires.counted refl c.in-Err.ensures.cause;
+      damaged = λ t at told. look_damaged (site_rise (counts c.args.before [] 0 0 0) (counts (g.S.Site.count c.look.new.site) [] 0 0 0)) (g.S.Site.files c.args.site c.args.ask.log) given why at (c.in-Err.ensures.log t) told;
+      read = λ t. look_read (site_rise (counts c.args.before [] 0 0 0) (counts (g.S.Site.count c.look.new.site) [] 0 0 0)) (g.S.Site.files c.args.site c.args.ask.log) given why (c.in-Err.ensures.log t);
+      goes = λ t H spelled. subst (λ (w : Work). GoesOn w c.args.ask 0 H (g.S.Site.files c.args.site) (g.S.Site.files c.look.new.site) given (look_cause (site_rise (counts c.args.before [] 0 0 0) (counts (g.S.Site.count c.look.new.site) [] 0 0 0)) why)) (sym c.requires.work)
+          (look_goes (site_rise (counts c.args.before [] 0 0 0) (counts (g.S.Site.count c.look.new.site) [] 0 0 0)) c.args.ask 0 H (g.S.Site.files c.args.site) (g.S.Site.files c.look.new.site) given why (c.in-Err.ensures.ends t H spelled).0);
+      has_log = λ t H spelled. look_log (site_rise (counts c.args.before [] 0 0 0) (counts (g.S.Site.count c.look.new.site) [] 0 0 0)) c.args.ask.plan H given why (c.in-Err.ensures.ends t H spelled).0 (c.in-Err.ensures.ends t H spelled).1;
+      legal = λ read. absurd (true≢false (sym read ∙ look_unread (site_rise (counts c.args.before [] 0 0 0) (counts (g.S.Site.count c.look.new.site) [] 0 0 0)) why));
+      logged = λ t H spelled. look_legal (site_rise (counts c.args.before [] 0 0 0) (counts (g.S.Site.count c.look.new.site) [] 0 0 0)) c.args.ask.plan H given why (c.in-Err.ensures.ends t H spelled).1;
+      either = λ t H spelled whole. look_either H given 0 (site_rise (counts c.args.before [] 0 0 0) (counts (g.S.Site.count c.look.new.site) [] 0 0 0)) c.args.ask.plan why (c.in-Err.ensures.ends t H spelled).0 (c.in-Err.ensures.ends t H spelled).1 whole;
       begun = λ t H spelled begins. look_begins H given 0 why (c.in-Err.ensures.ends t H spelled).1;
       moments = λ t H spelled resumable. weakened g.S.Site.moment g.S.Site.images_since c.args.site c.look.new.site (IsBefore c.args.ask.log (g.S.Site.files c.args.site c.args.ask.log) (g.S.Site.may_leave c.args.site)) (IsMoment Held c.args.ask.plan c.args.ask.log (g.S.Site.files c.args.site) (g.S.Site.may_leave c.args.site) H given (IsCutFault why)) (c.in-Err.ensures.moments t) (λ image before. inl before);
       contents = λ t H spelled resumable. weakened g.S.Site.moment g.S.Site.images_since c.args.site c.look.new.site (IsBefore c.args.ask.log (g.S.Site.files c.args.site c.args.ask.log) (g.S.Site.may_leave c.args.site)) (IsMoment (SerialFits g.F.Commands.gives (read_sources c.args.ask.plan (g.S.Site.files c.args.site))) c.args.ask.plan c.args.ask.log (g.S.Site.files c.args.site) (g.S.Site.may_leave c.args.site) H given (IsCutFault why)) (c.in-Err.ensures.moments t) (λ image before. inl before);
       resumable = c.in-Err.ensures.resumable;
       at_end = λ t H spelled resumable whole image left.
-          let seen = look_seen (site_rise (counts c.args.before [] 0) (counts (g.S.Site.count c.look.new.site) [] 0)) c.args.ask.plan H given why (c.in-Err.ensures.ends t H spelled).0 (c.in-Err.ensures.ends t H spelled).1 whole in
+          let seen = look_seen (site_rise (counts c.args.before [] 0 0 0) (counts (g.S.Site.count c.look.new.site) [] 0 0 0)) c.args.ask.plan H given why (c.in-Err.ensures.ends t H spelled).0 (c.in-Err.ensures.ends t H spelled).1 whole in
           subst (λ (xs : List Record). Keeps Held c.args.ask.plan c.args.ask.log xs image) (sym seen.1) (c.in-Err.ensures.kept t H spelled resumable seen.0 image left);
-      cleaned = λ t H spelled. look_cleans (site_rise (counts c.args.before [] 0) (counts (g.S.Site.count c.look.new.site) [] 0)) c.args.ask.plan H (g.S.Site.files c.look.new.site) why;
-      untouched = λ t refused m. c.in-Err.ensures.reads t (cut_look (site_rise (counts c.args.before [] 0) (counts (g.S.Site.count c.look.new.site) [] 0)) why refused)
-          (look_begun c.files_spell_one_list.ensures.one c.files_spell_one_list.ensures.header c.files_spell_one_list.ensures.whole c.args.ask.plan (g.S.Site.files c.args.site c.args.ask.log) given why (cut_look (site_rise (counts c.args.before [] 0) (counts (g.S.Site.count c.look.new.site) [] 0)) why refused) (c.in-Err.ensures.log t) (λ H spelled. (c.in-Err.ensures.ends t H spelled).0)) m;
+      cleaned = λ t H spelled. look_cleans (site_rise (counts c.args.before [] 0 0 0) (counts (g.S.Site.count c.look.new.site) [] 0 0 0)) c.args.ask.plan H (g.S.Site.files c.look.new.site) why;
+      untouched = λ t refused m. c.in-Err.ensures.reads t (cut_look (site_rise (counts c.args.before [] 0 0 0) (counts (g.S.Site.count c.look.new.site) [] 0 0 0)) why refused)
+          (look_begun c.files_spell_one_list.ensures.one c.files_spell_one_list.ensures.header c.files_spell_one_list.ensures.whole c.args.ask.plan (g.S.Site.files c.args.site c.args.ask.log) given why (cut_look (site_rise (counts c.args.before [] 0 0 0) (counts (g.S.Site.count c.look.new.site) [] 0 0 0)) why refused) (c.in-Err.ensures.log t) (λ H spelled. (c.in-Err.ensures.ends t H spelled).0)) m;
       others = λ t. beside_less g.S.Site.files g.S.Site.may_leave g.S.Site.moment g.S.Site.images_since (λ m. m ≢ c.args.ask.log) (IsUnmade c.args.ask.plan c.args.ask.log) c.args.site c.look.new.site (λ m other. other.0) (c.in-Err.ensures.others t).crash;
     }))
 

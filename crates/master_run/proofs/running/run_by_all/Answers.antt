@@ -1,5 +1,4 @@
-use Rattle.std.proofs.Common.{◌≡◌, ◌<◌, ◌∙◌, inl, ℕ, List, map, sum, sum_by, ap, sym, subst, refl, arith, true, true≢false}
-use Rattle.flow_types.specs.declared.plan.Plan.{Plan}
+use Rattle.std.proofs.Common.{◌≡◌, ◌<◌, ◌-◌, ◌∙◌, inl, ℕ, List, map, sum, sum_by, ap, sym, subst, refl, arith, true, true≢false}
 use Rattle.flow_types.specs.declared.records.Record.{Record}
 use Rattle.worker_pool.specs.Crews.{AllSure, AllTell}
 use Rattle.outside.proofs.Moments.{weakened}
@@ -9,28 +8,31 @@ use Rattle.report.specs.Causes.{is_cut, kind_of}
 use Rattle.std.proofs.lemmas.List.Sums.{sum-map}
 use Rattle.local_run.specs.Runs.{HasCauses}
 use Rattle.master_run.specs.Ends.{OneRose, counts}
-use Rattle.master_run.specs.Headline.{FailureEnd, is_run_end}
+use Rattle.master_run.specs.Headline.{FailureEnd, IfWaited, WaitsInVain, is_run_end}
 use Rattle.master_run.specs.Serves.{Serves}
 use Rattle.local_run.specs.Moments.{IsBefore}
 use Rattle.log_recover.specs.Recovery.{IsRecovering}
 use Rattle.master_run.specs.Runs.{run_cause, unread_cause}
-use Rattle.master_run.proofs.Ran.{closed_run, closed_starts, logged_run, ran_serves, run_faults, some_end}
+use Rattle.wq_run.specs.Ends.{AreBack}
+use Rattle.flow_run.proofs.Stops.{back_same}
+use Rattle.master_run.proofs.Ran.{closed_run, closed_starts, cut_run, failed_run, logged_run, over_run, ran_serves, run_faults, told_cause}
+use Rattle.master_run.proofs.Waits.{unread_waits, waited_run}
 use Rattle.master_run.proofs.Refusals.{by_fault}
-use Rattle.master_run.proofs.Counted.{site_rise}
+use Rattle.master_run.proofs.Counted.{hall_rise, site_rise}
 use Rattle.master_run.proofs.Unread.{recovering_before, unread_cuts, unread_ends, unread_failed, unread_serves}
 use Rattle.master_run.proofs.running.run_by_all.Goals as goal
 
 pub returns-in_default-clause-serves : goal.returns-in_default-clause-serves
 returns-in_default-clause-serves g c =
-    subst (λ (xs : List Record). Serves g.S.Site.tells g.S.Site.files g.S.Site.may_leave g.S.Site.moment g.S.Site.images_since g.B.Born.born g.F.Commands.gives g.F.Commands.may_fail (AllTell g.R.Runner.tells c.args.runners.now) (AllSure g.R.Runner.sure c.args.runners.now) (counts c.args.before (map g.R.Runner.count c.args.runners.now) 0) (counts (g.S.Site.count c.args.site) (map g.R.Runner.count c.args.runners.now) 0) c.args.ask c.args.site c.args.site xs causes.Memory) (sym c.new.ensures)
-    (by_fault g.S.Site.tells g.S.Site.files g.S.Site.may_leave g.S.Site.moment g.S.Site.images_since g.B.Born.born g.F.Commands.gives g.F.Commands.may_fail (AllTell g.R.Runner.tells c.args.runners.now) (AllSure g.R.Runner.sure c.args.runners.now) (counts c.args.before (map g.R.Runner.count c.args.runners.now) 0) (counts (g.S.Site.count c.args.site) (map g.R.Runner.count c.args.runners.now) 0) c.args.ask c.args.site c.args.site c.requires.later
+    subst (λ (xs : List Record). Serves g.S.Site.tells g.S.Site.files g.S.Site.may_leave g.S.Site.moment g.S.Site.images_since g.B.Born.born g.F.Commands.gives g.F.Commands.may_fail (AllTell g.R.Runner.tells c.args.runners.now) (AllSure g.R.Runner.sure c.args.runners.now) (counts c.args.before (map g.R.Runner.count c.args.runners.now) (g.H.Hall.count c.args.hall.now) (g.H.Hall.idle_count c.args.hall.now) 0) (counts (g.S.Site.count c.args.site) (map g.R.Runner.count c.args.runners.now) (g.H.Hall.count c.args.hall.now) (g.H.Hall.idle_count c.args.hall.now) 0) c.args.ask c.args.site c.args.site xs causes.Memory) (sym c.new.ensures)
+    (by_fault g.S.Site.tells g.S.Site.files g.S.Site.may_leave g.S.Site.moment g.S.Site.images_since g.B.Born.born g.F.Commands.gives g.F.Commands.may_fail (AllTell g.R.Runner.tells c.args.runners.now) (AllSure g.R.Runner.sure c.args.runners.now) (counts c.args.before (map g.R.Runner.count c.args.runners.now) (g.H.Hall.count c.args.hall.now) (g.H.Hall.idle_count c.args.hall.now) 0) (counts (g.S.Site.count c.args.site) (map g.R.Runner.count c.args.runners.now) (g.H.Hall.count c.args.hall.now) (g.H.Hall.idle_count c.args.hall.now) 0) c.args.ask c.args.site c.args.site c.requires.later
     (λ t. record { same = refl; within = λ m file left. left; only = record { later = omega arith; each = λ image left. ((g.met.S.Site g.world.𝓛 g.world.𝓜 g.world.𝓡 ((λ s x. x), (λ x. x), (λ x. x), λ x. x)).only_now t c.args.site image left); before = λ time image le left. inl left } })
     causes.Memory refl refl refl tt (λ none. refl))
 
 pub returns-in-Ok-resume-clause-serves : goal.returns-in-Ok-resume-clause-serves
 returns-in-Ok-resume-clause-serves g c =
-    let same : c.run_cause.result ≡ run_cause (site_rise (counts c.args.before (map g.R.Runner.count c.args.runners.now) 0) (counts (g.S.Site.count c.in-Ok-resume.ended.site) (map g.R.Runner.count c.resume.new.runners) 0)) c.first_rise-runner.result c.args.ask.plan c.in-Ok-resume.ended.how =
-    c.run_cause.ensures ∙ ap (λ (n : ℕ). run_cause (record { before = c.args.before; after = n }) c.first_rise-runner.result c.in-Ok.copied c.in-Ok-resume.ended.how) c.faults-after.ensures ∙ ap (λ (Q : Plan). run_cause (site_rise (counts c.args.before (map g.R.Runner.count c.args.runners.now) 0) (counts (g.S.Site.count c.in-Ok-resume.ended.site) (map g.R.Runner.count c.resume.new.runners) 0)) c.first_rise-runner.result Q c.in-Ok-resume.ended.how) c.in-Ok.ensures.0 in
+    let same : c.run_cause.result ≡ run_cause (site_rise (counts c.args.before (map g.R.Runner.count c.args.runners.now) (g.H.Hall.count c.args.hall.now) (g.H.Hall.idle_count c.args.hall.now) 0) (counts (g.S.Site.count c.in-Ok-resume.ended.site) (map g.R.Runner.count c.resume.new.runners) (g.H.Hall.count c.resume.new.hall) (g.H.Hall.idle_count c.resume.new.hall) 0)) c.first_rise-runner.result (hall_rise (counts c.args.before (map g.R.Runner.count c.args.runners.now) (g.H.Hall.count c.args.hall.now) (g.H.Hall.idle_count c.args.hall.now) 0) (counts (g.S.Site.count c.in-Ok-resume.ended.site) (map g.R.Runner.count c.resume.new.runners) (g.H.Hall.count c.resume.new.hall) (g.H.Hall.idle_count c.resume.new.hall) 0)) c.args.ask.plan c.in-Ok-resume.ended.how =
+    c.run_cause.ensures ∙ told_cause c.args.before c.faults-after.result (g.S.Site.count c.in-Ok-resume.ended.site) c.faults-met.result (g.H.Hall.count c.args.hall.now) c.faults.result (g.H.Hall.count c.resume.new.hall) c.first_rise-runner.result c.in-Ok.copied c.args.ask.plan c.in-Ok-resume.ended.how c.faults-after.ensures c.faults-met.ensures c.faults.ensures c.in-Ok.ensures.0 in
     let was : sum (map g.R.Runner.count c.args.runners.now) ≡ sum_by g.R.Runner.count c.args.runners.now = sum-map g.R.Runner.count c.args.runners.now in
     let is : sum (map g.R.Runner.count c.resume.new.runners) ≡ sum_by g.R.Runner.count c.resume.new.runners = sum-map g.R.Runner.count c.resume.new.runners in
     let causes : HasCauses (g.S.Site.count c.args.site) (g.S.Site.count c.in-Ok-resume.ended.site) (sum (map g.R.Runner.count c.args.runners.now)) (sum (map g.R.Runner.count c.resume.new.runners)) c.in-Ok-resume.ended.how =
@@ -38,25 +40,29 @@ returns-in-Ok-resume-clause-serves g c =
     let kept : c.as_slice.result.now ≡ (map g.R.Runner.count c.args.runners.now) = c.as_slice.ensures ∙ c.in-Ok.ensures.1 in
     let one : sum (map g.R.Runner.count c.args.runners.now) < sum (map g.R.Runner.count c.resume.new.runners) → OneRose c.first_rise-runner.result.before c.first_rise-runner.result.after (map g.R.Runner.count c.args.runners.now) (map g.R.Runner.count c.resume.new.runners) =
     subst (λ (xs : List ℕ). sum xs < sum (map g.R.Runner.count c.resume.new.runners) → OneRose c.first_rise-runner.result.before c.first_rise-runner.result.after xs (map g.R.Runner.count c.resume.new.runners)) kept c.first_rise-runner.ensures in
-    subst (λ (cause : Cause). Serves g.S.Site.tells g.S.Site.files g.S.Site.may_leave g.S.Site.moment g.S.Site.images_since g.B.Born.born g.F.Commands.gives g.F.Commands.may_fail (AllTell g.R.Runner.tells c.args.runners.now) (AllSure g.R.Runner.sure c.args.runners.now) (counts c.args.before (map g.R.Runner.count c.args.runners.now) 0) (counts (g.S.Site.count c.in-Ok-resume.ended.site) (map g.R.Runner.count c.resume.new.runners) 0) c.args.ask c.args.site c.in-Ok-resume.ended.site c.in-Ok-resume.ended.records cause) (sym same)
+    subst (λ (cause : Cause). Serves g.S.Site.tells g.S.Site.files g.S.Site.may_leave g.S.Site.moment g.S.Site.images_since g.B.Born.born g.F.Commands.gives g.F.Commands.may_fail (AllTell g.R.Runner.tells c.args.runners.now) (AllSure g.R.Runner.sure c.args.runners.now) (counts c.args.before (map g.R.Runner.count c.args.runners.now) (g.H.Hall.count c.args.hall.now) (g.H.Hall.idle_count c.args.hall.now) 0) (counts (g.S.Site.count c.in-Ok-resume.ended.site) (map g.R.Runner.count c.resume.new.runners) (g.H.Hall.count c.resume.new.hall) (g.H.Hall.idle_count c.resume.new.hall) 0) c.args.ask c.args.site c.in-Ok-resume.ended.site c.in-Ok-resume.ended.records cause) (sym same)
     (ran_serves g.S.Site.tells g.S.Site.files g.S.Site.may_leave g.S.Site.moment g.S.Site.images_since g.S.Site.count g.B.Born.born g.F.Commands.gives g.F.Commands.may_fail (AllTell g.R.Runner.tells c.args.runners.now) (AllSure g.R.Runner.sure c.args.runners.now)
-    (counts c.args.before (map g.R.Runner.count c.args.runners.now) 0) (counts (g.S.Site.count c.in-Ok-resume.ended.site) (map g.R.Runner.count c.resume.new.runners) 0) c.first_rise-runner.result c.args.ask c.args.site c.in-Ok-resume.ended.site c.in-Ok-resume.ended.records c.in-Ok-resume.ended.how (record {
+    (counts c.args.before (map g.R.Runner.count c.args.runners.now) (g.H.Hall.count c.args.hall.now) (g.H.Hall.idle_count c.args.hall.now) 0) (counts (g.S.Site.count c.in-Ok-resume.ended.site) (map g.R.Runner.count c.resume.new.runners) (g.H.Hall.count c.resume.new.hall) (g.H.Hall.idle_count c.resume.new.hall) 0) c.first_rise-runner.result c.args.ask c.args.site c.in-Ok-resume.ended.site c.in-Ok-resume.ended.records c.in-Ok-resume.ended.how (record {
       work = c.requires.work;
       le = c.requires.counted;
       now_site = refl;
-      faults = run_faults (counts c.args.before (map g.R.Runner.count c.args.runners.now) 0) (counts (g.S.Site.count c.in-Ok-resume.ended.site) (map g.R.Runner.count c.resume.new.runners) 0) c.first_rise-runner.result c.args.ask.plan (g.S.Site.count c.args.site) (g.S.Site.count c.in-Ok-resume.ended.site) c.in-Ok-resume.ended.how c.requires.counted refl one causes;
+      faults = run_faults (counts c.args.before (map g.R.Runner.count c.args.runners.now) (g.H.Hall.count c.args.hall.now) (g.H.Hall.idle_count c.args.hall.now) 0) (counts (g.S.Site.count c.in-Ok-resume.ended.site) (map g.R.Runner.count c.resume.new.runners) (g.H.Hall.count c.resume.new.hall) (g.H.Hall.idle_count c.resume.new.hall) 0) c.first_rise-runner.result c.args.ask.plan (g.S.Site.count c.args.site) (g.S.Site.count c.in-Ok-resume.ended.site) c.in-Ok-resume.ended.how c.requires.counted refl one causes (λ is. (c.in-Ok-resume.ensures.hall is).1);
       log = c.in-Ok-resume.ensures.log;
       grows = c.in-Ok-resume.ensures.grows;
       same = c.in-Ok-resume.ensures.same;
       quiet = c.in-Ok-resume.ensures.quiet;
       starts = c.in-Ok-resume.ensures.starts;
-      closed = c.in-Ok-resume.ensures.closed c.requires.fits;
+      closed = λ alone. c.in-Ok-resume.ensures.closed (c.requires.fits alone);
       ends = c.in-Ok-resume.ensures.ends;
+      waited = c.in-Ok-resume.ensures.waited;
+      met = λ is. (c.in-Ok-resume.ensures.hall is).0;
       damage = c.in-Ok-resume.ensures.damage;
       legal = c.in-Ok-resume.ensures.legal;
       spent = c.in-Ok-resume.ensures.spent;
       lost = c.in-Ok-resume.ensures.lost;
+      lost_away = c.in-Ok-resume.ensures.lost_away;
       is_sure = c.in-Ok-resume.ensures.sure;
+      never = c.in-Ok-resume.ensures.never;
       others = c.in-Ok-resume.ensures.others;
       moments = c.in-Ok-resume.ensures.moments;
       resumable = c.in-Ok-resume.ensures.resumable;
@@ -64,32 +70,67 @@ returns-in-Ok-resume-clause-serves g c =
       honest = c.in-Ok-resume.ensures.honest;
       at_end = c.in-Ok-resume.ensures.now;
       modes = c.in-Ok-resume.ensures.modes;
+      places = c.in-Ok-resume.ensures.places;
       gone = c.in-Ok-resume.ensures.gone;
-      completes = λ t H spelled resumable jobs fit room none is le. c.in-Ok-resume.ensures.completes t H spelled resumable jobs c.requires.fits fit room none is le;
+      completes = λ alone t H spelled resumable jobs fit room none is le. c.in-Ok-resume.ensures.completes t H spelled resumable jobs (c.requires.fits alone) fit room none is le;
     }))
 
 pub returns-clause-serves : goal.returns-clause-serves
 returns-clause-serves g c =
-    let same : c.unread_cause.result ≡ unread_cause (site_rise (counts c.args.before (map g.R.Runner.count c.args.runners.now) 0) (counts (g.S.Site.count c.in-Err.refused.site) (map g.R.Runner.count c.resume.new.runners) 0)) c.in-Err.refused.why =
+    let same : c.unread_cause.result ≡ unread_cause (site_rise (counts c.args.before (map g.R.Runner.count c.args.runners.now) (g.H.Hall.count c.args.hall.now) (g.H.Hall.idle_count c.args.hall.now) 0) (counts (g.S.Site.count c.in-Err.refused.site) (map g.R.Runner.count c.resume.new.runners) (g.H.Hall.count c.resume.new.hall) (g.H.Hall.idle_count c.resume.new.hall) 0)) c.in-Err.refused.why =
     c.unread_cause.ensures ∙ ap (λ (n : ℕ). unread_cause (record { before = c.args.before; after = n }) c.in-Err.refused.why) c.faults-after-in-Err.ensures in
-    subst (λ (cause : Cause). Serves g.S.Site.tells g.S.Site.files g.S.Site.may_leave g.S.Site.moment g.S.Site.images_since g.B.Born.born g.F.Commands.gives g.F.Commands.may_fail (AllTell g.R.Runner.tells c.args.runners.now) (AllSure g.R.Runner.sure c.args.runners.now) (counts c.args.before (map g.R.Runner.count c.args.runners.now) 0) (counts (g.S.Site.count c.in-Err.refused.site) (map g.R.Runner.count c.resume.new.runners) 0) c.args.ask c.args.site c.in-Err.refused.site c.new-in-Err.result cause) (sym same)
-    (subst (λ (xs : List Record). Serves g.S.Site.tells g.S.Site.files g.S.Site.may_leave g.S.Site.moment g.S.Site.images_since g.B.Born.born g.F.Commands.gives g.F.Commands.may_fail (AllTell g.R.Runner.tells c.args.runners.now) (AllSure g.R.Runner.sure c.args.runners.now) (counts c.args.before (map g.R.Runner.count c.args.runners.now) 0) (counts (g.S.Site.count c.in-Err.refused.site) (map g.R.Runner.count c.resume.new.runners) 0) c.args.ask c.args.site c.in-Err.refused.site xs (unread_cause (site_rise (counts c.args.before (map g.R.Runner.count c.args.runners.now) 0) (counts (g.S.Site.count c.in-Err.refused.site) (map g.R.Runner.count c.resume.new.runners) 0)) c.in-Err.refused.why)) (sym c.new-in-Err.ensures)
-    (unread_serves g.S.Site.tells g.S.Site.files g.S.Site.may_leave g.S.Site.moment g.S.Site.images_since g.B.Born.born g.F.Commands.gives g.F.Commands.may_fail (AllTell g.R.Runner.tells c.args.runners.now) (AllSure g.R.Runner.sure c.args.runners.now) (counts c.args.before (map g.R.Runner.count c.args.runners.now) 0) (counts (g.S.Site.count c.in-Err.refused.site) (map g.R.Runner.count c.resume.new.runners) 0) c.args.ask c.args.site c.in-Err.refused.site c.requires.later
+    subst (λ (cause : Cause). Serves g.S.Site.tells g.S.Site.files g.S.Site.may_leave g.S.Site.moment g.S.Site.images_since g.B.Born.born g.F.Commands.gives g.F.Commands.may_fail (AllTell g.R.Runner.tells c.args.runners.now) (AllSure g.R.Runner.sure c.args.runners.now) (counts c.args.before (map g.R.Runner.count c.args.runners.now) (g.H.Hall.count c.args.hall.now) (g.H.Hall.idle_count c.args.hall.now) 0) (counts (g.S.Site.count c.in-Err.refused.site) (map g.R.Runner.count c.resume.new.runners) (g.H.Hall.count c.resume.new.hall) (g.H.Hall.idle_count c.resume.new.hall) 0) c.args.ask c.args.site c.in-Err.refused.site c.new-in-Err.result cause) (sym same)
+    (subst (λ (xs : List Record). Serves g.S.Site.tells g.S.Site.files g.S.Site.may_leave g.S.Site.moment g.S.Site.images_since g.B.Born.born g.F.Commands.gives g.F.Commands.may_fail (AllTell g.R.Runner.tells c.args.runners.now) (AllSure g.R.Runner.sure c.args.runners.now) (counts c.args.before (map g.R.Runner.count c.args.runners.now) (g.H.Hall.count c.args.hall.now) (g.H.Hall.idle_count c.args.hall.now) 0) (counts (g.S.Site.count c.in-Err.refused.site) (map g.R.Runner.count c.resume.new.runners) (g.H.Hall.count c.resume.new.hall) (g.H.Hall.idle_count c.resume.new.hall) 0) c.args.ask c.args.site c.in-Err.refused.site xs (unread_cause (site_rise (counts c.args.before (map g.R.Runner.count c.args.runners.now) (g.H.Hall.count c.args.hall.now) (g.H.Hall.idle_count c.args.hall.now) 0) (counts (g.S.Site.count c.in-Err.refused.site) (map g.R.Runner.count c.resume.new.runners) (g.H.Hall.count c.resume.new.hall) (g.H.Hall.idle_count c.resume.new.hall) 0)) c.in-Err.refused.why)) (sym c.new-in-Err.ensures)
+    (unread_serves g.S.Site.tells g.S.Site.files g.S.Site.may_leave g.S.Site.moment g.S.Site.images_since g.B.Born.born g.F.Commands.gives g.F.Commands.may_fail (AllTell g.R.Runner.tells c.args.runners.now) (AllSure g.R.Runner.sure c.args.runners.now) (counts c.args.before (map g.R.Runner.count c.args.runners.now) (g.H.Hall.count c.args.hall.now) (g.H.Hall.idle_count c.args.hall.now) 0) (counts (g.S.Site.count c.in-Err.refused.site) (map g.R.Runner.count c.resume.new.runners) (g.H.Hall.count c.resume.new.hall) (g.H.Hall.idle_count c.resume.new.hall) 0) c.args.ask c.args.site c.in-Err.refused.site c.requires.later
     (λ t. weakened g.S.Site.moment g.S.Site.images_since c.args.site c.in-Err.refused.site (IsRecovering c.args.ask.log (g.S.Site.files c.args.site c.args.ask.log) (g.S.Site.may_leave c.args.site)) (IsBefore c.args.ask.log (g.S.Site.files c.args.site c.args.ask.log) (g.S.Site.may_leave c.args.site)) (c.in-Err.ensures.unread t)
     (λ image is. recovering_before c.args.ask.log (g.S.Site.files c.args.site c.args.ask.log) (g.S.Site.may_leave c.args.site) image is))
     c.in-Err.ensures.crash c.files_spell_one_list.ensures.header c.files_spell_one_list.ensures.whole c.in-Err.refused.why (λ is. omega (arith, c.requires.counted, c.in-Err.ensures.site is)) c.in-Err.ensures.damaged c.in-Err.ensures.unchanged))
 
 pub returns-clause-failures : goal.returns-clause-failures
-returns-clause-failures g c =
+returns-clause-failures g c alone =
     subst (λ (cause : Cause). FailureEnd (sum_by g.R.Runner.failures c.args.runners.now) (sum_by g.R.Runner.failures c.resume.new.runners) (kind_of cause)) (sym c.unread_cause.ensures)
     (unread_failed (record { before = c.args.before; after = c.faults-after-in-Err.result }) (sum_by g.R.Runner.failures c.args.runners.now) (sum_by g.R.Runner.failures c.resume.new.runners) c.in-Err.refused.why (let same : sum_by g.R.Runner.failures c.resume.new.runners ≡ sum_by g.R.Runner.failures c.args.runners.now = ap (λ l. sum_by g.R.Runner.failures l) c.in-Err.ensures.unrun in omega (arith, same)))
 
 pub run_cause-requires-clause-ends : goal.run_cause-requires-clause-ends
 run_cause-requires-clause-ends g c =
-    some_end c.args.ask.options.limit c.in-Ok-resume.ended.how (c.in-Ok-resume.ensures.closed c.requires.fits)
+    over_run c.args.ask.options.wq c.args.ask.plan c.args.ask.options c.args.ask.workers.limit (g.H.Hall.idle_count c.resume.new.hall - g.H.Hall.idle_count c.args.hall.now) c.args.ask.options.limit c.in-Ok-resume.ended.records c.in-Ok-resume.ended.how
+    (λ alone. c.in-Ok-resume.ensures.closed (c.requires.fits alone)) c.in-Ok-resume.ensures.waited
+
+pub returns-in_default-clause-back : goal.returns-in_default-clause-back
+returns-in_default-clause-back g c whole = absurd (whole refl)
+
+pub returns-in-Ok-resume-clause-back : goal.returns-in-Ok-resume-clause-back
+returns-in-Ok-resume-clause-back g c whole =
+    let same : c.run_cause.result ≡ run_cause (site_rise (counts c.args.before (map g.R.Runner.count c.args.runners.now) (g.H.Hall.count c.args.hall.now) (g.H.Hall.idle_count c.args.hall.now) 0) (counts (g.S.Site.count c.in-Ok-resume.ended.site) (map g.R.Runner.count c.resume.new.runners) (g.H.Hall.count c.resume.new.hall) (g.H.Hall.idle_count c.resume.new.hall) 0)) c.first_rise-runner.result (hall_rise (counts c.args.before (map g.R.Runner.count c.args.runners.now) (g.H.Hall.count c.args.hall.now) (g.H.Hall.idle_count c.args.hall.now) 0) (counts (g.S.Site.count c.in-Ok-resume.ended.site) (map g.R.Runner.count c.resume.new.runners) (g.H.Hall.count c.resume.new.hall) (g.H.Hall.idle_count c.resume.new.hall) 0)) c.args.ask.plan c.in-Ok-resume.ended.how =
+    c.run_cause.ensures ∙ told_cause c.args.before c.faults-after.result (g.S.Site.count c.in-Ok-resume.ended.site) c.faults-met.result (g.H.Hall.count c.args.hall.now) c.faults.result (g.H.Hall.count c.resume.new.hall) c.first_rise-runner.result c.in-Ok.copied c.args.ask.plan c.in-Ok-resume.ended.how c.faults-after.ensures c.faults-met.ensures c.faults.ensures c.in-Ok.ensures.0 in
+    c.in-Ok-resume.ensures.back (λ cut. whole (subst (λ (cause : Cause). is_cut (kind_of cause) ≡ true) (sym same) (cut_run (site_rise (counts c.args.before (map g.R.Runner.count c.args.runners.now) (g.H.Hall.count c.args.hall.now) (g.H.Hall.idle_count c.args.hall.now) 0) (counts (g.S.Site.count c.in-Ok-resume.ended.site) (map g.R.Runner.count c.resume.new.runners) (g.H.Hall.count c.resume.new.hall) (g.H.Hall.idle_count c.resume.new.hall) 0)) c.first_rise-runner.result (hall_rise (counts c.args.before (map g.R.Runner.count c.args.runners.now) (g.H.Hall.count c.args.hall.now) (g.H.Hall.idle_count c.args.hall.now) 0) (counts (g.S.Site.count c.in-Ok-resume.ended.site) (map g.R.Runner.count c.resume.new.runners) (g.H.Hall.count c.resume.new.hall) (g.H.Hall.idle_count c.resume.new.hall) 0)) c.args.ask.plan c.in-Ok-resume.ended.how cut)))
+
+pub returns-clause-back : goal.returns-clause-back
+returns-clause-back g c whole =
+    subst (λ (hall : g.row.H.Denot). AreBack (g.H.Hall.got c.args.hall.now) (g.H.Hall.got hall) (g.H.Hall.given c.args.hall.now) (g.H.Hall.given hall)) (sym c.in-Err.ensures.unopened) (back_same (g.H.Hall.got c.args.hall.now) (g.H.Hall.given c.args.hall.now))
+
+pub returns-in-Ok-resume-clause-waited : goal.returns-in-Ok-resume-clause-waited
+returns-in-Ok-resume-clause-waited g c =
+    let same : c.run_cause.result ≡ run_cause (site_rise (counts c.args.before (map g.R.Runner.count c.args.runners.now) (g.H.Hall.count c.args.hall.now) (g.H.Hall.idle_count c.args.hall.now) 0) (counts (g.S.Site.count c.in-Ok-resume.ended.site) (map g.R.Runner.count c.resume.new.runners) (g.H.Hall.count c.resume.new.hall) (g.H.Hall.idle_count c.resume.new.hall) 0)) c.first_rise-runner.result (hall_rise (counts c.args.before (map g.R.Runner.count c.args.runners.now) (g.H.Hall.count c.args.hall.now) (g.H.Hall.idle_count c.args.hall.now) 0) (counts (g.S.Site.count c.in-Ok-resume.ended.site) (map g.R.Runner.count c.resume.new.runners) (g.H.Hall.count c.resume.new.hall) (g.H.Hall.idle_count c.resume.new.hall) 0)) c.args.ask.plan c.in-Ok-resume.ended.how =
+    c.run_cause.ensures ∙ told_cause c.args.before c.faults-after.result (g.S.Site.count c.in-Ok-resume.ended.site) c.faults-met.result (g.H.Hall.count c.args.hall.now) c.faults.result (g.H.Hall.count c.resume.new.hall) c.first_rise-runner.result c.in-Ok.copied c.args.ask.plan c.in-Ok-resume.ended.how c.faults-after.ensures c.faults-met.ensures c.faults.ensures c.in-Ok.ensures.0 in
+    let rise = g.H.Hall.idle_count c.resume.new.hall - g.H.Hall.idle_count c.args.hall.now in
+    subst (λ (cause : Cause). IfWaited cause (WaitsInVain c.args.ask.plan c.args.ask.options c.args.ask.workers.limit rise c.in-Ok-resume.ended.records)) (sym same)
+    (waited_run c.args.ask rise (site_rise (counts c.args.before (map g.R.Runner.count c.args.runners.now) (g.H.Hall.count c.args.hall.now) (g.H.Hall.idle_count c.args.hall.now) 0) (counts (g.S.Site.count c.in-Ok-resume.ended.site) (map g.R.Runner.count c.resume.new.runners) (g.H.Hall.count c.resume.new.hall) (g.H.Hall.idle_count c.resume.new.hall) 0)) c.first_rise-runner.result (hall_rise (counts c.args.before (map g.R.Runner.count c.args.runners.now) (g.H.Hall.count c.args.hall.now) (g.H.Hall.idle_count c.args.hall.now) 0) (counts (g.S.Site.count c.in-Ok-resume.ended.site) (map g.R.Runner.count c.resume.new.runners) (g.H.Hall.count c.resume.new.hall) (g.H.Hall.idle_count c.resume.new.hall) 0)) c.in-Ok-resume.ended.records c.in-Ok-resume.ended.how (λ alone. c.in-Ok-resume.ensures.closed (c.requires.fits alone)) c.in-Ok-resume.ensures.waited)
+
+pub returns-clause-waited : goal.returns-clause-waited
+returns-clause-waited g c =
+    subst (λ (cause : Cause). IfWaited cause (WaitsInVain c.args.ask.plan c.args.ask.options c.args.ask.workers.limit (g.H.Hall.idle_count c.resume.new.hall - g.H.Hall.idle_count c.args.hall.now) c.new-in-Err.result)) (sym c.unread_cause.ensures)
+    (unread_waits (WaitsInVain c.args.ask.plan c.args.ask.options c.args.ask.workers.limit (g.H.Hall.idle_count c.resume.new.hall - g.H.Hall.idle_count c.args.hall.now) c.new-in-Err.result) (record { before = c.args.before; after = c.faults-after-in-Err.result }) c.in-Err.refused.why)
+
+pub returns-in-Ok-resume-clause-failures : goal.returns-in-Ok-resume-clause-failures
+returns-in-Ok-resume-clause-failures g c alone =
+    let same : c.run_cause.result ≡ run_cause (site_rise (counts c.args.before (map g.R.Runner.count c.args.runners.now) (g.H.Hall.count c.args.hall.now) (g.H.Hall.idle_count c.args.hall.now) 0) (counts (g.S.Site.count c.in-Ok-resume.ended.site) (map g.R.Runner.count c.resume.new.runners) (g.H.Hall.count c.resume.new.hall) (g.H.Hall.idle_count c.resume.new.hall) 0)) c.first_rise-runner.result (hall_rise (counts c.args.before (map g.R.Runner.count c.args.runners.now) (g.H.Hall.count c.args.hall.now) (g.H.Hall.idle_count c.args.hall.now) 0) (counts (g.S.Site.count c.in-Ok-resume.ended.site) (map g.R.Runner.count c.resume.new.runners) (g.H.Hall.count c.resume.new.hall) (g.H.Hall.idle_count c.resume.new.hall) 0)) c.args.ask.plan c.in-Ok-resume.ended.how =
+    c.run_cause.ensures ∙ told_cause c.args.before c.faults-after.result (g.S.Site.count c.in-Ok-resume.ended.site) c.faults-met.result (g.H.Hall.count c.args.hall.now) c.faults.result (g.H.Hall.count c.resume.new.hall) c.first_rise-runner.result c.in-Ok.copied c.args.ask.plan c.in-Ok-resume.ended.how c.faults-after.ensures c.faults-met.ensures c.faults.ensures c.in-Ok.ensures.0 in
+    subst (λ (cause : Cause). FailureEnd (sum_by g.R.Runner.failures c.args.runners.now) (sum_by g.R.Runner.failures c.resume.new.runners) (kind_of cause)) (sym same)
+    (failed_run (site_rise (counts c.args.before (map g.R.Runner.count c.args.runners.now) (g.H.Hall.count c.args.hall.now) (g.H.Hall.idle_count c.args.hall.now) 0) (counts (g.S.Site.count c.in-Ok-resume.ended.site) (map g.R.Runner.count c.resume.new.runners) (g.H.Hall.count c.resume.new.hall) (g.H.Hall.idle_count c.resume.new.hall) 0)) c.first_rise-runner.result (hall_rise (counts c.args.before (map g.R.Runner.count c.args.runners.now) (g.H.Hall.count c.args.hall.now) (g.H.Hall.idle_count c.args.hall.now) 0) (counts (g.S.Site.count c.in-Ok-resume.ended.site) (map g.R.Runner.count c.resume.new.runners) (g.H.Hall.count c.resume.new.hall) (g.H.Hall.idle_count c.resume.new.hall) 0)) c.args.ask.plan (sum_by g.R.Runner.failures c.args.runners.now) (sum_by g.R.Runner.failures c.resume.new.runners) c.in-Ok-resume.ended.how (c.in-Ok-resume.ensures.failed alone))
 
 pub returns-in_default-clause-failed : goal.returns-in_default-clause-failed
-returns-in_default-clause-failed g c t H spelled whole = absurd (whole refl)
+returns-in_default-clause-failed g c alone t H spelled whole = absurd (whole refl)
 
 pub returns-in_default-clause-opened : goal.returns-in_default-clause-opened
 returns-in_default-clause-opened g c wrong = absurd (true≢false (sym wrong))
@@ -98,27 +139,27 @@ pub returns-in_default-clause-collects : goal.returns-in_default-clause-collects
 returns-in_default-clause-collects g c wrong = absurd (true≢false (sym wrong))
 
 pub returns-in-Ok-resume-clause-failed : goal.returns-in-Ok-resume-clause-failed
-returns-in-Ok-resume-clause-failed g c t H spelled whole =
-    let same : c.run_cause.result ≡ run_cause (site_rise (counts c.args.before (map g.R.Runner.count c.args.runners.now) 0) (counts (g.S.Site.count c.in-Ok-resume.ended.site) (map g.R.Runner.count c.resume.new.runners) 0)) c.first_rise-runner.result c.args.ask.plan c.in-Ok-resume.ended.how =
-    c.run_cause.ensures ∙ ap (λ (n : ℕ). run_cause (record { before = c.args.before; after = n }) c.first_rise-runner.result c.in-Ok.copied c.in-Ok-resume.ended.how) c.faults-after.ensures ∙ ap (λ (Q : Plan). run_cause (site_rise (counts c.args.before (map g.R.Runner.count c.args.runners.now) 0) (counts (g.S.Site.count c.in-Ok-resume.ended.site) (map g.R.Runner.count c.resume.new.runners) 0)) c.first_rise-runner.result Q c.in-Ok-resume.ended.how) c.in-Ok.ensures.0 in
-    logged_run (site_rise (counts c.args.before (map g.R.Runner.count c.args.runners.now) 0) (counts (g.S.Site.count c.in-Ok-resume.ended.site) (map g.R.Runner.count c.resume.new.runners) 0)) c.first_rise-runner.result c.args.ask.plan H c.in-Ok-resume.ended.records (sum_by g.R.Runner.failures c.args.runners.now) (sum_by g.R.Runner.failures c.resume.new.runners) c.in-Ok-resume.ended.how
-    (λ closed. c.in-Ok-resume.ensures.failures closed t H spelled) (λ refused. c.in-Ok-resume.ensures.same t H spelled refused) (λ refused. ap (λ l. sum_by g.R.Runner.failures l) (c.in-Ok-resume.ensures.unused refused))
+returns-in-Ok-resume-clause-failed g c alone t H spelled whole =
+    let same : c.run_cause.result ≡ run_cause (site_rise (counts c.args.before (map g.R.Runner.count c.args.runners.now) (g.H.Hall.count c.args.hall.now) (g.H.Hall.idle_count c.args.hall.now) 0) (counts (g.S.Site.count c.in-Ok-resume.ended.site) (map g.R.Runner.count c.resume.new.runners) (g.H.Hall.count c.resume.new.hall) (g.H.Hall.idle_count c.resume.new.hall) 0)) c.first_rise-runner.result (hall_rise (counts c.args.before (map g.R.Runner.count c.args.runners.now) (g.H.Hall.count c.args.hall.now) (g.H.Hall.idle_count c.args.hall.now) 0) (counts (g.S.Site.count c.in-Ok-resume.ended.site) (map g.R.Runner.count c.resume.new.runners) (g.H.Hall.count c.resume.new.hall) (g.H.Hall.idle_count c.resume.new.hall) 0)) c.args.ask.plan c.in-Ok-resume.ended.how =
+    c.run_cause.ensures ∙ told_cause c.args.before c.faults-after.result (g.S.Site.count c.in-Ok-resume.ended.site) c.faults-met.result (g.H.Hall.count c.args.hall.now) c.faults.result (g.H.Hall.count c.resume.new.hall) c.first_rise-runner.result c.in-Ok.copied c.args.ask.plan c.in-Ok-resume.ended.how c.faults-after.ensures c.faults-met.ensures c.faults.ensures c.in-Ok.ensures.0 in
+    logged_run (site_rise (counts c.args.before (map g.R.Runner.count c.args.runners.now) (g.H.Hall.count c.args.hall.now) (g.H.Hall.idle_count c.args.hall.now) 0) (counts (g.S.Site.count c.in-Ok-resume.ended.site) (map g.R.Runner.count c.resume.new.runners) (g.H.Hall.count c.resume.new.hall) (g.H.Hall.idle_count c.resume.new.hall) 0)) c.first_rise-runner.result (hall_rise (counts c.args.before (map g.R.Runner.count c.args.runners.now) (g.H.Hall.count c.args.hall.now) (g.H.Hall.idle_count c.args.hall.now) 0) (counts (g.S.Site.count c.in-Ok-resume.ended.site) (map g.R.Runner.count c.resume.new.runners) (g.H.Hall.count c.resume.new.hall) (g.H.Hall.idle_count c.resume.new.hall) 0)) c.args.ask.plan H c.in-Ok-resume.ended.records (sum_by g.R.Runner.failures c.args.runners.now) (sum_by g.R.Runner.failures c.resume.new.runners) c.in-Ok-resume.ended.how
+    (λ closed. c.in-Ok-resume.ensures.failures alone closed t H spelled) (λ refused. c.in-Ok-resume.ensures.same t H spelled refused) (λ refused. ap (λ l. sum_by g.R.Runner.failures l) (c.in-Ok-resume.ensures.unused refused))
     (λ cut. whole (subst (λ (cause : Cause). is_cut (kind_of cause) ≡ true) (sym same) cut))
 
 pub returns-in-Ok-resume-clause-opened : goal.returns-in-Ok-resume-clause-opened
 returns-in-Ok-resume-clause-opened g c ends =
-    let same : c.run_cause.result ≡ run_cause (site_rise (counts c.args.before (map g.R.Runner.count c.args.runners.now) 0) (counts (g.S.Site.count c.in-Ok-resume.ended.site) (map g.R.Runner.count c.resume.new.runners) 0)) c.first_rise-runner.result c.args.ask.plan c.in-Ok-resume.ended.how =
-    c.run_cause.ensures ∙ ap (λ (n : ℕ). run_cause (record { before = c.args.before; after = n }) c.first_rise-runner.result c.in-Ok.copied c.in-Ok-resume.ended.how) c.faults-after.ensures ∙ ap (λ (Q : Plan). run_cause (site_rise (counts c.args.before (map g.R.Runner.count c.args.runners.now) 0) (counts (g.S.Site.count c.in-Ok-resume.ended.site) (map g.R.Runner.count c.resume.new.runners) 0)) c.first_rise-runner.result Q c.in-Ok-resume.ended.how) c.in-Ok.ensures.0 in
-    c.in-Ok-resume.ensures.opened (closed_starts c.in-Ok-resume.ended.how (closed_run (site_rise (counts c.args.before (map g.R.Runner.count c.args.runners.now) 0) (counts (g.S.Site.count c.in-Ok-resume.ended.site) (map g.R.Runner.count c.resume.new.runners) 0)) c.first_rise-runner.result c.args.ask.plan c.in-Ok-resume.ended.how (subst (λ (cause : Cause). is_run_end (kind_of cause) ≡ true) same ends)))
+    let same : c.run_cause.result ≡ run_cause (site_rise (counts c.args.before (map g.R.Runner.count c.args.runners.now) (g.H.Hall.count c.args.hall.now) (g.H.Hall.idle_count c.args.hall.now) 0) (counts (g.S.Site.count c.in-Ok-resume.ended.site) (map g.R.Runner.count c.resume.new.runners) (g.H.Hall.count c.resume.new.hall) (g.H.Hall.idle_count c.resume.new.hall) 0)) c.first_rise-runner.result (hall_rise (counts c.args.before (map g.R.Runner.count c.args.runners.now) (g.H.Hall.count c.args.hall.now) (g.H.Hall.idle_count c.args.hall.now) 0) (counts (g.S.Site.count c.in-Ok-resume.ended.site) (map g.R.Runner.count c.resume.new.runners) (g.H.Hall.count c.resume.new.hall) (g.H.Hall.idle_count c.resume.new.hall) 0)) c.args.ask.plan c.in-Ok-resume.ended.how =
+    c.run_cause.ensures ∙ told_cause c.args.before c.faults-after.result (g.S.Site.count c.in-Ok-resume.ended.site) c.faults-met.result (g.H.Hall.count c.args.hall.now) c.faults.result (g.H.Hall.count c.resume.new.hall) c.first_rise-runner.result c.in-Ok.copied c.args.ask.plan c.in-Ok-resume.ended.how c.faults-after.ensures c.faults-met.ensures c.faults.ensures c.in-Ok.ensures.0 in
+    c.in-Ok-resume.ensures.opened (closed_starts c.in-Ok-resume.ended.how (closed_run (site_rise (counts c.args.before (map g.R.Runner.count c.args.runners.now) (g.H.Hall.count c.args.hall.now) (g.H.Hall.idle_count c.args.hall.now) 0) (counts (g.S.Site.count c.in-Ok-resume.ended.site) (map g.R.Runner.count c.resume.new.runners) (g.H.Hall.count c.resume.new.hall) (g.H.Hall.idle_count c.resume.new.hall) 0)) c.first_rise-runner.result (hall_rise (counts c.args.before (map g.R.Runner.count c.args.runners.now) (g.H.Hall.count c.args.hall.now) (g.H.Hall.idle_count c.args.hall.now) 0) (counts (g.S.Site.count c.in-Ok-resume.ended.site) (map g.R.Runner.count c.resume.new.runners) (g.H.Hall.count c.resume.new.hall) (g.H.Hall.idle_count c.resume.new.hall) 0)) c.args.ask.plan c.in-Ok-resume.ended.how (subst (λ (cause : Cause). is_run_end (kind_of cause) ≡ true) same ends)))
 
 pub returns-in-Ok-resume-clause-collects : goal.returns-in-Ok-resume-clause-collects
 returns-in-Ok-resume-clause-collects g c ends =
-    let same : c.run_cause.result ≡ run_cause (site_rise (counts c.args.before (map g.R.Runner.count c.args.runners.now) 0) (counts (g.S.Site.count c.in-Ok-resume.ended.site) (map g.R.Runner.count c.resume.new.runners) 0)) c.first_rise-runner.result c.args.ask.plan c.in-Ok-resume.ended.how =
-    c.run_cause.ensures ∙ ap (λ (n : ℕ). run_cause (record { before = c.args.before; after = n }) c.first_rise-runner.result c.in-Ok.copied c.in-Ok-resume.ended.how) c.faults-after.ensures ∙ ap (λ (Q : Plan). run_cause (site_rise (counts c.args.before (map g.R.Runner.count c.args.runners.now) 0) (counts (g.S.Site.count c.in-Ok-resume.ended.site) (map g.R.Runner.count c.resume.new.runners) 0)) c.first_rise-runner.result Q c.in-Ok-resume.ended.how) c.in-Ok.ensures.0 in
-    c.in-Ok-resume.ensures.collects (closed_starts c.in-Ok-resume.ended.how (closed_run (site_rise (counts c.args.before (map g.R.Runner.count c.args.runners.now) 0) (counts (g.S.Site.count c.in-Ok-resume.ended.site) (map g.R.Runner.count c.resume.new.runners) 0)) c.first_rise-runner.result c.args.ask.plan c.in-Ok-resume.ended.how (subst (λ (cause : Cause). is_run_end (kind_of cause) ≡ true) same ends)))
+    let same : c.run_cause.result ≡ run_cause (site_rise (counts c.args.before (map g.R.Runner.count c.args.runners.now) (g.H.Hall.count c.args.hall.now) (g.H.Hall.idle_count c.args.hall.now) 0) (counts (g.S.Site.count c.in-Ok-resume.ended.site) (map g.R.Runner.count c.resume.new.runners) (g.H.Hall.count c.resume.new.hall) (g.H.Hall.idle_count c.resume.new.hall) 0)) c.first_rise-runner.result (hall_rise (counts c.args.before (map g.R.Runner.count c.args.runners.now) (g.H.Hall.count c.args.hall.now) (g.H.Hall.idle_count c.args.hall.now) 0) (counts (g.S.Site.count c.in-Ok-resume.ended.site) (map g.R.Runner.count c.resume.new.runners) (g.H.Hall.count c.resume.new.hall) (g.H.Hall.idle_count c.resume.new.hall) 0)) c.args.ask.plan c.in-Ok-resume.ended.how =
+    c.run_cause.ensures ∙ told_cause c.args.before c.faults-after.result (g.S.Site.count c.in-Ok-resume.ended.site) c.faults-met.result (g.H.Hall.count c.args.hall.now) c.faults.result (g.H.Hall.count c.resume.new.hall) c.first_rise-runner.result c.in-Ok.copied c.args.ask.plan c.in-Ok-resume.ended.how c.faults-after.ensures c.faults-met.ensures c.faults.ensures c.in-Ok.ensures.0 in
+    c.in-Ok-resume.ensures.collects (closed_starts c.in-Ok-resume.ended.how (closed_run (site_rise (counts c.args.before (map g.R.Runner.count c.args.runners.now) (g.H.Hall.count c.args.hall.now) (g.H.Hall.idle_count c.args.hall.now) 0) (counts (g.S.Site.count c.in-Ok-resume.ended.site) (map g.R.Runner.count c.resume.new.runners) (g.H.Hall.count c.resume.new.hall) (g.H.Hall.idle_count c.resume.new.hall) 0)) c.first_rise-runner.result (hall_rise (counts c.args.before (map g.R.Runner.count c.args.runners.now) (g.H.Hall.count c.args.hall.now) (g.H.Hall.idle_count c.args.hall.now) 0) (counts (g.S.Site.count c.in-Ok-resume.ended.site) (map g.R.Runner.count c.resume.new.runners) (g.H.Hall.count c.resume.new.hall) (g.H.Hall.idle_count c.resume.new.hall) 0)) c.args.ask.plan c.in-Ok-resume.ended.how (subst (λ (cause : Cause). is_run_end (kind_of cause) ≡ true) same ends)))
 
 pub returns-clause-failed : goal.returns-clause-failed
-returns-clause-failed g c t H spelled whole =
+returns-clause-failed g c alone t H spelled whole =
     unread_cuts c.files_spell_one_list.ensures.header c.files_spell_one_list.ensures.whole (record { before = c.args.before; after = c.faults-after-in-Err.result }) (g.S.Site.files c.args.site c.args.ask.log) H c.in-Err.refused.why spelled (c.in-Err.ensures.damaged t)
     (λ cut. whole (subst (λ (cause : Cause). is_cut (kind_of cause) ≡ true) (sym c.unread_cause.ensures) cut))
 

@@ -1,4 +1,4 @@
-use Rattle.std.proofs.Common.{◌≡◌, ◌+◌, ◌++◌, ◌∙◌, ℕ, List, map, sum_by, sym, ap, subst}
+use Rattle.std.proofs.Common.{◌≡◌, ◌+◌, ◌++◌, ◌∙◌, ℕ, List, map, sum_by, refl, sym, ap, subst}
 use Rattle.std.proofs.lemmas.List.{map-append}
 use Rattle.std.proofs.lemmas.List.Sums.{sum_by-append}
 use Rattle.worker_pool.specs.Crews.{AllSure, AllTell}
@@ -17,23 +17,23 @@ returns-clause-serves g c =
     let site = g.S.Site.count c.run_by_all.result.site in
     let whole : map count c.args.runners.now ≡ map count front ++ map count back = ap (map count) c.split_at_mut-working.ensures.value ∙ map-append count front back in
     let now : map count (new ++ back) ≡ map count new ++ map count back = map-append count new back in
-    subst (λ (xs : List ℕ). Serves g.S.Site.tells g.S.Site.files g.S.Site.may_leave g.S.Site.moment g.S.Site.images_since g.B.Born.born g.F.Commands.gives g.F.Commands.may_fail (AllTell g.R.Runner.tells c.args.runners.now) (AllSure g.R.Runner.sure c.args.runners.now) (counts c.args.before xs 0) (counts site (map count (new ++ back)) 0) c.args.ask c.args.site c.run_by_all.result.site c.run_by_all.result.records c.run_by_all.result.cause) (sym whole)
-    (subst (λ (xs : List ℕ). Serves g.S.Site.tells g.S.Site.files g.S.Site.may_leave g.S.Site.moment g.S.Site.images_since g.B.Born.born g.F.Commands.gives g.F.Commands.may_fail (AllTell g.R.Runner.tells c.args.runners.now) (AllSure g.R.Runner.sure c.args.runners.now) (counts c.args.before (map count front ++ map count back) 0) (counts site xs 0) c.args.ask c.args.site c.run_by_all.result.site c.run_by_all.result.records c.run_by_all.result.cause) (sym now)
+    subst (λ (xs : List ℕ). Serves g.S.Site.tells g.S.Site.files g.S.Site.may_leave g.S.Site.moment g.S.Site.images_since g.B.Born.born g.F.Commands.gives g.F.Commands.may_fail (AllTell g.R.Runner.tells c.args.runners.now) (AllSure g.R.Runner.sure c.args.runners.now) (counts c.args.before xs (g.H.Hall.count c.args.hall.now) (g.H.Hall.idle_count c.args.hall.now) 0) (counts site (map count (new ++ back)) (g.H.Hall.count c.run_by_all.new.hall) (g.H.Hall.idle_count c.run_by_all.new.hall) 0) c.args.ask c.args.site c.run_by_all.result.site c.run_by_all.result.records c.run_by_all.result.cause) (sym whole)
+    (subst (λ (xs : List ℕ). Serves g.S.Site.tells g.S.Site.files g.S.Site.may_leave g.S.Site.moment g.S.Site.images_since g.B.Born.born g.F.Commands.gives g.F.Commands.may_fail (AllTell g.R.Runner.tells c.args.runners.now) (AllSure g.R.Runner.sure c.args.runners.now) (counts c.args.before (map count front ++ map count back) (g.H.Hall.count c.args.hall.now) (g.H.Hall.idle_count c.args.hall.now) 0) (counts site xs (g.H.Hall.count c.run_by_all.new.hall) (g.H.Hall.idle_count c.run_by_all.new.hall) 0) c.args.ask c.args.site c.run_by_all.result.site c.run_by_all.result.records c.run_by_all.result.cause) (sym now)
     (widened g.S.Site.tells g.S.Site.files g.S.Site.may_leave g.S.Site.moment g.S.Site.images_since g.B.Born.born g.F.Commands.gives g.F.Commands.may_fail
     (AllTell g.R.Runner.tells front) (AllTell g.R.Runner.tells c.args.runners.now) (AllSure g.R.Runner.sure front) (AllSure g.R.Runner.sure c.args.runners.now)
-    (counts c.args.before (map count front) 0) (counts site (map count new) 0) (counts c.args.before (map count front ++ map count back) 0) (counts site (map count new ++ map count back) 0)
+    (counts c.args.before (map count front) (g.H.Hall.count c.args.hall.now) (g.H.Hall.idle_count c.args.hall.now) 0) (counts site (map count new) (g.H.Hall.count c.run_by_all.new.hall) (g.H.Hall.idle_count c.run_by_all.new.hall) 0) (counts c.args.before (map count front ++ map count back) (g.H.Hall.count c.args.hall.now) (g.H.Hall.idle_count c.args.hall.now) 0) (counts site (map count new ++ map count back) (g.H.Hall.count c.run_by_all.new.hall) (g.H.Hall.idle_count c.run_by_all.new.hall) 0)
     c.args.ask c.args.site c.run_by_all.result.site c.run_by_all.result.records c.run_by_all.result.cause
     (λ job all. crew_left (λ r. g.R.Runner.tells r job) c.args.runners.now front back c.split_at_mut-working.ensures.value all)
     (λ all. crew_left g.R.Runner.sure c.args.runners.now front back c.split_at_mut-working.ensures.value all)
-    (wider_fault c.args.before site 0 0 (map count front) (map count new) (map count back) (map count back) c.run_by_all.result.cause)
-    (none_first c.args.before site (map count front) (map count new) (map count back))
+    (wider_fault c.args.before site (g.H.Hall.count c.args.hall.now) (g.H.Hall.count c.run_by_all.new.hall) (g.H.Hall.idle_count c.args.hall.now) (g.H.Hall.idle_count c.run_by_all.new.hall) 0 0 (map count front) (map count new) (map count back) (map count back) c.run_by_all.result.cause)
+    (none_first c.args.before site (g.H.Hall.count c.args.hall.now) (g.H.Hall.count c.run_by_all.new.hall) (g.H.Hall.idle_count c.args.hall.now) (g.H.Hall.idle_count c.run_by_all.new.hall) (map count front) (map count new) (map count back)) refl
     c.run_by_all.ensures.serves))
 
 pub returns-clause-failed : goal.returns-clause-failed
-returns-clause-failed g c told H spelled whole =
+returns-clause-failed g c alone told H spelled whole =
     let failures = g.R.Runner.failures in
     let front = c.split_at_mut-working.result.0.now in
     let back = c.split_at_mut-working.result.1.now in
     let new = c.run_by_all.new.runners in
     let was : sum_by failures c.args.runners.now ≡ sum_by failures front + sum_by failures back = ap (λ l. sum_by failures l) c.split_at_mut-working.ensures.value ∙ sum_by-append failures front back in
-    logged_of_all H c.run_by_all.result.records (sum_by failures front) (sum_by failures new) (sum_by failures back) (sum_by failures c.args.runners.now) (sum_by failures (new ++ back)) was (sum_by-append failures new back) (c.run_by_all.ensures.failed told H spelled whole)
+    logged_of_all H c.run_by_all.result.records (sum_by failures front) (sum_by failures new) (sum_by failures back) (sum_by failures c.args.runners.now) (sum_by failures (new ++ back)) was (sum_by-append failures new back) (c.run_by_all.ensures.failed alone told H spelled whole)

@@ -1,4 +1,4 @@
-use Rattle.std.proofs.Common.{◌≡◌, ◌∙◌, ℕ, List, drop, map, [], Err, Result, ap, sym, subst, arith, true, true≢false}
+use Rattle.std.proofs.Common.{◌≡◌, ◌∙◌, ◌-◌, ℕ, List, drop, map, [], Err, Result, ap, sym, subst, arith, true, true≢false}
 use Rattle.outside.specs.Files.{Files}
 use Rattle.flow_types.specs.declared.plan.Plan.{Plan}
 use Rattle.flow_types.specs.declared.records.Record.{Record}
@@ -12,7 +12,11 @@ use Rattle.report.specs.declared.cause.Cause.{Cause}
 use Rattle.report.specs.Causes.{is_cut, kind_of}
 use Rattle.master_run.specs.declared.ask.Ask.{Ask}
 use Rattle.master_run.specs.declared.asking.Refusal.{Refusal}
-use Rattle.master_run.specs.Asked.{choice, request, run_mode}
+use Rattle.wq_run.specs.declared.workers.Workers.{Workers}
+use Rattle.flow_run.proofs.Stops.{back_same}
+use Rattle.master_run.specs.Asked.{choice, request, run_mode, run_options}
+use Rattle.master_run.specs.Headline.{IfWaited, WaitsInVain}
+use Rattle.master_run.proofs.Waits.{local_ask, none_waits}
 use Rattle.master_run.specs.Ends.{CallEnds, FaultEnd, WordsEnd, counts}
 use Rattle.master_run.specs.Serves.{Serves}
 use Rattle.master_run.proofs.Reading.{serves_from}
@@ -21,13 +25,13 @@ use Rattle.master_run.proofs.top.follow.Goals as goal
 
 pub returns-in-Ok-clause-ends : goal.returns-in-Ok-clause-ends
 returns-in-Ok-clause-ends g c told =
-    subst (λ (e : Result Ask Cause). CallEnds e (g.S.Site.files c.args.site) (g.S.Site.files c.serve.result.site) c.serve.result.records c.serve.result.cause) (sym (c.in-Ok.ensures.stage told)) ((serves_from g.S.Site.tells g.S.Site.files g.S.Site.may_leave g.S.Site.moment g.S.Site.images_since g.B.Born.born g.F.Commands.gives g.F.Commands.may_fail (AllTell g.R.Runner.tells c.args.runners.now) (AllSure g.R.Runner.sure c.args.runners.now) (counts (g.S.Site.count c.args.site) (map g.R.Runner.count c.args.runners.now) 0) (counts (g.S.Site.count c.serve.result.site) (map g.R.Runner.count c.serve.new.runners) 0) c.in-Ok.ask c.args.site c.read_ask.new.site c.serve.result.site c.serve.result.records c.serve.result.cause c.requires.later (λ t. record { same = c.in-Ok.ensures.files t; within = c.in-Ok.ensures.crash t; only = c.in-Ok.ensures.any_moment t })
-    (subst (λ (n : ℕ). Serves g.S.Site.tells g.S.Site.files g.S.Site.may_leave g.S.Site.moment g.S.Site.images_since g.B.Born.born g.F.Commands.gives g.F.Commands.may_fail (AllTell g.R.Runner.tells c.args.runners.now) (AllSure g.R.Runner.sure c.args.runners.now) (counts n (map g.R.Runner.count c.args.runners.now) 0) (counts (g.S.Site.count c.serve.result.site) (map g.R.Runner.count c.serve.new.runners) 0) c.in-Ok.ask c.read_ask.new.site c.serve.result.site c.serve.result.records c.serve.result.cause) c.faults-before.ensures c.serve.ensures.serves)).ends told)
+    subst (λ (e : Result Ask Cause). CallEnds e (g.H.Hall.idle_count c.serve.new.hall - g.H.Hall.idle_count c.args.hall.now) (g.S.Site.files c.args.site) (g.S.Site.files c.serve.result.site) c.serve.result.records c.serve.result.cause) (sym (c.in-Ok.ensures.stage told)) ((serves_from g.S.Site.tells g.S.Site.files g.S.Site.may_leave g.S.Site.moment g.S.Site.images_since g.B.Born.born g.F.Commands.gives g.F.Commands.may_fail (AllTell g.R.Runner.tells c.args.runners.now) (AllSure g.R.Runner.sure c.args.runners.now) (counts (g.S.Site.count c.args.site) (map g.R.Runner.count c.args.runners.now) (g.H.Hall.count c.args.hall.now) (g.H.Hall.idle_count c.args.hall.now) 0) (counts (g.S.Site.count c.serve.result.site) (map g.R.Runner.count c.serve.new.runners) (g.H.Hall.count c.serve.new.hall) (g.H.Hall.idle_count c.serve.new.hall) 0) c.in-Ok.ask c.args.site c.read_ask.new.site c.serve.result.site c.serve.result.records c.serve.result.cause c.requires.later (λ t. record { same = c.in-Ok.ensures.files t; within = c.in-Ok.ensures.crash t; only = c.in-Ok.ensures.any_moment t })
+    (subst (λ (n : ℕ). Serves g.S.Site.tells g.S.Site.files g.S.Site.may_leave g.S.Site.moment g.S.Site.images_since g.B.Born.born g.F.Commands.gives g.F.Commands.may_fail (AllTell g.R.Runner.tells c.args.runners.now) (AllSure g.R.Runner.sure c.args.runners.now) (counts n (map g.R.Runner.count c.args.runners.now) (g.H.Hall.count c.args.hall.now) (g.H.Hall.idle_count c.args.hall.now) 0) (counts (g.S.Site.count c.serve.result.site) (map g.R.Runner.count c.serve.new.runners) (g.H.Hall.count c.serve.new.hall) (g.H.Hall.idle_count c.serve.new.hall) 0) c.in-Ok.ask c.read_ask.new.site c.serve.result.site c.serve.result.records c.serve.result.cause) c.faults-before.ensures c.serve.ensures.serves)).ends told)
 
 pub returns-in-Ok-clause-serves : goal.returns-in-Ok-clause-serves
 returns-in-Ok-clause-serves g c told ask asked =
-    subst (λ (a : Ask). Serves g.S.Site.tells g.S.Site.files g.S.Site.may_leave g.S.Site.moment g.S.Site.images_since g.B.Born.born g.F.Commands.gives g.F.Commands.may_fail (AllTell g.R.Runner.tells c.args.runners.now) (AllSure g.R.Runner.sure c.args.runners.now) (counts (g.S.Site.count c.args.site) (map g.R.Runner.count c.args.runners.now) 0) (counts (g.S.Site.count c.serve.result.site) (map g.R.Runner.count c.serve.new.runners) 0) a c.args.site c.serve.result.site c.serve.result.records c.serve.result.cause) (same_ask c.in-Ok.ask ask (sym (c.in-Ok.ensures.stage told) ∙ asked)) (serves_from g.S.Site.tells g.S.Site.files g.S.Site.may_leave g.S.Site.moment g.S.Site.images_since g.B.Born.born g.F.Commands.gives g.F.Commands.may_fail (AllTell g.R.Runner.tells c.args.runners.now) (AllSure g.R.Runner.sure c.args.runners.now) (counts (g.S.Site.count c.args.site) (map g.R.Runner.count c.args.runners.now) 0) (counts (g.S.Site.count c.serve.result.site) (map g.R.Runner.count c.serve.new.runners) 0) c.in-Ok.ask c.args.site c.read_ask.new.site c.serve.result.site c.serve.result.records c.serve.result.cause c.requires.later (λ t. record { same = c.in-Ok.ensures.files t; within = c.in-Ok.ensures.crash t; only = c.in-Ok.ensures.any_moment t })
-    (subst (λ (n : ℕ). Serves g.S.Site.tells g.S.Site.files g.S.Site.may_leave g.S.Site.moment g.S.Site.images_since g.B.Born.born g.F.Commands.gives g.F.Commands.may_fail (AllTell g.R.Runner.tells c.args.runners.now) (AllSure g.R.Runner.sure c.args.runners.now) (counts n (map g.R.Runner.count c.args.runners.now) 0) (counts (g.S.Site.count c.serve.result.site) (map g.R.Runner.count c.serve.new.runners) 0) c.in-Ok.ask c.read_ask.new.site c.serve.result.site c.serve.result.records c.serve.result.cause) c.faults-before.ensures c.serve.ensures.serves))
+    subst (λ (a : Ask). Serves g.S.Site.tells g.S.Site.files g.S.Site.may_leave g.S.Site.moment g.S.Site.images_since g.B.Born.born g.F.Commands.gives g.F.Commands.may_fail (AllTell g.R.Runner.tells c.args.runners.now) (AllSure g.R.Runner.sure c.args.runners.now) (counts (g.S.Site.count c.args.site) (map g.R.Runner.count c.args.runners.now) (g.H.Hall.count c.args.hall.now) (g.H.Hall.idle_count c.args.hall.now) 0) (counts (g.S.Site.count c.serve.result.site) (map g.R.Runner.count c.serve.new.runners) (g.H.Hall.count c.serve.new.hall) (g.H.Hall.idle_count c.serve.new.hall) 0) a c.args.site c.serve.result.site c.serve.result.records c.serve.result.cause) (same_ask c.in-Ok.ask ask (sym (c.in-Ok.ensures.stage told) ∙ asked)) (serves_from g.S.Site.tells g.S.Site.files g.S.Site.may_leave g.S.Site.moment g.S.Site.images_since g.B.Born.born g.F.Commands.gives g.F.Commands.may_fail (AllTell g.R.Runner.tells c.args.runners.now) (AllSure g.R.Runner.sure c.args.runners.now) (counts (g.S.Site.count c.args.site) (map g.R.Runner.count c.args.runners.now) (g.H.Hall.count c.args.hall.now) (g.H.Hall.idle_count c.args.hall.now) 0) (counts (g.S.Site.count c.serve.result.site) (map g.R.Runner.count c.serve.new.runners) (g.H.Hall.count c.serve.new.hall) (g.H.Hall.idle_count c.serve.new.hall) 0) c.in-Ok.ask c.args.site c.read_ask.new.site c.serve.result.site c.serve.result.records c.serve.result.cause c.requires.later (λ t. record { same = c.in-Ok.ensures.files t; within = c.in-Ok.ensures.crash t; only = c.in-Ok.ensures.any_moment t })
+    (subst (λ (n : ℕ). Serves g.S.Site.tells g.S.Site.files g.S.Site.may_leave g.S.Site.moment g.S.Site.images_since g.B.Born.born g.F.Commands.gives g.F.Commands.may_fail (AllTell g.R.Runner.tells c.args.runners.now) (AllSure g.R.Runner.sure c.args.runners.now) (counts n (map g.R.Runner.count c.args.runners.now) (g.H.Hall.count c.args.hall.now) (g.H.Hall.idle_count c.args.hall.now) 0) (counts (g.S.Site.count c.serve.result.site) (map g.R.Runner.count c.serve.new.runners) (g.H.Hall.count c.serve.new.hall) (g.H.Hall.idle_count c.serve.new.hall) 0) c.in-Ok.ask c.read_ask.new.site c.serve.result.site c.serve.result.records c.serve.result.cause) c.faults-before.ensures c.serve.ensures.serves))
 
 pub returns-in-Ok-clause-words : goal.returns-in-Ok-clause-words
 returns-in-Ok-clause-words g c =
@@ -35,8 +39,8 @@ returns-in-Ok-clause-words g c =
 
 pub returns-in-Ok-clause-faults : goal.returns-in-Ok-clause-faults
 returns-in-Ok-clause-faults g c =
-    (serves_from g.S.Site.tells g.S.Site.files g.S.Site.may_leave g.S.Site.moment g.S.Site.images_since g.B.Born.born g.F.Commands.gives g.F.Commands.may_fail (AllTell g.R.Runner.tells c.args.runners.now) (AllSure g.R.Runner.sure c.args.runners.now) (counts (g.S.Site.count c.args.site) (map g.R.Runner.count c.args.runners.now) 0) (counts (g.S.Site.count c.serve.result.site) (map g.R.Runner.count c.serve.new.runners) 0) c.in-Ok.ask c.args.site c.read_ask.new.site c.serve.result.site c.serve.result.records c.serve.result.cause c.requires.later (λ t. record { same = c.in-Ok.ensures.files t; within = c.in-Ok.ensures.crash t; only = c.in-Ok.ensures.any_moment t })
-    (subst (λ (n : ℕ). Serves g.S.Site.tells g.S.Site.files g.S.Site.may_leave g.S.Site.moment g.S.Site.images_since g.B.Born.born g.F.Commands.gives g.F.Commands.may_fail (AllTell g.R.Runner.tells c.args.runners.now) (AllSure g.R.Runner.sure c.args.runners.now) (counts n (map g.R.Runner.count c.args.runners.now) 0) (counts (g.S.Site.count c.serve.result.site) (map g.R.Runner.count c.serve.new.runners) 0) c.in-Ok.ask c.read_ask.new.site c.serve.result.site c.serve.result.records c.serve.result.cause) c.faults-before.ensures c.serve.ensures.serves)).faults
+    (serves_from g.S.Site.tells g.S.Site.files g.S.Site.may_leave g.S.Site.moment g.S.Site.images_since g.B.Born.born g.F.Commands.gives g.F.Commands.may_fail (AllTell g.R.Runner.tells c.args.runners.now) (AllSure g.R.Runner.sure c.args.runners.now) (counts (g.S.Site.count c.args.site) (map g.R.Runner.count c.args.runners.now) (g.H.Hall.count c.args.hall.now) (g.H.Hall.idle_count c.args.hall.now) 0) (counts (g.S.Site.count c.serve.result.site) (map g.R.Runner.count c.serve.new.runners) (g.H.Hall.count c.serve.new.hall) (g.H.Hall.idle_count c.serve.new.hall) 0) c.in-Ok.ask c.args.site c.read_ask.new.site c.serve.result.site c.serve.result.records c.serve.result.cause c.requires.later (λ t. record { same = c.in-Ok.ensures.files t; within = c.in-Ok.ensures.crash t; only = c.in-Ok.ensures.any_moment t })
+    (subst (λ (n : ℕ). Serves g.S.Site.tells g.S.Site.files g.S.Site.may_leave g.S.Site.moment g.S.Site.images_since g.B.Born.born g.F.Commands.gives g.F.Commands.may_fail (AllTell g.R.Runner.tells c.args.runners.now) (AllSure g.R.Runner.sure c.args.runners.now) (counts n (map g.R.Runner.count c.args.runners.now) (g.H.Hall.count c.args.hall.now) (g.H.Hall.idle_count c.args.hall.now) 0) (counts (g.S.Site.count c.serve.result.site) (map g.R.Runner.count c.serve.new.runners) (g.H.Hall.count c.serve.new.hall) (g.H.Hall.idle_count c.serve.new.hall) 0) c.in-Ok.ask c.read_ask.new.site c.serve.result.site c.serve.result.records c.serve.result.cause) c.faults-before.ensures c.serve.ensures.serves)).faults
 
 pub returns-in-Ok-clause-legal : goal.returns-in-Ok-clause-legal
 returns-in-Ok-clause-legal g c read =
@@ -48,29 +52,59 @@ returns-in-Ok-clause-planned g c told read =
 
 pub returns-in-Ok-clause-untouched : goal.returns-in-Ok-clause-untouched
 returns-in-Ok-clause-untouched g c told refused =
-    (serves_from g.S.Site.tells g.S.Site.files g.S.Site.may_leave g.S.Site.moment g.S.Site.images_since g.B.Born.born g.F.Commands.gives g.F.Commands.may_fail (AllTell g.R.Runner.tells c.args.runners.now) (AllSure g.R.Runner.sure c.args.runners.now) (counts (g.S.Site.count c.args.site) (map g.R.Runner.count c.args.runners.now) 0) (counts (g.S.Site.count c.serve.result.site) (map g.R.Runner.count c.serve.new.runners) 0) c.in-Ok.ask c.args.site c.read_ask.new.site c.serve.result.site c.serve.result.records c.serve.result.cause c.requires.later (λ t. record { same = c.in-Ok.ensures.files t; within = c.in-Ok.ensures.crash t; only = c.in-Ok.ensures.any_moment t })
-    (subst (λ (n : ℕ). Serves g.S.Site.tells g.S.Site.files g.S.Site.may_leave g.S.Site.moment g.S.Site.images_since g.B.Born.born g.F.Commands.gives g.F.Commands.may_fail (AllTell g.R.Runner.tells c.args.runners.now) (AllSure g.R.Runner.sure c.args.runners.now) (counts n (map g.R.Runner.count c.args.runners.now) 0) (counts (g.S.Site.count c.serve.result.site) (map g.R.Runner.count c.serve.new.runners) 0) c.in-Ok.ask c.read_ask.new.site c.serve.result.site c.serve.result.records c.serve.result.cause) c.faults-before.ensures c.serve.ensures.serves)).untouched told refused
+    (serves_from g.S.Site.tells g.S.Site.files g.S.Site.may_leave g.S.Site.moment g.S.Site.images_since g.B.Born.born g.F.Commands.gives g.F.Commands.may_fail (AllTell g.R.Runner.tells c.args.runners.now) (AllSure g.R.Runner.sure c.args.runners.now) (counts (g.S.Site.count c.args.site) (map g.R.Runner.count c.args.runners.now) (g.H.Hall.count c.args.hall.now) (g.H.Hall.idle_count c.args.hall.now) 0) (counts (g.S.Site.count c.serve.result.site) (map g.R.Runner.count c.serve.new.runners) (g.H.Hall.count c.serve.new.hall) (g.H.Hall.idle_count c.serve.new.hall) 0) c.in-Ok.ask c.args.site c.read_ask.new.site c.serve.result.site c.serve.result.records c.serve.result.cause c.requires.later (λ t. record { same = c.in-Ok.ensures.files t; within = c.in-Ok.ensures.crash t; only = c.in-Ok.ensures.any_moment t })
+    (subst (λ (n : ℕ). Serves g.S.Site.tells g.S.Site.files g.S.Site.may_leave g.S.Site.moment g.S.Site.images_since g.B.Born.born g.F.Commands.gives g.F.Commands.may_fail (AllTell g.R.Runner.tells c.args.runners.now) (AllSure g.R.Runner.sure c.args.runners.now) (counts n (map g.R.Runner.count c.args.runners.now) (g.H.Hall.count c.args.hall.now) (g.H.Hall.idle_count c.args.hall.now) 0) (counts (g.S.Site.count c.serve.result.site) (map g.R.Runner.count c.serve.new.runners) (g.H.Hall.count c.serve.new.hall) (g.H.Hall.idle_count c.serve.new.hall) 0) c.in-Ok.ask c.read_ask.new.site c.serve.result.site c.serve.result.records c.serve.result.cause) c.faults-before.ensures c.serve.ensures.serves)).untouched told refused
 
 pub returns-in-Ok-clause-closed : goal.returns-in-Ok-clause-closed
 returns-in-Ok-clause-closed g c ends =
     c.serve.ensures.serves.closed ends
 
 pub returns-in-Ok-clause-sure : goal.returns-in-Ok-clause-sure
-returns-in-Ok-clause-sure g c is =
-    c.serve.ensures.serves.sure_end is
+returns-in-Ok-clause-sure g c local is =
+    c.serve.ensures.serves.sure_end (local_ask (choice c.args.words.now) c.in-Ok.ask c.in-Ok.ensures.words c.in-Ok.ensures.goes_by local) is
+
+pub returns-in-Ok-clause-never : goal.returns-in-Ok-clause-never
+returns-in-Ok-clause-never g c is =
+    c.serve.ensures.serves.never is
+
+pub returns-in-Ok-clause-failures : goal.returns-in-Ok-clause-failures
+returns-in-Ok-clause-failures g c local =
+    c.serve.ensures.failures (local_ask (choice c.args.words.now) c.in-Ok.ask c.in-Ok.ensures.words c.in-Ok.ensures.goes_by local)
+
+pub returns-in-Ok-clause-alone : goal.returns-in-Ok-clause-alone
+returns-in-Ok-clause-alone g c local =
+    c.serve.ensures.alone (local_ask (choice c.args.words.now) c.in-Ok.ask c.in-Ok.ensures.words c.in-Ok.ensures.goes_by local)
+
+pub returns-in-Ok-clause-waited : goal.returns-in-Ok-clause-waited
+returns-in-Ok-clause-waited g c options chosen =
+    let rise = g.H.Hall.idle_count c.serve.new.hall - g.H.Hall.idle_count c.args.hall.now in
+    subst (λ (P : Plan). IfWaited c.serve.result.cause (WaitsInVain P (run_options options) options.limits.idle rise c.serve.result.records)) (sym c.serve.ensures.plan)
+    (subst (λ (O : RunOptions). IfWaited c.serve.result.cause (WaitsInVain c.in-Ok.ask.plan O options.limits.idle rise c.serve.result.records)) (c.in-Ok.ensures.goes_by options chosen)
+    (subst (λ (w : Workers). IfWaited c.serve.result.cause (WaitsInVain c.in-Ok.ask.plan c.in-Ok.ask.options w.limit rise c.serve.result.records)) (c.in-Ok.ensures.meets options chosen) c.serve.ensures.waited))
+
+pub returns-in-Err-clause-never : goal.returns-in-Err-clause-never
+returns-in-Err-clause-never g c is =
+    rw c.refusal_cause.ensures ((refused_kind (record { before = c.faults-before.result; after = c.faults-after.result }) c.in-Err.refusal c.in-Err.ensures.kind).runs)
+
+pub returns-in-Err-clause-back : goal.returns-in-Err-clause-back
+returns-in-Err-clause-back g c whole = back_same (g.H.Hall.got c.args.hall.now) (g.H.Hall.given c.args.hall.now)
+
+pub returns-in-Err-clause-waited : goal.returns-in-Err-clause-waited
+returns-in-Err-clause-waited g c options chosen =
+    none_waits (WaitsInVain c.no_plan.result (run_options options) options.limits.idle (g.H.Hall.idle_count c.args.hall.now - g.H.Hall.idle_count c.args.hall.now) c.new.result) c.refusal_cause.result (rw c.refusal_cause.ensures ((refused_kind (record { before = c.faults-before.result; after = c.faults-after.result }) c.in-Err.refusal c.in-Err.ensures.kind).waits))
 
 pub returns-in-Err-clause-ends : goal.returns-in-Err-clause-ends
 returns-in-Err-clause-ends g c told =
-    subst (λ (xs : List Record). CallEnds (request c.args.words.now c.args.env.now (g.S.Site.files c.args.site)) (g.S.Site.files c.args.site) (g.S.Site.files c.read_ask.new.site) xs c.refusal_cause.result) (sym c.new.ensures)
-    (subst (λ (cause : Cause). CallEnds (request c.args.words.now c.args.env.now (g.S.Site.files c.args.site)) (g.S.Site.files c.args.site) (g.S.Site.files c.read_ask.new.site) [] cause) (sym c.refusal_cause.ensures) (refused_ends (request c.args.words.now c.args.env.now (g.S.Site.files c.args.site)) (g.S.Site.files c.args.site) (g.S.Site.files c.read_ask.new.site) (record { before = c.faults-before.result; after = c.faults-after.result }) c.in-Err.refusal (c.in-Err.ensures.stage told) (c.in-Err.ensures.files told)))
+    subst (λ (xs : List Record). CallEnds (request c.args.words.now c.args.env.now (g.S.Site.files c.args.site)) (g.H.Hall.idle_count c.args.hall.now - g.H.Hall.idle_count c.args.hall.now) (g.S.Site.files c.args.site) (g.S.Site.files c.read_ask.new.site) xs c.refusal_cause.result) (sym c.new.ensures)
+    (subst (λ (cause : Cause). CallEnds (request c.args.words.now c.args.env.now (g.S.Site.files c.args.site)) (g.H.Hall.idle_count c.args.hall.now - g.H.Hall.idle_count c.args.hall.now) (g.S.Site.files c.args.site) (g.S.Site.files c.read_ask.new.site) [] cause) (sym c.refusal_cause.ensures) (refused_ends (request c.args.words.now c.args.env.now (g.S.Site.files c.args.site)) (g.H.Hall.idle_count c.args.hall.now - g.H.Hall.idle_count c.args.hall.now) (g.S.Site.files c.args.site) (g.S.Site.files c.read_ask.new.site) (record { before = c.faults-before.result; after = c.faults-after.result }) c.in-Err.refusal (c.in-Err.ensures.stage told) (c.in-Err.ensures.files told)))
 
 pub returns-in-Err-clause-serves : goal.returns-in-Err-clause-serves
 returns-in-Err-clause-serves g c told ask asked =
-    subst (λ (xs : List Record). Serves g.S.Site.tells g.S.Site.files g.S.Site.may_leave g.S.Site.moment g.S.Site.images_since g.B.Born.born g.F.Commands.gives g.F.Commands.may_fail (AllTell g.R.Runner.tells c.args.runners.now) (AllSure g.R.Runner.sure c.args.runners.now) (counts (g.S.Site.count c.args.site) (map g.R.Runner.count c.args.runners.now) 0) (counts (g.S.Site.count c.read_ask.new.site) (map g.R.Runner.count c.args.runners.now) 0) ask c.args.site c.read_ask.new.site xs c.refusal_cause.result) (sym c.new.ensures)
-    (subst (λ (n : ℕ). Serves g.S.Site.tells g.S.Site.files g.S.Site.may_leave g.S.Site.moment g.S.Site.images_since g.B.Born.born g.F.Commands.gives g.F.Commands.may_fail (AllTell g.R.Runner.tells c.args.runners.now) (AllSure g.R.Runner.sure c.args.runners.now) (counts n (map g.R.Runner.count c.args.runners.now) 0) (counts (g.S.Site.count c.read_ask.new.site) (map g.R.Runner.count c.args.runners.now) 0) ask c.args.site c.read_ask.new.site [] c.refusal_cause.result) c.faults-before.ensures
-    (subst (λ (n : ℕ). Serves g.S.Site.tells g.S.Site.files g.S.Site.may_leave g.S.Site.moment g.S.Site.images_since g.B.Born.born g.F.Commands.gives g.F.Commands.may_fail (AllTell g.R.Runner.tells c.args.runners.now) (AllSure g.R.Runner.sure c.args.runners.now) (counts c.faults-before.result (map g.R.Runner.count c.args.runners.now) 0) (counts n (map g.R.Runner.count c.args.runners.now) 0) ask c.args.site c.read_ask.new.site [] c.refusal_cause.result) c.faults-after.ensures
-    (subst (λ (cause : Cause). Serves g.S.Site.tells g.S.Site.files g.S.Site.may_leave g.S.Site.moment g.S.Site.images_since g.B.Born.born g.F.Commands.gives g.F.Commands.may_fail (AllTell g.R.Runner.tells c.args.runners.now) (AllSure g.R.Runner.sure c.args.runners.now) (counts c.faults-before.result (map g.R.Runner.count c.args.runners.now) 0) (counts c.faults-after.result (map g.R.Runner.count c.args.runners.now) 0) ask c.args.site c.read_ask.new.site [] cause) (sym c.refusal_cause.ensures)
-    (refused_serves g.S.Site.tells g.S.Site.files g.S.Site.may_leave g.S.Site.moment g.S.Site.images_since g.B.Born.born g.F.Commands.gives g.F.Commands.may_fail (AllTell g.R.Runner.tells c.args.runners.now) (AllSure g.R.Runner.sure c.args.runners.now) (counts c.faults-before.result (map g.R.Runner.count c.args.runners.now) 0) (counts c.faults-after.result (map g.R.Runner.count c.args.runners.now) 0) ask c.args.site c.read_ask.new.site c.requires.later (λ t. record { same = c.in-Err.ensures.files t; within = c.in-Err.ensures.crash t; only = c.in-Err.ensures.any_moment t }) c.in-Err.refusal (request c.args.words.now c.args.env.now (g.S.Site.files c.args.site)) (c.in-Err.ensures.stage told) asked (λ is. omega (arith, c.faults-before.ensures, c.faults-after.ensures, c.in-Err.ensures.trace.rose (ap (λ (r : Refusal). let answer : Result Ask Refusal = Err r in answer) is)))))))
+    subst (λ (xs : List Record). Serves g.S.Site.tells g.S.Site.files g.S.Site.may_leave g.S.Site.moment g.S.Site.images_since g.B.Born.born g.F.Commands.gives g.F.Commands.may_fail (AllTell g.R.Runner.tells c.args.runners.now) (AllSure g.R.Runner.sure c.args.runners.now) (counts (g.S.Site.count c.args.site) (map g.R.Runner.count c.args.runners.now) (g.H.Hall.count c.args.hall.now) (g.H.Hall.idle_count c.args.hall.now) 0) (counts (g.S.Site.count c.read_ask.new.site) (map g.R.Runner.count c.args.runners.now) (g.H.Hall.count c.args.hall.now) (g.H.Hall.idle_count c.args.hall.now) 0) ask c.args.site c.read_ask.new.site xs c.refusal_cause.result) (sym c.new.ensures)
+    (subst (λ (n : ℕ). Serves g.S.Site.tells g.S.Site.files g.S.Site.may_leave g.S.Site.moment g.S.Site.images_since g.B.Born.born g.F.Commands.gives g.F.Commands.may_fail (AllTell g.R.Runner.tells c.args.runners.now) (AllSure g.R.Runner.sure c.args.runners.now) (counts n (map g.R.Runner.count c.args.runners.now) (g.H.Hall.count c.args.hall.now) (g.H.Hall.idle_count c.args.hall.now) 0) (counts (g.S.Site.count c.read_ask.new.site) (map g.R.Runner.count c.args.runners.now) (g.H.Hall.count c.args.hall.now) (g.H.Hall.idle_count c.args.hall.now) 0) ask c.args.site c.read_ask.new.site [] c.refusal_cause.result) c.faults-before.ensures
+    (subst (λ (n : ℕ). Serves g.S.Site.tells g.S.Site.files g.S.Site.may_leave g.S.Site.moment g.S.Site.images_since g.B.Born.born g.F.Commands.gives g.F.Commands.may_fail (AllTell g.R.Runner.tells c.args.runners.now) (AllSure g.R.Runner.sure c.args.runners.now) (counts c.faults-before.result (map g.R.Runner.count c.args.runners.now) (g.H.Hall.count c.args.hall.now) (g.H.Hall.idle_count c.args.hall.now) 0) (counts n (map g.R.Runner.count c.args.runners.now) (g.H.Hall.count c.args.hall.now) (g.H.Hall.idle_count c.args.hall.now) 0) ask c.args.site c.read_ask.new.site [] c.refusal_cause.result) c.faults-after.ensures
+    (subst (λ (cause : Cause). Serves g.S.Site.tells g.S.Site.files g.S.Site.may_leave g.S.Site.moment g.S.Site.images_since g.B.Born.born g.F.Commands.gives g.F.Commands.may_fail (AllTell g.R.Runner.tells c.args.runners.now) (AllSure g.R.Runner.sure c.args.runners.now) (counts c.faults-before.result (map g.R.Runner.count c.args.runners.now) (g.H.Hall.count c.args.hall.now) (g.H.Hall.idle_count c.args.hall.now) 0) (counts c.faults-after.result (map g.R.Runner.count c.args.runners.now) (g.H.Hall.count c.args.hall.now) (g.H.Hall.idle_count c.args.hall.now) 0) ask c.args.site c.read_ask.new.site [] cause) (sym c.refusal_cause.ensures)
+    (refused_serves g.S.Site.tells g.S.Site.files g.S.Site.may_leave g.S.Site.moment g.S.Site.images_since g.B.Born.born g.F.Commands.gives g.F.Commands.may_fail (AllTell g.R.Runner.tells c.args.runners.now) (AllSure g.R.Runner.sure c.args.runners.now) (counts c.faults-before.result (map g.R.Runner.count c.args.runners.now) (g.H.Hall.count c.args.hall.now) (g.H.Hall.idle_count c.args.hall.now) 0) (counts c.faults-after.result (map g.R.Runner.count c.args.runners.now) (g.H.Hall.count c.args.hall.now) (g.H.Hall.idle_count c.args.hall.now) 0) ask c.args.site c.read_ask.new.site c.requires.later (λ t. record { same = c.in-Err.ensures.files t; within = c.in-Err.ensures.crash t; only = c.in-Err.ensures.any_moment t }) c.in-Err.refusal (request c.args.words.now c.args.env.now (g.S.Site.files c.args.site)) (c.in-Err.ensures.stage told) asked (λ is. omega (arith, c.faults-before.ensures, c.faults-after.ensures, c.in-Err.ensures.trace.rose (ap (λ (r : Refusal). let answer : Result Ask Refusal = Err r in answer) is)))))))
 
 pub returns-in-Err-clause-words : goal.returns-in-Err-clause-words
 returns-in-Err-clause-words g c =
@@ -78,9 +112,9 @@ returns-in-Err-clause-words g c =
 
 pub returns-in-Err-clause-faults : goal.returns-in-Err-clause-faults
 returns-in-Err-clause-faults g c =
-    subst (λ (n : ℕ). FaultEnd (counts n (map g.R.Runner.count c.args.runners.now) 0) (counts (g.S.Site.count c.read_ask.new.site) (map g.R.Runner.count c.args.runners.now) 0) c.refusal_cause.result) c.faults-before.ensures
-    (subst (λ (n : ℕ). FaultEnd (counts c.faults-before.result (map g.R.Runner.count c.args.runners.now) 0) (counts n (map g.R.Runner.count c.args.runners.now) 0) c.refusal_cause.result) c.faults-after.ensures
-    (subst (λ (cause : Cause). FaultEnd (counts c.faults-before.result (map g.R.Runner.count c.args.runners.now) 0) (counts c.faults-after.result (map g.R.Runner.count c.args.runners.now) 0) cause) (sym c.refusal_cause.ensures) (refused_fault (counts c.faults-before.result (map g.R.Runner.count c.args.runners.now) 0) (counts c.faults-after.result (map g.R.Runner.count c.args.runners.now) 0) c.in-Err.refusal c.in-Err.ensures.kind (λ is. omega (arith, c.faults-before.ensures, c.faults-after.ensures, c.in-Err.ensures.trace.rose (ap (λ (r : Refusal). let answer : Result Ask Refusal = Err r in answer) is))))))
+    subst (λ (n : ℕ). FaultEnd (counts n (map g.R.Runner.count c.args.runners.now) (g.H.Hall.count c.args.hall.now) (g.H.Hall.idle_count c.args.hall.now) 0) (counts (g.S.Site.count c.read_ask.new.site) (map g.R.Runner.count c.args.runners.now) (g.H.Hall.count c.args.hall.now) (g.H.Hall.idle_count c.args.hall.now) 0) c.refusal_cause.result) c.faults-before.ensures
+    (subst (λ (n : ℕ). FaultEnd (counts c.faults-before.result (map g.R.Runner.count c.args.runners.now) (g.H.Hall.count c.args.hall.now) (g.H.Hall.idle_count c.args.hall.now) 0) (counts n (map g.R.Runner.count c.args.runners.now) (g.H.Hall.count c.args.hall.now) (g.H.Hall.idle_count c.args.hall.now) 0) c.refusal_cause.result) c.faults-after.ensures
+    (subst (λ (cause : Cause). FaultEnd (counts c.faults-before.result (map g.R.Runner.count c.args.runners.now) (g.H.Hall.count c.args.hall.now) (g.H.Hall.idle_count c.args.hall.now) 0) (counts c.faults-after.result (map g.R.Runner.count c.args.runners.now) (g.H.Hall.count c.args.hall.now) (g.H.Hall.idle_count c.args.hall.now) 0) cause) (sym c.refusal_cause.ensures) (refused_fault (counts c.faults-before.result (map g.R.Runner.count c.args.runners.now) (g.H.Hall.count c.args.hall.now) (g.H.Hall.idle_count c.args.hall.now) 0) (counts c.faults-after.result (map g.R.Runner.count c.args.runners.now) (g.H.Hall.count c.args.hall.now) (g.H.Hall.idle_count c.args.hall.now) 0) c.in-Err.refusal c.in-Err.ensures.kind (λ is. omega (arith, c.faults-before.ensures, c.faults-after.ensures, c.in-Err.ensures.trace.rose (ap (λ (r : Refusal). let answer : Result Ask Refusal = Err r in answer) is))))))
 
 pub returns-in-Err-clause-legal : goal.returns-in-Err-clause-legal
 returns-in-Err-clause-legal g c read =
@@ -103,18 +137,18 @@ returns-in-Err-clause-closed g c read =
     absurd (true≢false (sym (rw c.refusal_cause.ensures at read) ∙ (refused_kind (record { before = c.faults-before.result; after = c.faults-after.result }) c.in-Err.refusal c.in-Err.ensures.kind).no_end))
 
 pub returns-in-Err-clause-sure : goal.returns-in-Err-clause-sure
-returns-in-Err-clause-sure g c is =
+returns-in-Err-clause-sure g c local is =
     rw c.refusal_cause.ensures ((refused_kind (record { before = c.faults-before.result; after = c.faults-after.result }) c.in-Err.refusal c.in-Err.ensures.kind).sure)
 
 pub returns-in-Err-clause-failures : goal.returns-in-Err-clause-failures
-returns-in-Err-clause-failures g c =
+returns-in-Err-clause-failures g c local =
     record { later = omega arith; rose = λ failed. absurd ((refused_kind (record { before = c.faults-before.result; after = c.faults-after.result }) c.in-Err.refusal c.in-Err.ensures.kind).failed (rw c.refusal_cause.ensures at failed)) }
 
 pub returns-in-Ok-clause-failed : goal.returns-in-Ok-clause-failed
-returns-in-Ok-clause-failed g c told ask asked H spelled whole =
+returns-in-Ok-clause-failed g c told ask asked alone H spelled whole =
     let same : c.in-Ok.ask ≡ ask = same_ask c.in-Ok.ask ask (sym (c.in-Ok.ensures.stage told) ∙ asked) in
     let at_ask : Spells H (g.S.Site.files c.args.site c.in-Ok.ask.log) = subst (λ (a : Ask). Spells H (g.S.Site.files c.args.site a.log)) (sym same) spelled in
-    c.serve.ensures.failed told H (subst (λ (fs : Files). Spells H (fs c.in-Ok.ask.log)) (sym (c.in-Ok.ensures.files told)) at_ask) whole
+    c.serve.ensures.failed (ap (λ (a : Ask). a.options.wq) same ∙ alone) told H (subst (λ (fs : Files). Spells H (fs c.in-Ok.ask.log)) (sym (c.in-Ok.ensures.files told)) at_ask) whole
 
 pub returns-in-Ok-clause-opened : goal.returns-in-Ok-clause-opened
 returns-in-Ok-clause-opened g c options chosen ends =
@@ -126,7 +160,7 @@ returns-in-Ok-clause-collects g c options chosen ends =
     (subst (λ (O : RunOptions). RunCollects c.in-Ok.ask.plan O.mode c.serve.result.records) (c.in-Ok.ensures.goes_by options chosen) (c.serve.ensures.collects ends))
 
 pub returns-in-Err-clause-failed : goal.returns-in-Err-clause-failed
-returns-in-Err-clause-failed g c told ask asked H spelled whole =
+returns-in-Err-clause-failed g c told ask asked alone H spelled whole =
     refused_cuts (request c.args.words.now c.args.env.now (g.S.Site.files c.args.site)) ask (record { before = c.faults-before.result; after = c.faults-after.result }) c.in-Err.refusal (c.in-Err.ensures.stage told) asked
     (λ cut. whole (subst (λ (cause : Cause). is_cut (kind_of cause) ≡ true) (sym c.refusal_cause.ensures) cut))
 

@@ -1,24 +1,27 @@
-use Rattle.std.proofs.Common.{◌∙◌, ◌+◌, ℕ, [], map, sum_by, refl, arith, ap, sym, true≢false}
+use Rattle.std.proofs.Common.{◌∙◌, ◌+◌, ◌-◌, ℕ, [], map, sum_by, refl, arith, ap, sym, true≢false}
 use Rattle.flow_types.specs.declared.job.Job.{Job}
 use Rattle.worker_pool.specs.Crews.{AllSure, AllTell}
 use Rattle.master_run.specs.Ends.{counts}
-use Rattle.master_run.proofs.Widened.{wider_fault, widened}
+use Rattle.flow_run.proofs.Stops.{back_same}
+use Rattle.master_run.specs.Headline.{WaitsInVain}
+use Rattle.master_run.proofs.Waits.{still_waits}
+use Rattle.master_run.proofs.Widened.{none_rises, unmet_fault, widened}
 use Rattle.master_run.proofs.top.serve.Goals as goal
 
 pub returns-in-Clean-clause-failures : goal.returns-in-Clean-clause-failures
-returns-in-Clean-clause-failures g c = record { later = omega arith; rose = λ failed. absurd (c.clean_flow.ensures.fails_not failed) }
+returns-in-Clean-clause-failures g c alone = record { later = omega arith; rose = λ failed. absurd (c.clean_flow.ensures.fails_not failed) }
 
 pub returns-in-PrintLog-clause-failures : goal.returns-in-PrintLog-clause-failures
-returns-in-PrintLog-clause-failures g c = record { later = omega arith; rose = λ failed. absurd (c.read_log.ensures.fails_not failed) }
+returns-in-PrintLog-clause-failures g c alone = record { later = omega arith; rose = λ failed. absurd (c.read_log.ensures.fails_not failed) }
 
 pub returns-in-Clean-clause-failed : goal.returns-in-Clean-clause-failed
-returns-in-Clean-clause-failed g c t H spelled whole = ap (λ (n : ℕ). n + sum_by g.R.Runner.failures c.args.runners.now) (c.clean_flow.ensures.fails_none t H spelled whole)
+returns-in-Clean-clause-failed g c alone t H spelled whole = ap (λ (n : ℕ). n + sum_by g.R.Runner.failures c.args.runners.now) (c.clean_flow.ensures.fails_none t H spelled whole)
 
 pub returns-in-Clean-clause-opened : goal.returns-in-Clean-clause-opened
 returns-in-Clean-clause-opened g c ends = absurd (true≢false (sym ends ∙ c.clean_flow.ensures.runs_not))
 
 pub returns-in-PrintLog-clause-failed : goal.returns-in-PrintLog-clause-failed
-returns-in-PrintLog-clause-failed g c t H spelled whole = ap (λ (n : ℕ). n + sum_by g.R.Runner.failures c.args.runners.now) (c.read_log.ensures.fails_none t H spelled whole)
+returns-in-PrintLog-clause-failed g c alone t H spelled whole = ap (λ (n : ℕ). n + sum_by g.R.Runner.failures c.args.runners.now) (c.read_log.ensures.fails_none t H spelled whole)
 
 pub returns-in-PrintLog-clause-opened : goal.returns-in-PrintLog-clause-opened
 returns-in-PrintLog-clause-opened g c ends = absurd (true≢false (sym ends ∙ c.read_log.ensures.runs_not))
@@ -33,16 +36,30 @@ pub returns-in-Clean-clause-serves : goal.returns-in-Clean-clause-serves
 returns-in-Clean-clause-serves g c =
     widened g.S.Site.tells g.S.Site.files g.S.Site.may_leave g.S.Site.moment g.S.Site.images_since g.B.Born.born g.F.Commands.gives g.F.Commands.may_fail
     (λ (job : Job). Unit {0}) (AllTell g.R.Runner.tells c.args.runners.now) (Unit {0}) (AllSure g.R.Runner.sure c.args.runners.now)
-    (counts c.args.before [] 0) (counts (g.S.Site.count c.clean_flow.result.site) [] 0) (counts c.args.before (map g.R.Runner.count c.args.runners.now) 0) (counts (g.S.Site.count c.clean_flow.result.site) (map g.R.Runner.count c.args.runners.now) 0)
+    (counts c.args.before [] 0 0 0) (counts (g.S.Site.count c.clean_flow.result.site) [] 0 0 0) (counts c.args.before (map g.R.Runner.count c.args.runners.now) (g.H.Hall.count c.args.hall.now) (g.H.Hall.idle_count c.args.hall.now) 0) (counts (g.S.Site.count c.clean_flow.result.site) (map g.R.Runner.count c.args.runners.now) (g.H.Hall.count c.args.hall.now) (g.H.Hall.idle_count c.args.hall.now) 0)
     c.args.ask c.args.site c.clean_flow.result.site c.clean_flow.result.records c.clean_flow.result.cause
-    (λ job told. tt) (λ sure. tt) (wider_fault c.args.before (g.S.Site.count c.clean_flow.result.site) 0 0 [] [] (map g.R.Runner.count c.args.runners.now) (map g.R.Runner.count c.args.runners.now) c.clean_flow.result.cause) (λ none. record { site = none.site; runners = refl; sink = refl })
+    (λ job told. tt) (λ sure. tt) (unmet_fault c.args.before (g.S.Site.count c.clean_flow.result.site) (g.H.Hall.count c.args.hall.now) (g.H.Hall.idle_count c.args.hall.now) (map g.R.Runner.count c.args.runners.now) c.clean_flow.result.cause) (λ none. record { site = none.site; runners = refl; sink = refl }) (none_rises (g.H.Hall.idle_count c.args.hall.now))
     c.clean_flow.ensures.serves
 
 pub returns-in-PrintLog-clause-serves : goal.returns-in-PrintLog-clause-serves
 returns-in-PrintLog-clause-serves g c =
     widened g.S.Site.tells g.S.Site.files g.S.Site.may_leave g.S.Site.moment g.S.Site.images_since g.B.Born.born g.F.Commands.gives g.F.Commands.may_fail
     (λ (job : Job). Unit {0}) (AllTell g.R.Runner.tells c.args.runners.now) (Unit {0}) (AllSure g.R.Runner.sure c.args.runners.now)
-    (counts c.args.before [] 0) (counts (g.S.Site.count c.read_log.result.site) [] 0) (counts c.args.before (map g.R.Runner.count c.args.runners.now) 0) (counts (g.S.Site.count c.read_log.result.site) (map g.R.Runner.count c.args.runners.now) 0)
+    (counts c.args.before [] 0 0 0) (counts (g.S.Site.count c.read_log.result.site) [] 0 0 0) (counts c.args.before (map g.R.Runner.count c.args.runners.now) (g.H.Hall.count c.args.hall.now) (g.H.Hall.idle_count c.args.hall.now) 0) (counts (g.S.Site.count c.read_log.result.site) (map g.R.Runner.count c.args.runners.now) (g.H.Hall.count c.args.hall.now) (g.H.Hall.idle_count c.args.hall.now) 0)
     c.args.ask c.args.site c.read_log.result.site c.read_log.result.records c.read_log.result.cause
-    (λ job told. tt) (λ sure. tt) (wider_fault c.args.before (g.S.Site.count c.read_log.result.site) 0 0 [] [] (map g.R.Runner.count c.args.runners.now) (map g.R.Runner.count c.args.runners.now) c.read_log.result.cause) (λ none. record { site = none.site; runners = refl; sink = refl })
+    (λ job told. tt) (λ sure. tt) (unmet_fault c.args.before (g.S.Site.count c.read_log.result.site) (g.H.Hall.count c.args.hall.now) (g.H.Hall.idle_count c.args.hall.now) (map g.R.Runner.count c.args.runners.now) c.read_log.result.cause) (λ none. record { site = none.site; runners = refl; sink = refl }) (none_rises (g.H.Hall.idle_count c.args.hall.now))
     c.read_log.ensures.serves
+
+pub returns-in-Clean-clause-back : goal.returns-in-Clean-clause-back
+returns-in-Clean-clause-back g c whole = back_same (g.H.Hall.got c.args.hall.now) (g.H.Hall.given c.args.hall.now)
+
+pub returns-in-Clean-clause-waited : goal.returns-in-Clean-clause-waited
+returns-in-Clean-clause-waited g c =
+    still_waits (WaitsInVain c.args.ask.plan c.args.ask.options c.args.ask.workers.limit (g.H.Hall.idle_count c.args.hall.now - g.H.Hall.idle_count c.args.hall.now) c.clean_flow.result.records) c.clean_flow.result.cause c.clean_flow.ensures.runs_not
+
+pub returns-in-PrintLog-clause-back : goal.returns-in-PrintLog-clause-back
+returns-in-PrintLog-clause-back g c whole = back_same (g.H.Hall.got c.args.hall.now) (g.H.Hall.given c.args.hall.now)
+
+pub returns-in-PrintLog-clause-waited : goal.returns-in-PrintLog-clause-waited
+returns-in-PrintLog-clause-waited g c =
+    still_waits (WaitsInVain c.args.ask.plan c.args.ask.options c.args.ask.workers.limit (g.H.Hall.idle_count c.args.hall.now - g.H.Hall.idle_count c.args.hall.now) c.read_log.result.records) c.read_log.result.cause c.read_log.ensures.runs_not
