@@ -1,9 +1,10 @@
-//! `makeflow FILE`: runs the rules of a flow file in the current folder.
+//! `makeflow FILE`: runs the rules of a flow file, in the current folder or at workers.
 #![tactic(auto)]
 
 ghost use Rattle.std.specs.Prelude.{◌≡◌, IfOk, length};
 
 use master_run::makeflow_top;
+use real_links::TcpHall;
 use real_outside::{FolderSite, Owner, ShellRunner, StdoutSink, System, SystemClock};
 use std::alloc::AllocError;
 use std::env::VarError;
@@ -73,13 +74,15 @@ fn main(rt: HostRuntime) -> ExitCode {
     let Ok(mut runners) = runners_of(&rt, &owner) else {
         return ExitCode::from(OUT_OF_MEMORY);
     };
+    let mut hall = TcpHall::new(&rt, rt.alloc());
     let mut out = StdoutSink::new(&rt);
-    let ended = makeflow_top::<System, _, _, _, _, _, _>(
+    let ended = makeflow_top::<System, _, _, _, _, _, _, _>(
         &rt,
         rt.alloc(),
         words.as_slice(),
         variables.as_slice(),
         site,
+        &mut hall,
         runners.as_mut_slice(),
         &OpenGate,
         &SystemClock::new(&rt),

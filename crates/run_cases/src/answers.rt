@@ -20,7 +20,9 @@ fn shown_kind(kind: Kind) -> &'static str {
         Kind::LogFilled => "log full",
         Kind::SiteBroke => "site fault",
         Kind::RunnerBroke => "runner fault",
+        Kind::HallBroke => "hall fault",
         Kind::SinkBroke => "sink fault",
+        Kind::WaitedOut => "waited",
         Kind::NoMemory => "no memory",
     }
 }
@@ -43,7 +45,12 @@ fn shown_cause(alloc: Global, cause: &Cause) -> Result<String, AllocError> {
         }
         Cause::SiteFault { before, after }
         | Cause::RunnerFault { before, after }
+        | Cause::HallFault { before, after }
         | Cause::SinkFault { before, after } => format!(in alloc; "{kind} {before} {after}"),
+        Cause::Waited(wait) => {
+            let (idles, rule) = (wait.idles, wait.rule.0);
+            format!(in alloc; "{kind} {idles} {rule}")
+        }
         _ => String::from_str(alloc, kind),
     }
 }

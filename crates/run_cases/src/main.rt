@@ -1,19 +1,23 @@
 //! Whole calls of `makeflow_top` in memory.
 //!
-//! A case is a script over a site, a runner or several, and a sink, which begin empty. Its lines are those of
-//! `scene.rt` and `jobs.rt`, and `run WORD..`, which makes a call with these words. The lines below
-//! it go on with the files that it left, so a case may have several runs.
+//! A case is a script over a site, a runner or several, who comes, and a sink, which begin empty.
+//! Its lines are those of `scene.rt`, `jobs.rt` and `comers.rt`, and `run WORD..`, which makes a call
+//! with these words. The lines below it go on with the files that it left, so a case may have
+//! several runs.
 //!
 //! A run is answered by the status, the cause and all that was printed; then by the number of
-//! records and how often the site, the runners and the sink failed in all; then by each file that
-//! the case names, as the run left it. A crash is answered by these files alone. Calls over each
-//! crash or fault are answered by a line for each whose outcome isn't that of the one before it:
-//! the number of the crash or fault, the status, the cause, the number of records, and the files
-//! that stand otherwise than they were shown last.
+//! records and how often the site, the runners and the sink failed in all; then by the links that it
+//! handed back, by `backs.rt`; then by each file that the case names, as the run left it. A crash is
+//! answered by these files alone. Calls over each crash or fault are answered by a line for each
+//! whose outcome isn't that of the one before it: the number of the crash or fault, the status, the
+//! cause, the number of records, and the files that stand otherwise than they were shown last.
 #![tactic(auto)]
 
 mod answers;
+mod backs;
+mod comers;
 mod files;
+mod hex_words;
 mod jobs;
 mod scene;
 mod steps;

@@ -8,6 +8,8 @@
 //! is to fail; they are numbered from 0, and go on over the runs of a case. CONTENT is spelled with
 //! the escapes of a `=~` case.
 //!
+//! `hall ..` and `link ..` say who comes to the next run, by `comers.rt`.
+//!
 //! `crash CALL CHOICE` puts in the site's place what a crash behind that call of it leaves, or one
 //! now where there was none: at choice 0 each file as it was when it was last synced, at 1 all that
 //! was written. The calls of that site are numbered from 0 again, and none of them is to fail.
@@ -18,11 +20,14 @@
 mod trials;
 
 use crate::answers::{shown_counts, shown_end};
+use crate::backs::shown_links;
+use crate::comers::Comers;
 use crate::files::Files;
 use crate::jobs::put_job;
 use crate::words::{first, number_of, spelled, words_of};
 use flow_types::{Memory, Name};
 use master_run::{Ended, makeflow_top};
+use mem_links::MemHall;
 use mem_outside::{Blank, FixedClock, MemSink, MemSite, TableRunner};
 use std::alloc::{AllocError, Global};
 use std::mem;
@@ -30,8 +35,8 @@ use std::sync::Wait;
 use std::thread::Threads;
 use worker_pool::OpenGate;
 
-/// A site, runners, a clock, a sink and an environment, and the files that are shown after each
-/// run.
+/// A site, runners, a clock, a sink, an environment and who comes, and the files that are shown
+/// after each run.
 #[derive(Drop)]
 pub struct Scene {
     site: MemSite,
@@ -39,6 +44,7 @@ pub struct Scene {
     clock: FixedClock,
     sink: MemSink,
     env: Vec<(String, String)>,
+    comers: Comers,
     files: Files,
 }
 
@@ -51,6 +57,7 @@ impl Scene {
             clock: FixedClock(7),
             sink: MemSink::new(alloc),
             env: Vec::new(alloc),
+            comers: Comers::new(alloc),
             files: Files::new(alloc),
         })
     }
@@ -98,6 +105,8 @@ impl Scene {
             "runners" => self.set_runners(alloc, line),
             "job" => self.put_job(alloc, line),
             "clock" => Ok(self.set_clock(line)),
+            "hall" => self.comers.note_hall(alloc, line),
+            "link" => self.comers.note_link(alloc, line),
             _ => self.fail(kind, line),
         }
     }
@@ -188,6 +197,47 @@ impl Scene {
         }
     }
 
+    // Makes a call with these words over the site, which it takes. There has to be a runner.
+    fn call<W: Threads + Wait + Sync>(
+        &mut self,
+        rt: &W,
+        alloc: Global,
+        words: &[String],
+        hall: &mut MemHall,
+    ) -> Option<Ended<MemSite>> {
+        let site = mem::replace(&mut self.site, MemSite::new(alloc));
+        call(
+            rt,
+            alloc,
+            words,
+            &self.env,
+            site,
+            hall,
+            &mut self.runners,
+            &self.clock,
+            &mut self.sink,
+        )
+    }
+
+    // What is told of a call before which so many bytes had been printed.
+    fn told(
+        &mut self,
+        alloc: Global,
+        ended: &Ended<MemSite>,
+        hall: &MemHall,
+        before: usize,
+    ) -> Result<String, AllocError> {
+        let printed = self.sink.bytes().get(before..).unwrap_or(&[]);
+        let mut text = shown_end(alloc, ended, printed)?;
+        let counts = shown_counts(alloc, ended, &self.runners, &self.sink)?;
+        text.push_str(&counts)?;
+        let links = shown_links(alloc, hall)?;
+        text.push_str(&links)?;
+        let files = self.files.shown(alloc, &ended.site)?;
+        text.push_str(&files)?;
+        Ok(text)
+    }
+
     // Makes a call with these words, and goes on with the files that it left.
     fn run<W: Threads + Wait + Sync>(
         &mut self,
@@ -196,26 +246,12 @@ impl Scene {
         line: &str,
     ) -> Result<String, AllocError> {
         let words = words_of(alloc, line)?;
-        let site = mem::replace(&mut self.site, MemSite::new(alloc));
         let before = self.sink.bytes().len();
-        let Some(ended) = call(
-            rt,
-            alloc,
-            &words,
-            &self.env,
-            site,
-            &mut self.runners,
-            &self.clock,
-            &mut self.sink,
-        ) else {
+        let mut hall = self.comers.hall(alloc)?;
+        let Some(ended) = self.call(rt, alloc, &words, &mut hall) else {
             return String::from_str(alloc, NO_RUNNER);
         };
-        let printed = self.sink.bytes().get(before..).unwrap_or(&[]);
-        let mut text = shown_end(alloc, &ended, printed)?;
-        let counts = shown_counts(alloc, &ended, &self.runners, &self.sink)?;
-        text.push_str(&counts)?;
-        let files = self.files.shown(alloc, &ended.site)?;
-        text.push_str(&files)?;
+        let text = self.told(alloc, &ended, &hall, before)?;
         self.site = ended.site;
         Ok(text)
     }
@@ -257,6 +293,7 @@ fn call<W: Threads + Wait + Sync>(
     words: &[String],
     env: &[(String, String)],
     site: MemSite,
+    hall: &mut MemHall,
     runners: &mut [TableRunner<Blank>],
     clock: &FixedClock,
     sink: &mut MemSink,
@@ -264,5 +301,7 @@ fn call<W: Threads + Wait + Sync>(
     if runners.is_empty() {
         return None;
     }
-    Some(makeflow_top(rt, alloc, words, env, site, runners, &OpenGate, clock, sink))
+    Some(makeflow_top(
+        rt, alloc, words, env, site, hall, runners, &OpenGate, clock, sink,
+    ))
 }

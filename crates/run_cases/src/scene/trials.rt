@@ -3,6 +3,8 @@ use super::{NO_RUNNER, Scene, call};
 use crate::answers::shown_outcome;
 use crate::steps::Steps;
 use crate::words::{first, number_of, words_of};
+use flow_types::Rows;
+use mem_links::MemHall;
 use mem_outside::{MemSink, MemSite};
 use std::alloc::{AllocError, Global};
 use std::sync::Wait;
@@ -12,7 +14,7 @@ use std::thread::Threads;
 const NEVER: u64 = u64::MAX;
 
 impl Scene {
-    // Makes a call over what each crash leaves.
+    // Makes a call over what each crash leaves. Nobody comes to it.
     pub(super) fn each_crash<W: Threads + Wait + Sync>(
         &mut self,
         rt: &W,
@@ -67,12 +69,14 @@ impl Scene {
         site: MemSite,
     ) -> Result<String, AllocError> {
         let mut sink = MemSink::new(alloc);
+        let mut hall = MemHall::new(alloc, Rows::new(alloc));
         let Some(ended) = call(
             rt,
             alloc,
             words,
             &self.env,
             site,
+            &mut hall,
             &mut self.runners,
             &self.clock,
             &mut sink,
