@@ -273,9 +273,9 @@ class Store:
         return [name for name in self.names if name in self.present and name not in self.kept and self.takers[name] <= self.complete]
 
 
-def illegal(records, rules, bounds=None, kept=()):
+def illegal(records, rules, bounds=None, kept=(), away=()):
     """The first record that may not stand where it does, as text, or nothing. Rules, bounds and kept files are those of a
-    Store."""
+    Store. The rules of the numbers in `away` run at workers, whose links have numbers from 1, and the others here, at 0."""
     runs = attempts = 0
     part, states, store, open_attempt, ended = [], States(len(rules)), Store(rules, bounds, kept), {}, False
 
@@ -286,7 +286,7 @@ def illegal(records, rules, bounds=None, kept=()):
             return False
         if it.kind == "started":
             may = not ended and not states.counts[3] and states.state[it.rule] == 0
-            return may and store.is_ready(it.rule) and store.fits(it.rule) and it.attempt == attempts and it.link == 0
+            return may and store.is_ready(it.rule) and store.fits(it.rule) and it.attempt == attempts and (it.link > 0) == (it.rule in away)
         if it.kind in OF_RULES:
             runs_so = open_attempt.get(it.rule) == it.attempt
             return runs_so and (it.kind != "done" or store.within(it.rule, [size for size, _ in it.outs]))
@@ -350,7 +350,7 @@ def wrong_end(data, status):
         records = read(data)
     except Damaged as it:
         return [str(it)]
-    wanted = {0: ("complete", "cleaned"), 1: ("failed",), 6: ("inputs too large", "no room")}.get(status)
+    wanted = {0: ("complete", "cleaned"), 1: ("failed",), 6: ("inputs too large", "no room"), 7: ("waited",)}.get(status)
     last = kinds(records)[-1:]
     if wanted and (not last or last[0] not in [f"ended {it}" for it in wanted]):
         return [f"its log ends with {last}"]

@@ -19,7 +19,6 @@ SECONDS = 60
 
 COMPLETE = "makeflow: complete, 1 rules, 0 files collected\n"
 USAGE = "makeflow: usage: makeflow [options] FILE\n"
-UNBUILT = "makeflow: line 0: not built yet\n"
 FOLDER_FAULT = "makeflow: folder fault\n"
 NO_FLOW = "makeflow: no flow file flow\n"
 
@@ -149,7 +148,7 @@ class Place:
         found = [it for it in seen(self.work) if it.endswith(logs.SUFFIX)]
         if status in (2, 3):
             return [f"{it} was made" for it in found]
-        if status in (0, 1, 6) and len(found) != 1:
+        if status in (0, 1, 6, 7) and len(found) != 1:
             return [f"its logs are {found}"]
         return [wrong for it in found for wrong in logs.wrong_end(content_of(f"{self.work}/{it}"), status)]
 

@@ -30,7 +30,7 @@ class Course:
         self.name, self.made, self.log, self.found = name, made, log, []
         self.place = Place({"flow": "", **files}, **how)
         self.plan = [(command.replace("ROOM", self.place.room), inputs, outs) for command, inputs, outs in rules]
-        self.rules, self.bounds = [(inputs, outs) for _, inputs, outs in rules], bounds or {}
+        self.rules, self.bounds, self.away = [(inputs, outs) for _, inputs, outs in rules], bounds or {}, ()
         if rules:
             self.put("flow", text_of(self.plan, self.bounds))
 
@@ -92,7 +92,7 @@ class Course:
             self.note(step, [f"the log had {logs.kinds(old)} and has {logs.kinds(new)}"])
         elif adds is not None and grown != adds:
             self.note(step, [f"it logged {grown}, not {adds}"])
-        bad = logs.illegal(new, self.rules, self.bounds)
+        bad = logs.illegal(new, self.rules, self.bounds, away=self.away)
         self.note(step, [bad] if bad else [])
         self.print_log(f"the log printed after {step}", words)
 

@@ -106,7 +106,37 @@ def worker_place():
     return place
 
 
-class Talk:
+class Wire:
+    """One end of a link, over the socket `link`; `data` has what came and wasn't taken yet."""
+
+    def tell(self, *frames):
+        self.link.sendall(b"".join(frames))
+
+    def fill(self, size):
+        """Whether so many bytes are there; they aren't where the other end has closed the link."""
+        while len(self.data) < size:
+            try:
+                piece = self.link.recv(MEBI)
+            except ConnectionResetError:
+                piece = b""
+            if not piece:
+                return False
+            self.data += piece
+        return True
+
+    def hear(self, read=lambda body: Body(body).message()):
+        """The next message, or None where the other end has closed the link."""
+        if not self.fill(4):
+            return ("a part of a length", bytes(self.data)) if self.data else None
+        size = 4 + struct.unpack(">I", self.data[:4])[0]
+        if not self.fill(size):
+            return ("a part of a frame", len(self.data), size)
+        body = bytes(self.data[4:size])
+        del self.data[:size]
+        return read(body)
+
+
+class Talk(Wire):
     """A worker and its master: `with Talk(..) as it:`. The worker has said the hello that is due when the body begins.
     All that is wrong is said together at the end. ROOM in a command is the folder around the place."""
 
@@ -156,35 +186,9 @@ class Talk:
     def note(self, step, wrong):
         self.found += [f"{step}: {it}" for it in wrong]
 
-    def tell(self, *frames):
-        self.link.sendall(b"".join(frames))
-
     def asks(self, attempt, command, *parts, **more):
         """A task whose command may name ROOM."""
         self.tell(task(attempt, command.replace("ROOM", self.place.room), *parts, **more))
-
-    def fill(self, size):
-        """Whether so many bytes are there; they aren't where the worker has closed the link."""
-        while len(self.data) < size:
-            try:
-                piece = self.link.recv(MEBI)
-            except ConnectionResetError:
-                piece = b""
-            if not piece:
-                return False
-            self.data += piece
-        return True
-
-    def hear(self):
-        """The next message, or None where the worker has closed the link."""
-        if not self.fill(4):
-            return ("a part of a length", bytes(self.data)) if self.data else None
-        size = 4 + struct.unpack(">I", self.data[:4])[0]
-        if not self.fill(size):
-            return ("a part of a frame", len(self.data), size)
-        body = bytes(self.data[4:size])
-        del self.data[:size]
-        return Body(body).message()
 
     def hears(self, step, *wanted):
         """These messages come next, in any order."""
