@@ -1,5 +1,5 @@
 //! The keys that a peer was sent.
-ghost use Rattle.std.specs.Prelude.{◌≡◌, ◌∷◌, ◌++◌, List, IfOk, OnOk, OnErr};
+ghost use Rattle.std.specs.Prelude.{◌≡◌, [], ◌∷◌, ◌++◌, List, IfOk, OnOk, OnErr};
 ghost use Rattle.flow_types.specs.declared.plan.Port.{Port as Input};
 ghost use Rattle.link_session.specs.Keys.{contains_key, key_of, lacking, learned, forgotten, all_forgotten, Begins};
 
@@ -71,5 +71,27 @@ pub(crate) fn forget_all(known: &mut IndexSet<Key>, run: u64, files: &[FileNo])
 {
     for file in files {
         let _ = forget(known, run, *file);
+    }
+}
+
+/// An equal set of keys.
+pub(crate) fn copy_of(alloc: Global, known: &IndexSet<Key>) -> Result<IndexSet<Key>, Memory>
+    ensures { IfOk result (λ copy. copy.keys ≡ known.now.keys) }
+{
+    let mut copy = IndexSet::new(alloc);
+    for key in known.as_slice() {
+        add_key(&mut copy, *key)?;
+    }
+    Ok(copy)
+}
+
+// Adds a key that isn't there.
+fn add_key(known: &mut IndexSet<Key>, key: Key) -> Result<(), Memory>
+    ensures { OnOk result (known.new.keys ≡ known.old.keys ++ key ∷ []) }
+{
+    match known.insert(key) {
+        Ok(true) => Ok(()),
+        Ok(false) => Err(Memory),
+        Err(_) => Err(Memory),
     }
 }

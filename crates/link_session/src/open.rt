@@ -30,6 +30,43 @@ impl Open {
             misses: 0,
         })
     }
+
+    fn copy(&self, alloc: Global) -> Result<Open, Memory>
+        ensures { IfOk result (λ copy. copy ≡ self.now) }
+    {
+        let files = copy_numbers(alloc, self.files.as_slice())?;
+        let bounds = copy_numbers(alloc, self.bounds.as_slice())?;
+        Ok(Open {
+            attempt: self.attempt,
+            run: self.run,
+            files,
+            bounds,
+            misses: self.misses,
+        })
+    }
+}
+
+fn copy_numbers<T: Copy + Drop>(alloc: Global, numbers: &[T]) -> Result<Rows<T>, Memory>
+    ensures { IfOk result (λ copy. copy ≡ numbers.now) }
+{
+    match Vec::from_slice(alloc, numbers) {
+        Ok(copy) => Ok(Rows::of(copy)),
+        Err(_) => Err(Memory),
+    }
+}
+
+/// Equal copies of these.
+pub(crate) fn copies_of(alloc: Global, attempts: &[Open]) -> Result<Vec<Open>, Memory>
+    ensures { IfOk result (λ copies. copies.items ≡ attempts.now) }
+{
+    let mut copies = Vec::new(alloc);
+    for open in attempts {
+        let copy = open.copy(alloc)?;
+        if copies.push(copy).is_err() {
+            return Err(Memory);
+        }
+    }
+    Ok(copies)
 }
 
 fn files_of(alloc: Global, inputs: &[Port]) -> Result<Rows<FileNo>, Memory>

@@ -10,8 +10,8 @@ ghost use Rattle.link_session.specs.Laws.{ClosesItsAttempt};
 ghost use Rattle.link_session.specs.Sessions.{Comes, breaks, closed_where, ended_at, greets, hears, is_open, lacked_at, missed_at, place, started, told};
 
 use crate::fits::{has_files, may_end};
-use crate::known::{forget, forget_all, learn_all};
-use crate::open::{Open, find};
+use crate::known::{copy_of, forget, forget_all, learn_all};
+use crate::open::{Open, copies_of, find};
 use crate::word::{SessionFault, Word};
 use flow_types::{AttemptNo, FileNo, Key, Memory, Rows, Task};
 use indexmap::IndexSet;
@@ -79,6 +79,21 @@ impl Session {
         ensures { result ≡ self.now.run }
     {
         self.run
+    }
+
+    /// An equal session.
+    pub fn copy(&self) -> Result<Session, Memory>
+        ensures { IfOk result (λ copy. copy ≡ self.now) }
+    {
+        let known = copy_of(self.alloc, &self.known)?;
+        let attempts = copies_of(self.alloc, self.attempts.as_slice())?;
+        Ok(Session {
+            alloc: self.alloc,
+            run: self.run,
+            stage: self.stage,
+            known,
+            attempts,
+        })
     }
 
     /// Whether the attempt is open.

@@ -9,5 +9,7 @@ mod running;
 mod worker;
 
 pub use acts::Acts;
+pub use files::{files_of, missing_of, touch_all};
+pub use inputs::{holds_all, pin_all, unpin_all};
 pub use laws::missing_files_ascend;
 pub use worker::WorkerCore;

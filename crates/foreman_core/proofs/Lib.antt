@@ -1,0 +1,7 @@
+pub mod Members
+pub mod Contents
+pub mod Words
+pub mod Placing
+pub mod Keeps
+pub mod Loads
+pub mod Drafts

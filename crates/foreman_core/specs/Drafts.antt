@@ -1,0 +1,28 @@
+-- A foreman's attempts and workers while a step is being made.
+use Rattle.std.specs.Prelude.{ℕ, List, []}
+use Rattle.flow_types.specs.declared.messages.Message.{Message}
+use Rattle.worker_cache.specs.Caches.{Cached}
+use Rattle.foreman_core.specs.declared.acts.Down.{Down}
+use Rattle.foreman_core.specs.declared.links.Upstream.{Upstream}
+use Rattle.foreman_core.specs.declared.links.Below.{Below}
+use Rattle.foreman_core.specs.Foremen.{Foreman}
+use Rattle.foreman_core.specs.Steps.{Led, sending}
+
+-- the attempts, the workers, the next number below, and what is to be sent
+pub record Drafted : Type 0 where
+  pub attempts : List Upstream
+  pub links : List Below
+  pub next : ℕ
+  pub up : List Message
+  pub down : List Down
+
+-- the step that a draft is, over these contents
+abbrev pub led_of : Cached → Drafted → Led
+led_of cache d = record {
+  foreman = record { cache = cache; attempts = d.attempts; links = d.links; next = d.next };
+  acts = sending d.up d.down;
+}
+
+-- a draft that is the foreman, with nothing to be sent
+abbrev pub drafted : Foreman → Drafted
+drafted f = record { attempts = f.attempts; links = f.links; next = f.next; up = []; down = [] }

@@ -1,0 +1,9 @@
+pub mod Foremen
+pub mod Steps
+pub mod Answers
+pub mod Examples
+pub mod Members
+pub mod Right
+pub mod Laws
+pub mod Rooms
+pub mod Drafts

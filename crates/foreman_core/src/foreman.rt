@@ -1,0 +1,193 @@
+//! The foreman.
+ghost use Rattle.std.specs.Prelude.{◌≡◌, ◌<◌, [], length, slice_get, IfOk};
+ghost use Rattle.foreman_core.specs.Answers.{HearsUp, Leads};
+ghost use Rattle.foreman_core.specs.Drafts.{drafted, led_of};
+ghost use Rattle.foreman_core.specs.Foremen.{new_foreman};
+ghost use Rattle.foreman_core.specs.Steps.{cancels, cancels_at, hears_put, hears_task, hears_up, misses, settled, takes};
+ghost use Rattle.worker_core.specs.Workers.{goes_up};
+
+use crate::acts::ForemanActs;
+use crate::copies::{attempts_of, links_of, renumber};
+use crate::draft::Draft;
+use crate::links::{Below, Upstream, find};
+use crate::pins::release;
+use flow_types::{AttemptNo, Bytes, Key, Memory, Message, Task};
+use std::alloc::Global;
+use std::marker::Model;
+use worker_cache::{Cache, PutRefused};
+use worker_core::{files_of, holds_all, missing_of, pin_all, touch_all};
+use wq_messages::PeerFault;
+
+/// A foreman: what it holds, the attempts from above, its workers, and the number of the next
+/// attempt below. It sends nothing itself; each call answers what is to be sent.
+#[derive(Drop)]
+pub struct ForemanCore {
+    pub(crate) alloc: Global,
+    pub(crate) cache: Cache,
+    pub(crate) attempts: Vec<Upstream>,
+    pub(crate) links: Vec<Below>,
+    pub(crate) next: u128,
+}
+
+impl Model for ForemanCore {
+    ghost use Rattle.foreman_core.specs.Foremen.{Foreman};
+
+    ghost Value = { Foreman };
+
+    ghost view = { λ f. record {
+      cache = f.cache;
+      attempts = f.attempts.items;
+      links = f.links.items;
+      next = f.next;
+    } };
+}
+
+impl ForemanCore {
+    /// A foreman with a cache of so many bytes, which holds nothing and has no worker. It takes no
+    /// memory.
+    pub fn new(alloc: Global, cap: u64) -> ForemanCore
+        ensures { result ≡ new_foreman cap }
+    {
+        ForemanCore {
+            alloc,
+            cache: Cache::new(alloc, cap),
+            attempts: Vec::new(alloc),
+            links: Vec::new(alloc),
+            next: 0,
+        }
+    }
+
+    // A step on copies, with nothing to be sent yet.
+    pub(crate) fn draft(&self) -> Result<Draft, Memory>
+        ensures { IfOk result (λ draft. draft ≡ drafted self.now) }
+    {
+        let attempts = attempts_of(self.alloc, &self.attempts)?;
+        let links = links_of(self.alloc, &self.links)?;
+        Ok(Draft::of(self.alloc, attempts, links, self.next))
+    }
+
+    // The step is done.
+    fn commit(&mut self, draft: Draft) -> ForemanActs
+        ensures acts { result ≡ (led_of self.old.cache draft).acts }
+        ensures foreman { self.new ≡ (led_of self.old.cache draft).foreman }
+    {
+        let Draft {
+            alloc: _,
+            attempts,
+            links,
+            next,
+            up,
+            down,
+        } = draft;
+        self.attempts = attempts;
+        self.links = links;
+        self.next = next;
+        ForemanActs::sending(up, down)
+    }
+
+    // What isn't placed is placed where it fits, and the step is done.
+    pub(crate) fn finish(&mut self, draft: Draft) -> Result<ForemanActs, Memory>
+        ensures step { Leads (settled (led_of self.old.cache draft)) self.old result self.new }
+        ensures cache { self.new.cache ≡ self.old.cache }
+    {
+        let mut draft = draft;
+        draft.settle(&self.cache)?;
+        Ok(self.commit(draft))
+    }
+
+    // Keeps a content. One for which there is no room is dropped.
+    fn on_put(&mut self, key: Key, content: Bytes) -> Result<ForemanActs, Memory>
+        ensures { Leads (hears_put self.old key content) self.old result self.new }
+    {
+        match self.cache.put(key, content) {
+            Ok(()) | Err(PutRefused::Full { .. }) => Ok(ForemanActs::none(self.alloc)),
+            Err(PutRefused::Memory) => Err(Memory),
+        }
+    }
+
+    // Takes an attempt whose inputs are held.
+    fn take(&mut self, task: &Task) -> Result<ForemanActs, Memory>
+        ensures { Leads (takes self.old task.now) self.old result self.new }
+    {
+        let mut draft = self.draft()?;
+        draft.keep(task)?;
+        let acts = self.finish(draft)?;
+        pin_all(&mut self.cache, task.run, task.inputs.as_slice());
+        Ok(acts)
+    }
+
+    // Tells which inputs aren't held.
+    fn miss(&mut self, task: &Task) -> Result<ForemanActs, Memory>
+        ensures { Leads (misses self.old task.now) self.old result self.new }
+    {
+        let files = files_of(self.alloc, task.inputs.as_slice())?;
+        let missing = missing_of(self.alloc, &self.cache, task.run, files.as_slice())?;
+        let message = Message::Missing {
+            attempt: task.attempt,
+            files: missing,
+        };
+        let acts = ForemanActs::telling(self.alloc, message)?;
+        touch_all(&mut self.cache, task.run, files.as_slice());
+        Ok(acts)
+    }
+
+    fn on_task(&mut self, task: &Task) -> Result<ForemanActs, Memory>
+        ensures { Leads (hears_task self.old task.now) self.old result self.new }
+    {
+        if find(&self.attempts, task.attempt).is_some() {
+            return Ok(ForemanActs::none(self.alloc));
+        }
+        if holds_all(&self.cache, task.run, task.inputs.as_slice()) {
+            self.take(task)
+        } else {
+            self.miss(task)
+        }
+    }
+
+    // The attempt at a place goes back as not run, and is cancelled where it is placed.
+    fn cancel_at(&mut self, at: usize) -> Result<ForemanActs, Memory>
+        requires { at < length self.old.attempts }
+        ensures { Leads (cancels_at self.old at (slice_get self.old.attempts at)) self.old result
+            self.new }
+    {
+        let mut draft = self.draft()?;
+        let ended = draft.cancel(at)?;
+        let acts = self.finish(draft)?;
+        release(&mut self.cache, &ended);
+        Ok(acts)
+    }
+
+    fn cancel(&mut self, attempt: AttemptNo) -> Result<ForemanActs, Memory>
+        ensures { Leads (cancels self.old attempt) self.old result self.new }
+    {
+        match find(&self.attempts, attempt) {
+            Some(at) => self.cancel_at(at),
+            None => Ok(ForemanActs::none(self.alloc)),
+        }
+    }
+
+    /// What the foreman does on a message from its parent. A message that only goes up is
+    /// unexpected. Without memory nothing changes.
+    pub fn on_up(&mut self, message: Message) -> Result<ForemanActs, PeerFault>
+        ensures { HearsUp (goes_up message) (hears_up self.old message) self.old result self.new }
+    {
+        let done = match message {
+            Message::Put { key, content } => self.on_put(key, content),
+            Message::Task(task) => self.on_task(&task),
+            Message::Cancel { attempt } => self.cancel(attempt),
+            Message::Unlink { key } => {
+                let _held = self.cache.unlink(key);
+                Ok(ForemanActs::none(self.alloc))
+            }
+            Message::Bye => Ok(ForemanActs::over(self.alloc)),
+            Message::Hello { .. }
+            | Message::Done { .. }
+            | Message::Missing { .. }
+            | Message::Totals { .. } => return Err(PeerFault::Unexpected),
+        };
+        match done {
+            Ok(acts) => Ok(acts),
+            Err(_) => Err(PeerFault::Memory),
+        }
+    }
+}
