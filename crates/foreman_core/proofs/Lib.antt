@@ -5,3 +5,4 @@ pub mod Placing
 pub mod Keeps
 pub mod Loads
 pub mod Drafts
+pub mod Losing

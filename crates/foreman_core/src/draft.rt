@@ -1,5 +1,5 @@
 //! A step that is being made, on a copy of the attempts and the workers.
-ghost use Rattle.std.specs.Prelude.{◌≡◌, ◌<◌, ◌∷◌, [], ◌++◌, length, remove, slice_get, IfOk, OnOk, IfSome, Some};
+ghost use Rattle.std.specs.Prelude.{◌≡◌, ◌<◌, ◌∷◌, [], ◌++◌, length, map, remove, slice_get, IfOk, OnOk, IfSome, Some};
 ghost use Rattle.std.specs.List.{position};
 ghost use Rattle.foreman_core.specs.Foremen.{fits_among, kept};
 ghost use Rattle.flow_types.specs.declared.messages.Message.TheVariants as messages;
@@ -11,7 +11,7 @@ use crate::acts::Down;
 use crate::copies::renumber;
 use crate::links::{Below, Spot, Upstream, close, join};
 use crate::room::fits;
-use crate::sending::{send, send_all, tell, tell_not_run};
+use crate::sending::{send, send_all, tell, tell_all, tell_not_run};
 use crate::totals::stated;
 use flow_types::{AttemptNo, Memory, Message, Rows, Task};
 use std::alloc::Global;
@@ -142,6 +142,14 @@ impl Draft {
         }) }
     {
         tell(&mut self.up, stated(&self.links, cache))
+    }
+
+    /// Tells the parent of each of these that it came to no end.
+    pub(crate) fn tell_all(&mut self, gone: &[Upstream]) -> Result<(), Memory>
+        ensures { OnOk result (self.new
+            ≡ record self.old { up = self.old.up ++ map not_run gone.now }) }
+    {
+        tell_all(&mut self.up, gone)
     }
 
     /// A worker joins, in its place among the others.

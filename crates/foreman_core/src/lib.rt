@@ -8,6 +8,8 @@ mod examples;
 mod foreman;
 mod laws;
 mod links;
+mod lost;
+mod parting;
 mod pins;
 mod room;
 mod sending;
