@@ -5,7 +5,6 @@ use Rattle.std.specs.Option.{option_map_or}
 use Rattle.std.proofs.lemmas.Bool.{and_parts, eqb-true}
 use Rattle.std.proofs.lemmas.Option.{get_or_from_slice_get}
 use Rattle.std.proofs.lemmas.List.Quantifiers.{position-Some}
-use Rattle.flow_types.specs.declared.numbers.Amounts.{Amounts}
 use Rattle.flow_types.specs.declared.numbers.AttemptNo.{AttemptNo}
 use Rattle.flow_types.specs.declared.numbers.FileNo.{FileNo}
 use Rattle.flow_types.specs.declared.numbers.LinkNo.{LinkNo}
@@ -30,7 +29,7 @@ use Rattle.foreman_core.specs.Foremen.{Foreman, with_rows, place_of, is_on, is_a
 use Rattle.foreman_core.specs.Laws.{FirstIsRight, UpKeepsRight, DownKeepsRight, LostKeepsRight}
 use Rattle.foreman_core.specs.Members.{Stands, Every}
 use Rattle.foreman_core.specs.Right.{IsAsked, IsPut, task_at, IsOwned, IsSpotted, IsRight, IsRightUp, IsRightDown, IsRightAfter}
-use Rattle.foreman_core.specs.Steps.{Led, sending, quiet, holding, renumbered, puts_and_task, down_to, in_session, takes, missing_message, misses, closed_on, cancel_at, not_run, cancels_at, hears_up, lost, loses, leaving, drops, restated, new_session, greeted, outcome_in, ends_at, kept_at, puts_again, with_attempt, states_at, on_word, on_told, heard_at, heard_where}
+use Rattle.foreman_core.specs.Steps.{Led, sending, quiet, holding, renumbered, puts_and_task, down_to, in_session, takes, missing_message, misses, closed_on, cancel_at, not_run, cancels_at, hears_up, lost, loses, leaving, drops, restated, new_session, greeted, outcome_in, ends_at, kept_at, puts_again, with_attempt, stated_at, on_word, on_told, heard_at, heard_where}
 use Rattle.foreman_core.proofs.Contents.{OfRow, pinned_all_kept, unpinned_all_kept, all_released_kept, touched_all_kept, unlinked_kept, put_kept}
 use Rattle.foreman_core.proofs.Members.{stands_left, stands_right, every_append, every_nil, every_one, every_cons, every_map, every_filter, every_set, every_remove, get_stands}
 use Rattle.foreman_core.proofs.Placing.{IsOnly, downs_only, settled_right}
@@ -289,16 +288,12 @@ again_right above below sent f k number files at u got is right =
       up = every_nil (IsRightUp above below (sent ++ more));
     }
 
-states_right : (above : List Message) (sent : List Down) (f : Foreman) (on : ℕ) (b : Option Below) (total largest : Amounts) (cache : ℕ) → IsRight above sent f → IsRight above sent (states_at f on b total largest cache)
-states_right above sent f on None total largest cache right = right
-states_right above sent f on (Some b) total largest cache right = links_right above sent f _ right
-
 -- the message of a word stands under its link
 word_right : (above : List Message) (below sent : List Down) (f : Foreman) (k : LinkNo) (on : ℕ) (m : Message) (word : Word) → IsFrom m word → Stands (let down : Down = record { link = k; message = m } in down) below → IsRight above sent f
     → IsRightAfter above below sent (on_word f k on m word)
 word_right above below sent f k on m (words.Joined total largest cache) from heard right = quiet_right above below sent f right
 word_right above below sent f k on m (words.Changed total largest cache) from heard right =
-    restated_right above below sent _ (states_right above sent f on (slice_get f.links on) total largest cache right)
+    restated_right above below sent _ (links_right above sent f (stated_at f.links on (slice_get f.links on) total largest cache) right)
 word_right above below sent f k on m (words.Finish number) from heard right =
     attempt_right above below sent f k number (ends_at f (outcome_in m)) (λ at. quiet_right above below sent f right)
     (λ at u got is. ended_right above below sent f k number (outcome_in m) at u (subst (λ x. Stands (let down : Down = record { link = k; message = x } in down) below) from heard) got is right) right
@@ -311,17 +306,16 @@ word_right above below sent f k on m (words.PutAgain number files) from heard ri
     attempt_right above below sent f k number (λ at u. puts_again f k number files u) (λ at. quiet_right above below sent f right) (λ at u got is. again_right above below sent f k number files at u got is right) right
 word_right above below sent f k on m (words.Stale number) from heard right = quiet_right above below sent f right
 
-answer_right : (above : List Message) (below sent : List Down) (f : Foreman) (k : LinkNo) (on : ℕ) (b : Below) (m : Message) (session : State) (answer : Result Word SessionFault) → IsAnswerFrom m answer
-    → Stands (let down : Down = record { link = k; message = m } in down) below → IsRight above sent f → IsRightAfter above below sent (on_told f k on b m session answer)
-answer_right above below sent f k on b m session (Ok word) from heard right =
-    word_right above below sent _ k on m word from heard (links_right above sent f (slice_set f.links on (in_session b session)) right)
-answer_right above below sent f k on b m session (Err why) from heard right = drops_right above below sent f k right
+answer_right : (above : List Message) (below sent : List Down) (f : Foreman) (k : LinkNo) (on : ℕ) (m : Message) (links : List Below) (answer : Result Word SessionFault) → IsAnswerFrom m answer
+    → Stands (let down : Down = record { link = k; message = m } in down) below → IsRight above sent f → IsRightAfter above below sent (on_told f k on m links answer)
+answer_right above below sent f k on m links (Ok word) from heard right = word_right above below sent _ k on m word from heard (links_right above sent f links right)
+answer_right above below sent f k on m links (Err why) from heard right = drops_right above below sent f k right
 
 heard_at_right : (above : List Message) (below sent : List Down) (f : Foreman) (k : LinkNo) (on : ℕ) (m : Message) (b : Option Below) → Stands (let down : Down = record { link = k; message = m } in down) below → IsRight above sent f
     → IsRightAfter above below sent (heard_at f k on m b)
 heard_at_right above below sent f k on m None heard right = quiet_right above below sent f right
 heard_at_right above below sent f k on m (Some b) heard right =
-    answer_right above below sent f k on b m (told b.session m).state (told b.session m).answer (told_from b.session m) heard right
+    answer_right above below sent f k on m (slice_set f.links on (in_session b (told b.session m).state)) (told b.session m).answer (told_from b.session m) heard right
 
 heard_down : (above : List Message) (below sent : List Down) (f : Foreman) (k : LinkNo) (m : Message) (found : Option ℕ) → Stands (let down : Down = record { link = k; message = m } in down) below → IsRight above sent f
     → IsRightAfter above below sent (heard_where f k m found)

@@ -6,3 +6,4 @@ pub mod Keeps
 pub mod Loads
 pub mod Drafts
 pub mod Losing
+pub mod Hearing

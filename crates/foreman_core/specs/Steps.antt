@@ -18,7 +18,7 @@ use Rattle.link_session.specs.declared.word.Word.{Word}
 use Rattle.link_session.specs.declared.word.Word.TheVariants as words
 use Rattle.link_session.specs.declared.word.SessionFault.{SessionFault}
 use Rattle.link_session.specs.Keys.{lacking}
-use Rattle.link_session.specs.Sessions.{State, place, started, closed_where, told}
+use Rattle.link_session.specs.Sessions.{State, Told, place, started, closed_where, told}
 use Rattle.foreman_core.specs.declared.acts.Down.{Down}
 use Rattle.foreman_core.specs.declared.acts.ForemanActs.{ForemanActs}
 use Rattle.foreman_core.specs.declared.links.Spot.{Spot}
@@ -298,10 +298,10 @@ with_attempt f k number does =
     option_map_or (λ at. does at (slice_get f.attempts at)) (position (is_at k number) f.attempts)
     (quiet f)
 
--- the worker at a place states something else from now on
-abbrev pub states_at : Foreman → ℕ → Option Below → Amounts → Amounts → ℕ → Foreman
-states_at f on None total largest cache = f
-states_at f on (Some b) total largest cache =
+-- the workers, where that at a place states something else from now on
+abbrev pub stated_at : List Below → ℕ → Option Below → Amounts → Amounts → ℕ → List Below
+stated_at links on None total largest cache = links
+stated_at links on (Some b) total largest cache =
     let stated : Below = record {
       link = b.link;
       total = total;
@@ -309,13 +309,20 @@ states_at f on (Some b) total largest cache =
       cache = cache;
       session = b.session;
     } in
-    record f { links = slice_set f.links on stated }
+    slice_set links on stated
+
+-- the worker at a place states something else from now on
+abbrev pub restates_at : Foreman → ℕ → Amounts → Amounts → ℕ → Led
+restates_at f on total largest cache =
+    restated (record f {
+      links = stated_at f.links on (slice_get f.links on) total largest cache;
+    })
 
 -- what a word of a worker's session means
 abbrev pub on_word : Foreman → LinkNo → ℕ → Message → Word → Led
 on_word f k on m (words.Joined total largest cache) = quiet f
 on_word f k on m (words.Changed total largest cache) =
-    restated (states_at f on (slice_get f.links on) total largest cache)
+    restates_at f on total largest cache
 on_word f k on m (words.Finish number) =
     with_attempt f k number (ends_at f (outcome_in m))
 on_word f k on m (words.Fail number why) =
@@ -325,17 +332,17 @@ on_word f k on m (words.PutAgain number files) =
     with_attempt f k number (λ at u. puts_again f k number files u)
 on_word f k on m (words.Stale number) = quiet f
 
--- what a worker's session says, and the session after it; what is unexpected loses the link
-abbrev pub on_told : Foreman → LinkNo → ℕ → Below → Message → State → Result Word SessionFault → Led
-on_told f k on b m session (Ok word) =
-    on_word (record f { links = slice_set f.links on (in_session b session) }) k on m word
-on_told f k on b m session (Err why) = drops f k
+-- what a worker's session says, once the workers are these; what is unexpected loses the link
+abbrev pub on_told : Foreman → LinkNo → ℕ → Message → List Below → Result Word SessionFault → Led
+on_told f k on m links (Ok word) = on_word (record f { links = links }) k on m word
+on_told f k on m links (Err why) = drops f k
 
 -- a message of the worker at a place
 abbrev pub heard_at : Foreman → LinkNo → ℕ → Message → Option Below → Led
 heard_at f k on m None = quiet f
 heard_at f k on m (Some b) =
-    on_told f k on b m (told b.session m).state (told b.session m).answer
+    let heard : Told = told b.session m in
+    on_told f k on m (slice_set f.links on (in_session b heard.state)) heard.answer
 
 -- a message from below, where a worker stands at a place, or on a new link
 abbrev pub heard_where : Foreman → LinkNo → Message → Option ℕ → Led

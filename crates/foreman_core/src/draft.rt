@@ -4,12 +4,12 @@ ghost use Rattle.std.specs.List.{position};
 ghost use Rattle.foreman_core.specs.Foremen.{fits_among, kept};
 ghost use Rattle.flow_types.specs.declared.messages.Message.TheVariants as messages;
 ghost use Rattle.foreman_core.specs.Drafts.{led_of};
-ghost use Rattle.foreman_core.specs.Foremen.{each_amount, joined, largest_by, total_by};
+ghost use Rattle.foreman_core.specs.Foremen.{each_amount, largest_by, total_by};
 ghost use Rattle.foreman_core.specs.Steps.{cancel_at, closed_on, not_run, placed_by, settled, settled_at};
 
 use crate::acts::Down;
 use crate::copies::renumber;
-use crate::links::{Below, Spot, Upstream, close, join};
+use crate::links::{Below, Spot, Upstream, close};
 use crate::room::fits;
 use crate::sending::{send, send_all, tell, tell_all, tell_not_run};
 use crate::totals::stated;
@@ -150,14 +150,6 @@ impl Draft {
             ≡ record self.old { up = self.old.up ++ map not_run gone.now }) }
     {
         tell_all(&mut self.up, gone)
-    }
-
-    /// A worker joins, in its place among the others.
-    pub(crate) fn join(&mut self, b: Below) -> Result<(), Memory>
-        ensures { OnOk result (self.new
-            ≡ record self.old { links = joined b self.old.links }) }
-    {
-        join(&mut self.links, b)
     }
 
     // The next number below, as long as there is one.

@@ -2,6 +2,7 @@
 #![tactic(auto)]
 
 mod acts;
+mod below;
 mod copies;
 mod draft;
 mod examples;
