@@ -47,7 +47,8 @@ task n wanted files = record {
 
 -- the same task as it goes down under a number, to a link
 abbrev pub placed : ℕ → ℕ → Task → Down
-placed k number t = record { link = link k; message = messages.Task (renumbered t (attempt number)) }
+placed k number t =
+    record { link = link k; message = messages.Task (renumbered t (attempt number)) }
 
 -- the totals of so many cores, of which one job may take so many
 abbrev pub stated : ℕ → ℕ → Message

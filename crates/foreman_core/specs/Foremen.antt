@@ -1,4 +1,5 @@
--- A foreman: what it holds, which attempts it was given, where they are placed, and what fits where.
+-- A foreman: what it holds, which attempts it was given, where they are placed, and what fits
+-- where.
 use Rattle.std.specs.Prelude.{ℕ, Bool, false, not, ◌&&◌, ◌==◌, nat_lt, if◌then◌else◌, List, [], ◌∷◌, ◌++◌, map, filter, fold, position, insert, length, min, max, sum_by, Option, Some, None}
 use Rattle.std.specs.List.{list_any}
 use Rattle.std.specs.Option.{option_map_or}

@@ -1,6 +1,5 @@
 //! A foreman that hears its workers.
 ghost use Rattle.std.specs.Prelude.{◌≡◌, ◌<◌, ◌⊎◌, [], length, nat_lt, slice_get, slice_set, if◌then◌else◌, Err, IfOk, Some};
-ghost use Rattle.flow_types.specs.declared.job.Outcome.{Outcome as End};
 ghost use Rattle.link_session.specs.declared.word.SessionFault.TheVariants as faults;
 ghost use Rattle.link_session.specs.Sessions.{told};
 ghost use Rattle.foreman_core.specs.declared.links.Below.{Below as Worker};

@@ -174,6 +174,7 @@ impl Draft {
         let number = self.number()?;
         let task = renumber(self.alloc, &self.attempts[at].task, number)?;
         let worker = &mut self.links[on];
+        // Numbers rise, so this one is never open there.
         if worker.session.has(number) {
             return Err(Memory);
         }

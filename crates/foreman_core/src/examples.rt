@@ -2,8 +2,8 @@
 ghost use Rattle.std.specs.Prelude.{◌≡◌, [], ◌∷◌, Some, None};
 ghost use Rattle.flow_types.specs.declared.job.Outcome.TheVariants as outcomes;
 ghost use Rattle.flow_types.specs.declared.messages.Message.TheVariants as messages;
-ghost use Rattle.foreman_core.specs.Steps.{hears_down, hears_up, loses, not_run};
-ghost use Rattle.foreman_core.specs.Examples.{alone, attempt, cores, crowd, fifth, greatest, hello, holds_one, key, link, placed, placed_alone, placed_anew, placed_once, put_down, reader, stated, task, up, down, wide, with_one, with_two};
+ghost use Rattle.foreman_core.specs.Steps.{hears_down, hears_up, loses};
+ghost use Rattle.foreman_core.specs.Examples.{alone, attempt, cores, crowd, fifth, greatest, hello, holds_one, link, placed, placed_alone, placed_anew, placed_once, put_down, reader, stated, up, down, wide, with_one, with_two};
 
 /// Attempt 5 is placed at link 1 as attempt 0. Link 1 leaves, and it is placed at link 2 as attempt
 /// 1, whose end is that of attempt 5.
@@ -37,8 +37,8 @@ pub fn content_goes_down_once()
         ≡ messages.Missing (attempt 1) (record { 0 = 4 } ∷ []) ∷ [] }
 {}
 
-/// What fits no worker is kept, and is placed once one joins that it fits. A worker that joins later
-/// with a lower link comes first.
+/// What fits no worker is kept, and is placed once one joins that it fits. A worker that joins
+/// later with a lower link comes first.
 pub fn attempt_that_waits()
     ensures kept { (hears_up with_one (messages.Task wide)).acts.down ≡ [] }
     ensures placed { (hears_down (up with_one (messages.Task wide)) (link 2) (hello 4)).acts.down
@@ -65,8 +65,8 @@ pub fn totals_of_workers()
     ensures two { (hears_down with_one (link 2) (hello 3)).acts.up ≡ stated 5 3 ∷ [] }
     ensures most { (hears_down with_one (link 2) greatest).acts.up
         ≡ stated 4294967295 4294967295 ∷ [] }
-    ensures changed { (hears_down with_two (link 1) (messages.Totals (cores 7) (cores 4) 100)).acts.up
-        ≡ stated 9 4 ∷ [] }
+    ensures changed { (hears_down with_two (link 1)
+        (messages.Totals (cores 7) (cores 4) 100)).acts.up ≡ stated 9 4 ∷ [] }
 {}
 
 /// A link is left where its first message isn't a hello, where it says hello again, and where it is

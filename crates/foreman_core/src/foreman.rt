@@ -1,5 +1,5 @@
 //! The foreman.
-ghost use Rattle.std.specs.Prelude.{◌≡◌, ◌<◌, [], length, slice_get, IfOk};
+ghost use Rattle.std.specs.Prelude.{◌≡◌, ◌<◌, length, slice_get, IfOk};
 ghost use Rattle.foreman_core.specs.Answers.{HearsUp, Leads};
 ghost use Rattle.foreman_core.specs.Drafts.{drafted, led_of};
 ghost use Rattle.foreman_core.specs.Foremen.{new_foreman};

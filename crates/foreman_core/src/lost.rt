@@ -59,8 +59,8 @@ impl ForemanCore {
         Ok(acts)
     }
 
-    /// What the foreman does where a link is lost. Where no worker is at it, nothing. Without memory
-    /// nothing changes.
+    /// What the foreman does where a link is lost. Where no worker is at it, nothing. Without
+    /// memory nothing changes.
     pub fn on_lost(&mut self, link: LinkNo) -> Result<ForemanActs, Memory>
         ensures { Leads (loses self.old link) self.old result self.new }
     {

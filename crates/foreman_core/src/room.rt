@@ -1,8 +1,7 @@
 //! What fits where.
-ghost use Rattle.std.specs.Prelude.{◌≡◌, ◌+◌, ◌<◌, length, List, IfOk, OnOk};
-ghost use Rattle.run_history.specs.Links.{Load as Taken};
-ghost use Rattle.resource_pack.specs.Occupancy.{no_tasks, with_task, stated_row};
-ghost use Rattle.foreman_core.specs.Foremen.{could_hold, fits_among, is_on, load_of, loads_among, row_of, task_bytes};
+ghost use Rattle.std.specs.Prelude.{◌≡◌, ◌+◌, ◌<◌, length, IfOk};
+ghost use Rattle.resource_pack.specs.Occupancy.{stated_row};
+ghost use Rattle.foreman_core.specs.Foremen.{could_hold, fits_among, is_on, loads_among, row_of, task_bytes};
 ghost use Rattle.foreman_core.specs.Rooms.{Occupies};
 ghost use Rattle.worker_core.specs.Workers.{content_or_none, key_of};
 ghost use Rattle.worker_cache.specs.Caches.{content_of};
@@ -16,7 +15,8 @@ use worker_cache::Cache;
 const MOST_TASKS: u32 = 64;
 
 fn bytes_of(cache: &Cache, run: u64, input: &Port) -> u64
-    ensures { result ≡ length (content_or_none (content_of (key_of run input.now.file) cache.now.rows)) }
+    ensures { result
+        ≡ length (content_or_none (content_of (key_of run input.now.file) cache.now.rows)) }
 {
     let file = input.file;
     match cache.get(Key { run, file }) {
@@ -50,8 +50,8 @@ pub(crate) fn is_placed_at(u: &Upstream, link: LinkNo) -> bool
 
 // What the attempts take that are placed with a worker, or nothing where as many are as may be.
 fn occupied_at(cache: &Cache, attempts: &[Upstream], b: &Below) -> Result<Option<Occupied>, Memory>
-    ensures { IfOk result (λ occupied.
-        Occupies b.now.link.0 b.now.total (loads_among cache.now.rows b.now.link attempts.now) occupied) }
+    ensures { IfOk result (λ occupied. Occupies b.now.link.0 b.now.total
+        (loads_among cache.now.rows b.now.link attempts.now) occupied) }
 {
     let mut occupied = Occupied::nothing();
     let mut tasks: u32 = 0;
