@@ -146,6 +146,8 @@ pub fn read_away<B: PoolTerms, F: Commands, S: Site, T: Terms>(
         S.files S.may_leave S.moment S.images_since away first
         desk.new held waiting loose heard (halt_after result None) }
     ensures same { OnOk result (desk.new ≡ record desk.old { site = desk.new.site }) }
+    ensures due { IfOk result (λ bytes. S.tells → T.kept → T.trust
+        → serial desk.old.plan F.gives T.sources file.0 ≡ Some bytes) }
 {
     match desk.read_input(alloc, file) {
         Ok(bytes) => Ok(bytes),

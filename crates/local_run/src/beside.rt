@@ -3,8 +3,9 @@ ghost use Rattle.std.specs.Prelude.{◌≡◌, ◌≤◌, ◌<◌, length, sum_b
 ghost use Rattle.std.specs.Fn.{CalledAtMut};
 ghost use Rattle.std.specs.Thread.{IsSync};
 ghost use Rattle.crossbeam_queue.specs.Passes.{view, IsPassOf, IsSamePass};
+ghost use Rattle.flow_types.specs.declared.job.Job.{Job};
 ghost use Rattle.worker_pool.specs.Courses.{MayReport};
-ghost use Rattle.worker_pool.specs.Crews.{AllSure};
+ghost use Rattle.worker_pool.specs.Crews.{AllSure, AllTell};
 ghost use Rattle.worker_pool.specs.Hands.{Crew};
 ghost use Rattle.worker_pool.specs.Tallies.{GrowsWith};
 ghost use Rattle.local_run.specs.Calls.{TakesAtMut};
@@ -53,6 +54,7 @@ pub fn call_beside<
         (sum_by R.count runners.old) (sum_by R.count runners.new)
         (sum_by R.failures runners.old) (sum_by R.failures runners.new) }
     ensures sure { AllSure R.sure runners.old → AllSure R.sure runners.new }
+    ensures tells { (job : Job) → AllTell R.tells runners.old job → AllTell R.tells runners.new job }
     ensures called { CalledAtMut K.FnMut call.old desk.old tt call.new desk.new }
 {
     join_mut(
@@ -69,6 +71,8 @@ pub fn call_beside<
                 (sum_by R.count runners.entry.now) (sum_by R.count runners.exit.now)
                 (sum_by R.failures runners.entry.now) (sum_by R.failures runners.exit.now) }
             ensures sure { AllSure R.sure runners.entry.now → AllSure R.sure runners.exit.now }
+            ensures tells { (job : Job) → AllTell R.tells runners.entry.now job
+                → AllTell R.tells runners.exit.now job }
         { work_all::<B, F, W, R, G>(rt, line, gate, token, runners) },
         &mut ||
             requires takes { TakesAtMut K.FnMut call.now desk.now }

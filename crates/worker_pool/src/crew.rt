@@ -2,8 +2,9 @@
 ghost use Rattle.std.specs.Prelude.{◌≡◌, ◌≤◌, ◌<◌, ◌-◌, ◌/◌, length, sum_by};
 ghost use Rattle.std.specs.Thread.{IsSync};
 ghost use Rattle.crossbeam_queue.specs.Passes.{view, IsPassOf, IsSamePass};
+ghost use Rattle.flow_types.specs.declared.job.Job.{Job};
 ghost use Rattle.worker_pool.specs.Courses.{MayReport};
-ghost use Rattle.worker_pool.specs.Crews.{AllSure};
+ghost use Rattle.worker_pool.specs.Crews.{AllSure, AllTell};
 ghost use Rattle.worker_pool.specs.Hands.{Crew};
 ghost use Rattle.worker_pool.specs.Tallies.{plus, GrowsWith};
 
@@ -33,6 +34,7 @@ fn work_first<B: Terms, F: Commands, W: Wait, R: Runner<F>, G: Gate>(
         (sum_by R.count runners.old) (sum_by R.count runners.new)
         (sum_by R.failures runners.old) (sum_by R.failures runners.new) }
     ensures sure { AllSure R.sure runners.old → AllSure R.sure runners.new }
+    ensures tells { (job : Job) → AllTell R.tells runners.old job → AllTell R.tells runners.new job }
 {
     if let Some(runner) = runners.first_mut() {
         work::<B, F, W, R, G>(rt, line, token, runner, gate);
@@ -58,6 +60,7 @@ pub fn work_all<
         (sum_by R.count runners.old) (sum_by R.count runners.new)
         (sum_by R.failures runners.old) (sum_by R.failures runners.new) }
     ensures sure { AllSure R.sure runners.old → AllSure R.sure runners.new }
+    ensures tells { (job : Job) → AllTell R.tells runners.old job → AllTell R.tells runners.new job }
 {
     if runners.len() <= 1 {
         work_first::<B, F, W, R, G>(rt, line, gate, token, runners);
@@ -93,6 +96,7 @@ fn work_halves<
         (sum_by R.count runners.old) (sum_by R.count runners.new)
         (sum_by R.failures runners.old) (sum_by R.failures runners.new) }
     ensures sure { AllSure R.sure runners.old → AllSure R.sure runners.new }
+    ensures tells { (job : Job) → AllTell R.tells runners.old job → AllTell R.tells runners.new job }
 {
     let (front, back) = runners.split_at_mut(runners.len() / 2);
     join_mut(
@@ -109,6 +113,8 @@ fn work_halves<
                 (sum_by R.count front.entry.now) (sum_by R.count front.exit.now)
                 (sum_by R.failures front.entry.now) (sum_by R.failures front.exit.now) }
             ensures sure { AllSure R.sure front.entry.now → AllSure R.sure front.exit.now }
+            ensures tells { (job : Job) → AllTell R.tells front.entry.now job
+                → AllTell R.tells front.exit.now job }
         { work_all::<B, F, W, R, G>(rt, line, gate, other, front) },
         &mut ||
             requires rows { IsSync W.row }
@@ -122,6 +128,8 @@ fn work_halves<
                 (sum_by R.count back.entry.now) (sum_by R.count back.exit.now)
                 (sum_by R.failures back.entry.now) (sum_by R.failures back.exit.now) }
             ensures sure { AllSure R.sure back.entry.now → AllSure R.sure back.exit.now }
+            ensures tells { (job : Job) → AllTell R.tells back.entry.now job
+                → AllTell R.tells back.exit.now job }
         { work_all::<B, F, W, R, G>(rt, line, gate, token, back) },
     );
 }
