@@ -12,6 +12,7 @@ use Rattle.flow_types.specs.declared.records.Record.{Record}
 use Rattle.flow_types.specs.Serial.{Contents, Function}
 use Rattle.run_history.specs.declared.answers.Check.{Check}
 use Rattle.run_history.specs.declared.moves.Move.{Move}
+use Rattle.run_history.specs.declared.options.Options.{Options}
 use Rattle.run_history.specs.Links.{records_of}
 use Rattle.outside.specs.Disk.{Outcomes}
 use Rattle.outside.specs.Files.{Files}
@@ -27,7 +28,14 @@ use Rattle.local_run.specs.declared.ended.Stopped.TheVariants as stopped
 use Rattle.local_run.specs.Course.{Closed, GoesOn, HaltsBy, IsBroken}
 use Rattle.local_run.specs.Ends.{IsSureHalt, StartEnds}
 use Rattle.local_run.specs.Runs.{HasCauses, IsCutRun, IsHallEnd, IsRefusedRun, ended_by}
-use Rattle.wq_run.specs.Ends.{AreBack, IsSparedRunners, StopsBy}
+use Rattle.wq_run.specs.Ends.{AreBack, EndsHere, EndsWaiting, IsSparedRunners, StopsBy}
+
+-- ---- of a run with workers
+
+-- an end at a desk, told by the records of its log
+pub waits_logged : (P : Plan) (O : Options) (limit rise : ℕ) (M : List Move) (how : Result Check Stopped) → IfOk how (EndsHere P O limit rise M) → IfOk how (EndsWaiting P O limit rise (records_of M))
+waits_logged P O limit rise M (Ok check) ends = ends.ends
+waits_logged P O limit rise M (Err why) ends = tt
 
 -- ---- of a run without workers
 
@@ -60,6 +68,7 @@ back_same {L} got given = record {
   more = [];
   are = sym (append-nil got);
   many = omega arith;
+  apart = λ k. omega arith;
 }
 
 -- a run that didn't start stopped by no runner

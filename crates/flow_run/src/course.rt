@@ -17,7 +17,7 @@ ghost use Rattle.local_run.specs.Ends.{BeganOver, FitsHere, HasFailed, IsApart, 
 ghost use Rattle.local_run.specs.Ends.{IsFresh, IsRunEnd, IsSureEnd, IsWholeRun, LogsFailures};
 ghost use Rattle.local_run.specs.Ends.{RunDamage, records_due};
 ghost use Rattle.local_run.specs.Runs.{IsClosedRun, IsCutRun, IsHallEnd, LosesNone, ended_by};
-ghost use Rattle.wq_run.specs.Ends.{AreBack, EndsWaiting, IsSparedRunners, LosesOnLinks, StopsBy};
+ghost use Rattle.wq_run.specs.Ends.{AreBack, EndsHere, IsSparedRunners, LosesOnLinks, StopsBy};
 
 use desk::{Desk, Terms};
 use links::Hall;
@@ -91,9 +91,9 @@ pub fn work<
     ensures never { AllSure R.sure runners.old → IsSparedRunners result }
     ensures lost_away { OnOk result
         (LosesOnLinks (records_of desk.old.moves) (records_of desk.new.moves)) }
-    ensures waited { desk.old.options.wq ≡ true → IfOk result (EndsWaiting desk.new.plan
+    ensures waited { desk.old.options.wq ≡ true → IfOk result (EndsHere desk.new.plan
         desk.new.options workers.limit (H.idle_count hall.new - H.idle_count hall.old)
-        (records_of desk.new.moves)) }
+        desk.new.moves) }
     ensures lost { desk.old.options.wq ≡ false
         → (began : List RecordValue) → BeganOver desk.old began
         → OnOk result (LosesNone (records_of desk.old.moves) (records_of desk.new.moves)) }

@@ -1,5 +1,5 @@
 -- What calls make of a company.
-use Rattle.std.proofs.Common.{◌≡◌, ◌≢◌, ◌+◌, ◌<◌, ◌⊎◌, inl, inr, ⊎_elim, ℕ, zero, suc, Bool, false, true, List, [], ◌∷◌, ◌++◌, Option, Some, None, Result, Ok, Err, drop, length, length-append, refl, sym, ap, ◌∙◌, subst, arith, true≢false}
+use Rattle.std.proofs.Common.{◌≡◌, ◌≢◌, ◌+◌, ◌<◌, ◌≤◌, ◌⊎◌, inl, inr, ⊎_elim, ℕ, zero, suc, Bool, false, true, List, [], ◌∷◌, ◌++◌, Option, Some, None, Result, Ok, Err, drop, length, length-append, refl, sym, ap, ◌∙◌, subst, arith, true≢false}
 use Rattle.std.specs.Prelude.{◌==◌, ◌||◌, is_some, nat_lt, remove, slice_get, slice_index_or, slice_set, unwrap_or}
 use Rattle.std.specs.List.{list_any}
 use Rattle.std.proofs.lemmas.Bool.{eq-eqb, ltb-true}
@@ -25,52 +25,90 @@ use Rattle.peers.specs.States.{PeerState, new_peer}
 use Rattle.local_run.specs.declared.halt.Halt.{Halt}
 use Rattle.local_run.specs.Beyond.{joined_by, left_by}
 use Rattle.local_run.specs.Underway.{AwayState, HeldState, NoneOn, Underway}
-use Rattle.wq_run.specs.Seats.{AreGuests, AreOn, AtPlace, CompanyState, IsGuest, IsManned, IsParting, IsPartingAt, IsUnseated, KeepsManned, Manned, Meets, Parts, PartsAt, SeatAfter, SeatState, SeatsAfter, Stays, gathered, links_in}
-use Rattle.wq_run.proofs.Counting.{meets_as, meets_none, meets_then}
+use Rattle.wq_run.specs.Seats.{AreGuests, AreOn, AtPlace, CompanyState, IsGuest, IsManned, IsParting, IsPartingAt, IsUnseated, KeepsManned, Manned, Meets, Parts, PartsAt, SeatAfter, SeatState, SeatsAfter, Stays, Inside, KeepsNumbers, gathered, inside_of, links_in, seats_under, with_hand}
+use Rattle.wq_run.proofs.Counting.{IsLike, meets_none, meets_then, numbers_back, numbers_like, numbers_lost, seated_as}
 use Rattle.wq_run.proofs.Shares.{from_place, to_seat}
 use Rattle.wq_run.proofs.Splits.{inside_length, rest_length, split_at}
 use Rattle.wq_run.proofs.Visits.{emptied, joins_none, joins_one, kept_whole, left_whole, none_there, visit_err, visit_ok}
 
 -- ---- counts, one behind another
 
-module _ {X : Type 0} where
-  pub same_met : {count : ℕ} {got : List X} {given idles inside : ℕ} {failed lost : Bool} → Meets count count got got given given idles idles inside inside failed failed lost lost
+module _ {L : Type 0} where
+  pub same_met : {count : ℕ} {got : List (Option LinkNo × L)} {given idles : ℕ} {inside : Inside} {failed lost : Bool} → Meets count count got got given given idles idles inside inside failed failed lost lost
   same_met {count} {got} {given} {idles} {inside} {failed} {lost} = meets_none count got given idles inside failed lost
 
-  pub met_then : {count count_mid count_now : ℕ} {got got_mid got_now : List X} {given given_mid given_now idles idles_mid idles_now inside inside_mid inside_now : ℕ} {failed failed_mid failed_now lost lost_mid lost_now : Bool}
+  pub met_then : {count count_mid count_now : ℕ} {got got_mid got_now : List (Option LinkNo × L)} {given given_mid given_now idles idles_mid idles_now : ℕ} {inside inside_mid inside_now : Inside} {failed failed_mid failed_now lost lost_mid lost_now : Bool}
       → Meets count count_mid got got_mid given given_mid idles idles_mid inside inside_mid failed failed_mid lost lost_mid
       → Meets count_mid count_now got_mid got_now given_mid given_now idles_mid idles_now inside_mid inside_now failed_mid failed_now lost_mid lost_now
       → Meets count count_now got got_now given given_now idles idles_now inside inside_now failed failed_now lost lost_now
   met_then one two = meets_then _ _ _ _ _ _ _ _ _ _ _ _ _ _ _ _ _ _ _ _ _ one two
 
-  pub met_as : {count count_now : ℕ} {got got_now : List X} {given given_now idles idles_now inside inside_now other other_now : ℕ} {failed failed_now lost lost_now : Bool} → other ≡ inside → other_now ≡ inside_now
-      → Meets count count_now got got_now given given_now idles idles_now inside inside_now failed failed_now lost lost_now → Meets count count_now got got_now given given_now idles idles_now other other_now failed failed_now lost lost_now
-  met_as same same_now met = meets_as _ _ _ _ _ _ _ _ _ _ _ _ _ _ _ _ same same_now met
-
   -- The hall is left alone.
-  pub still_met : {count : ℕ} {got : List X} {given idles inside inside_now : ℕ} {failed failed_now lost lost_now : Bool} → inside_now ≡ inside → failed_now ≡ failed → lost_now ≡ lost
+  pub still_met : {count : ℕ} {got : List (Option LinkNo × L)} {given idles : ℕ} {inside inside_now : Inside} {failed failed_now lost lost_now : Bool} → IsLike inside inside_now → failed_now ≡ failed → lost_now ≡ lost
       → Meets count count got got given given idles idles inside inside_now failed failed_now lost lost_now
-  still_met {count} {got} {given} {idles} {inside} {inside_now} {failed} {failed_now} {lost} {lost_now} same fails loses = record {
+  still_met {count} {got} {given} {idles} {inside} {inside_now} {failed} {failed_now} {lost} {lost_now} like fails loses = record {
+    later = omega arith;
+    idles_later = omega arith;
+    fails = λ is. inl (sym fails ∙ is);
+    counted = λ is. (sym loses ∙ is, record { more = []; are = sym (append-nil got); many = (let same = like.links in omega (arith, same)) });
+    numbers = numbers_like got inside inside_now like;
+  }
+
+  -- The same, where the link in hand got a seat.
+  pub seat_met : {count : ℕ} {got : List (Option LinkNo × L)} {given idles : ℕ} {inside inside_now : Inside} {failed failed_now lost lost_now : Bool} → inside_now.links ≡ inside.links → KeepsNumbers got got inside inside_now → failed_now ≡ failed → lost_now ≡ lost
+      → Meets count count got got given given idles idles inside inside_now failed failed_now lost lost_now
+  seat_met {count} {got} {given} {idles} {inside} {inside_now} {failed} {failed_now} {lost} {lost_now} same numbers fails loses = record {
     later = omega arith;
     idles_later = omega arith;
     fails = λ is. inl (sym fails ∙ is);
     counted = λ is. (sym loses ∙ is, record { more = []; are = sym (append-nil got); many = omega (arith, same) });
+    numbers = numbers;
   }
 
-  -- The same, with a link lost behind it.
-  pub lost_met : {count count_now : ℕ} {got got_now : List X} {given given_now idles idles_now inside inside_now other other_now : ℕ} {failed failed_mid failed_then failed_now lost lost_then was : Bool}
-      → Meets count count_now got got_now given given_now idles idles_now inside inside_now failed_mid failed_then lost lost_then → failed_now ≡ failed_then → failed_mid ≡ failed
+  -- What a call makes, with a link lost behind it.
+  pub lost_met : {count count_now : ℕ} {got got_now : List (Option LinkNo × L)} {given given_now idles idles_now : ℕ} {inside inside_now other other_now : Inside} {failed failed_mid failed_then failed_now lost lost_then was : Bool}
+      → Meets count count_now got got_now given given_now idles idles_now inside inside_now failed_mid failed_then lost lost_then → KeepsNumbers got got_now other other_now → failed_now ≡ failed_then → failed_mid ≡ failed
       → Meets count count_now got got_now given given_now idles idles_now other other_now failed failed_now was true
-  lost_met met now same = record {
+  lost_met met numbers now same = record {
     later = met.later;
     idles_later = met.idles_later;
     fails = λ is. ⊎_elim (λ before. inl (sym same ∙ before)) (λ rose. inr rose) (met.fails (sym now ∙ is));
     counted = λ is. absurd (true≢false is);
+    numbers = numbers;
   }
 
+-- A link was handed back.
+pub back_met : {L : Type 0} {count count_now : ℕ} {got got_now : List (Option LinkNo × L)} {given given_now idles idles_now : ℕ} {inside : Inside} {failed lost : Bool} (x : Option LinkNo × L) → count_now ≡ count → got_now ≡ got ++ (x ∷ []) → given_now ≡ given → idles_now ≡ idles
+    → Meets count count_now got got_now given given_now idles idles_now (with_hand x.0 inside) inside failed failed lost lost
+back_met {L} {count} {count_now} {got} {got_now} {given} {given_now} {idles} {idles_now} {inside} x counts gots givens idle =
+    let one : length (x ∷ []) ≡ 1 = refl in
+    record {
+      later = omega (arith, counts);
+      idles_later = omega (arith, idle);
+      fails = λ is. inl is;
+      counted = λ none. (none, record { more = x ∷ []; are = gots; many = omega (arith, one, givens) });
+      numbers = numbers_back got got_now inside x gots;
+    }
+
+-- A link was lost since it couldn't be handed back.
+pub unback_met : {L : Type 0} {count count_now : ℕ} {got got_now : List (Option LinkNo × L)} {given given_now idles idles_now : ℕ} {failed failed_now lost lost_now : Bool} (inside inside_now : Inside) (link : Option LinkNo) → count_now ≡ count → got_now ≡ got → idles_now ≡ idles
+    → inside_now.newest ≡ inside.newest → ((k : ℕ) → inside_now.numbered k ≤ inside.numbered k) → failed_now ≡ failed → lost_now ≡ true → Meets count count_now got got_now given given_now idles idles_now (with_hand link inside) inside_now failed failed_now lost lost_now
+unback_met {L} {count} {count_now} {got} {got_now} {given} {given_now} {idles} {idles_now} inside inside_now link counts gots idle newest fewer fails loses = record {
+  later = omega (arith, counts);
+  idles_later = omega (arith, idle);
+  fails = λ is. inl (sym fails ∙ is);
+  counted = λ none. absurd (true≢false (sym loses ∙ none));
+  numbers = numbers_lost got got_now inside inside_now link gots newest fewer;
+}
+
 -- The company is left alone.
-pub met_same : {X L : Type 0} {count : ℕ} {got : List X} {given idles : ℕ} {c c_now : CompanyState L} → c_now ≡ c → Meets count count got got given given idles idles (links_in c) (links_in c_now) c.failed c_now.failed c.lost c_now.lost
-met_same {X} {L} {count} {got} {given} {idles} {c} {c_now} same = still_met (ap (λ (x : CompanyState L). links_in x) same) (ap (λ (x : CompanyState L). x.failed) same) (ap (λ (x : CompanyState L). x.lost) same)
+pub met_same : {L : Type 0} {count : ℕ} {got : List (Option LinkNo × L)} {given idles : ℕ} {c c_now : CompanyState L} → c_now ≡ c → Meets count count got got given given idles idles (inside_of c) (inside_of c_now) c.failed c_now.failed c.lost c_now.lost
+met_same {L} {count} {got} {given} {idles} {c} {c_now} same =
+    still_met (record {
+      links = ap (λ (x : CompanyState L). links_in x) same;
+      fewer = λ k. let e = ap (λ (x : CompanyState L). seats_under k x.seats) same in omega (arith, e);
+      newest = ap (λ (x : CompanyState L). x.newest) same;
+    }) (ap (λ (x : CompanyState L). x.failed) same) (ap (λ (x : CompanyState L). x.lost) same)
 
 -- ---- guests and seats
 
@@ -297,6 +335,11 @@ module _ {S : Type 0} {trust : Type 0} {gives : Function} {may_fail : Job → Fa
 module _ {S : Type 0} (trust : Type 0) (gives : Function) (may_fail : Job → Failure → Type 0) (sources : Contents) (tells kept sure : Type 0) (files : S → Files) (may_leave : S → Outcomes) (moment : S → ℕ)
     (images_since : S → ℕ → Files → Type 0) where
   module _ {L A : Type 0} where
+    -- what a call makes of a seat keeps its number
+    pub link_stays : (d after : DeskState S) (held held_now : HeldState) (s s_now : SeatState L) (result : Result A Leave) → SeatAfter trust gives may_fail sources tells kept sure files may_leave moment images_since d after held held_now s s_now result → s_now.link ≡ s.link
+    link_stays d after held held_now s s_now (Ok x) keeps = keeps.stays.link
+    link_stays d after held held_now s s_now (Err leave) leaves = leaves.stays.link
+
     -- what a call makes of the seats by what it makes of one
     pub visited : (d after : DeskState S) (held held_now : HeldState) (seats seats_now : List (SeatState L)) (at : ℕ) (s s_now : SeatState L) (result : Result A Leave) → slice_get seats at ≡ Some s → seats_now ≡ slice_set seats at s_now
         → SeatAfter trust gives may_fail sources tells kept sure files may_leave moment images_since d after held held_now s s_now result
@@ -317,3 +360,9 @@ set_many xs at x y is =
     let many = length-append split.before (y ∷ split.behind) in
     let all = length-append split.before (x ∷ split.behind) in
     omega (arith, now, were, many, all)
+
+-- as many seats of each number as before
+pub set_seated : {L : Type 0} (xs : List (SeatState L)) (at : ℕ) (x y : SeatState L) → slice_get xs at ≡ Some x → y.link ≡ x.link → (k : ℕ) → seats_under k (slice_set xs at y) ≡ seats_under k xs
+set_seated xs at x y is same k =
+    let split = split_at xs at x is in
+    ap (seats_under k) (split.set y) ∙ seated_as k split.before split.behind x y same ∙ sym (ap (seats_under k) split.are)

@@ -17,6 +17,7 @@ use Rattle.run_history.specs.declared.answers.Check.TheVariants as checks
 use Rattle.run_history.specs.declared.answers.Stop.{Stop}
 use Rattle.run_history.specs.declared.answers.Stop.TheVariants as stops
 use Rattle.run_history.specs.declared.moves.Move.{Move}
+use Rattle.run_history.specs.declared.moves.Move.TheVariants as moves
 use Rattle.run_history.specs.declared.options.Options.{Options}
 use Rattle.run_history.specs.Answers.{before_end, end_of, end_over, failed_answer, has_ended, has_link, is_in_vain, is_waited_end, kind_of, last_why, log_full, logged_end, of_least, or_else, rule_no, stop_at_end, where_so, first_of, collected_count, passes_inputs, no_room, where_none}
 use Rattle.run_history.specs.History.{is_cleaned_kind, is_end, since_opening}
@@ -37,6 +38,7 @@ use Rattle.local_run.specs.declared.halt.Halt.{Halt}
 use Rattle.local_run.specs.declared.halt.Halt.TheVariants as halts
 use Rattle.local_run.specs.Course.{IsBroken}
 use Rattle.local_run.proofs.Closings.{ends_fine, is_broken}
+use Rattle.local_run.specs.Links.{link_moves}
 use Rattle.local_run.specs.Losses.{LosesAway}
 use Rattle.wq_run.specs.Ends.{IsOver, LosesOnLinks}
 use Rattle.wq_run.specs.Works.{EndsAt, HaltedBy, HasEnd}
@@ -90,6 +92,14 @@ lost_by {S} d moment (Some kind) after h = record {
   each = All-cons (LosesAway (records_of after.moves)) (records.Ended moment kind) [] tt (All-nil (LosesAway (records_of after.moves)));
 }
 
+-- the moves of an end are its record alone, or none
+abbrev EndsBeside : List Move → List Move → Type 0
+EndsBeside before all = (more : List Move) × (all ≡ before ++ more) × (link_moves more ≡ [])
+
+beside_by : {S : Type 0} (d : DeskState S) (moment : ℕ) (kind : Option EndKind) (after : DeskState S) → EndsBy kind d moment after → EndsBeside d.moves after.moves
+beside_by {S} d moment None after h = ([], ap (λ (a : DeskState S). a.moves) h ∙ sym (append-nil d.moves), refl)
+beside_by {S} d moment (Some kind) after h = (moves.Logged (records.Ended moment kind) ∷ [], ap (λ (a : DeskState S). a.moves) h, refl)
+
 -- an end that was reached
 pub ends_at : {S : Type 0} (count : S → ℕ) (d : DeskState S) (moment : ℕ) (check : Check) (after : DeskState S) → has_ended (records_of d.moves) ≡ false → IsOver check → Ends count d moment (Ok check) after
     → EndsAt after d.moves d.stop check
@@ -97,6 +107,7 @@ ends_at {S} count d moment check after unended over h =
     let H = records_of d.moves in
     let answer = end_of d.plan d.options d.moves d.stop in
     let kept = kind_same d moment (logged_end d.plan d.options d.moves d.stop) after h.2 in
+    let beside = beside_by d moment (logged_end d.plan d.options d.moves d.stop) after h.2 in
     let logged : H ≡ before_end (records_of after.moves) = logged_by d moment (logged_end d.plan d.options d.moves d.stop) after (λ k is. logged_not_cleaned answer (has_ended H) k is) unended h.2 in
     record {
       logged = logged;
@@ -105,6 +116,9 @@ ends_at {S} count d moment check after unended over h =
           ∙ sym (ap (λ (P : Plan). end_over P d.options (before_end (records_of after.moves)) d.stop) kept.0)
           ∙ sym (ap (λ (O : Options). end_over after.plan O (before_end (records_of after.moves)) d.stop) kept.1);
       over = over;
+      more = beside.0;
+      are = beside.1;
+      none = beside.2;
       lost = lost_by d moment (logged_end d.plan d.options d.moves d.stop) after h.2;
     }
 

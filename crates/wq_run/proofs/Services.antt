@@ -1,4 +1,5 @@
 -- What a service comes to, from its beginning to its end.
+use Rattle.flow_types.specs.declared.numbers.LinkNo.{LinkNo}
 use Rattle.std.proofs.Common.{◌≡◌, ◌≤◌, ◌+◌, ◌∙◌, ℕ, Bool, List, [], ◌∷◌, length, Option, Some, None, Result, Ok, Err, refl, sym, ap, subst, arith}
 use Rattle.flow_types.specs.declared.job.Job.{Job}
 use Rattle.flow_types.specs.declared.job.Failure.{Failure}
@@ -19,27 +20,27 @@ use Rattle.local_run.specs.Course.{IsHalt}
 use Rattle.local_run.specs.Underway.{AwayState, ComesTo, HeldState, Underway, none_away, settled}
 use Rattle.local_run.proofs.RunsServed.{begins_at, comes_want}
 use Rattle.wq_run.specs.Comes.{ComesOn, Finished}
-use Rattle.wq_run.specs.Seats.{AreSeats, CompanyState, Manned, Meets, SeatState, gathered, links_in}
+use Rattle.wq_run.specs.Seats.{AreSeats, CompanyState, Manned, Meets, SeatState, gathered, Inside, inside_of}
 use Rattle.wq_run.proofs.Counting.{meets_none, meets_then}
 use Rattle.wq_run.proofs.Shares.{manned_on}
 
 -- ---- what calls make of the hall, with all but the facts found by the checker
 
-pub met_none : {X : Type 0} {count : ℕ} {got : List X} {given idles inside : ℕ} {failed lost : Bool} → Meets count count got got given given idles idles inside inside failed failed lost lost
+pub met_none : {L : Type 0} {count : ℕ} {got : List (Option LinkNo × L)} {given idles : ℕ} {inside : Inside} {failed lost : Bool} → Meets count count got got given given idles idles inside inside failed failed lost lost
 met_none = meets_none _ _ _ _ _ _ _
 
-pub met_then : {X : Type 0} {count count_mid count_now : ℕ} {got got_mid got_now : List X} {given given_mid given_now idles idles_mid idles_now inside inside_mid inside_now : ℕ} {failed failed_mid failed_now lost lost_mid lost_now : Bool}
+pub met_then : {L : Type 0} {count count_mid count_now : ℕ} {got got_mid got_now : List (Option LinkNo × L)} {given given_mid given_now idles idles_mid idles_now : ℕ} {inside inside_mid inside_now : Inside} {failed failed_mid failed_now lost lost_mid lost_now : Bool}
     → Meets count count_mid got got_mid given given_mid idles idles_mid inside inside_mid failed failed_mid lost lost_mid
     → Meets count_mid count_now got_mid got_now given_mid given_now idles_mid idles_now inside_mid inside_now failed_mid failed_now lost_mid lost_now
     → Meets count count_now got got_now given given_now idles idles_now inside inside_now failed failed_now lost lost_now
 met_then one two = meets_then _ _ _ _ _ _ _ _ _ _ _ _ _ _ _ _ _ _ _ _ _ one two
 
 -- the same company by another name
-pub met_same : {L X : Type 0} {count count_now : ℕ} {got got_now : List X} {given given_now idles idles_now inside : ℕ} {failed lost : Bool} (mid after : CompanyState L) → after ≡ mid
-    → Meets count count_now got got_now given given_now idles idles_now inside (links_in mid) failed mid.failed lost mid.lost
-    → Meets count count_now got got_now given given_now idles idles_now inside (links_in after) failed after.failed lost after.lost
-met_same {L} {X} {count} {count_now} {got} {got_now} {given} {given_now} {idles} {idles_now} {inside} {failed} {lost} mid after same m =
-    subst (λ (x : CompanyState L). Meets count count_now got got_now given given_now idles idles_now inside (links_in x) failed x.failed lost x.lost) (sym same) m
+pub met_same : {L : Type 0} {count count_now : ℕ} {got got_now : List (Option LinkNo × L)} {given given_now idles idles_now : ℕ} {inside : Inside} {failed lost : Bool} (mid after : CompanyState L) → after ≡ mid
+    → Meets count count_now got got_now given given_now idles idles_now inside (inside_of mid) failed mid.failed lost mid.lost
+    → Meets count count_now got got_now given given_now idles idles_now inside (inside_of after) failed after.failed lost after.lost
+met_same {L} {count} {count_now} {got} {got_now} {given} {given_now} {idles} {idles_now} {inside} {failed} {lost} mid after same m =
+    subst (λ (x : CompanyState L). Meets count count_now got got_now given given_now idles idles_now inside (inside_of x) failed x.failed lost x.lost) (sym same) m
 
 -- no more jobs weren't run than the runners counted
 pub counted_more : (heard put : Tally) (count count_now failures failures_now : ℕ) → IsWithin heard put → GrowsWith none put count count_now failures failures_now → (heard.unrun + count ≤ count_now) × (failures ≤ failures_now)

@@ -7,6 +7,8 @@ use Rattle.flow_types.specs.declared.plan.Plan.{Plan}
 use Rattle.flow_types.specs.declared.job.Job.{Job}
 use Rattle.flow_types.specs.declared.job.Failure.{Failure}
 use Rattle.flow_types.specs.declared.records.Record.{Record}
+use Rattle.flow_types.specs.declared.numbers.LinkNo.{LinkNo}
+use Rattle.std.proofs.lemmas.List.Sums.{sum_by-append}
 use Rattle.flow_types.specs.Plans.{IsValid}
 use Rattle.flow_types.specs.Serial.{Contents, Function}
 use Rattle.run_history.specs.declared.answers.Check.{Check}
@@ -35,10 +37,10 @@ use Rattle.wq_run.specs.declared.rounds.Turn.{Turn}
 use Rattle.wq_run.specs.declared.rounds.Turn.TheVariants as turns
 use Rattle.wq_run.specs.Comes.{ComesOn}
 use Rattle.local_run.specs.Ends.{IsApart, IsWholeRun, RunDamage}
-use Rattle.wq_run.specs.Ends.{AreBack, EndsWaiting, IsSparedRunners, IsVain, LosesOnLinks, StopsBy}
+use Rattle.wq_run.specs.Ends.{AreBack, EndsHere, EndsWaiting, IsSparedRunners, IsVain, LosesOnLinks, StopsBy}
 use Rattle.local_run.specs.Links.{link_moves}
 use Rattle.wq_run.proofs.Shares.{seats_live}
-use Rattle.wq_run.specs.Seats.{AreSeats, CompanyState, Meets, SeatState, links_in}
+use Rattle.wq_run.specs.Seats.{AreSeats, CompanyState, Meets, SeatState, back_under, inside_of, links_in, one_under, seats_under}
 use Rattle.peers.specs.States.{PeerState}
 use Rattle.wq_run.specs.Works.{EndedBy, EndsAt, EndsNow, HaltedBy, HasEnd, IsOn, Rounds, TurnsTo, Works, with_check}
 use Rattle.wq_run.proofs.Services.{halt_by_count}
@@ -56,7 +58,7 @@ vain_more P O M limit rise more None less h = tt
 vain_more P O M limit rise more (Some (stops.Waited idles)) less h = (h.0, (let few = h.1 in omega (arith, few, less)), h.2)
 vain_more P O M limit rise more (Some stops.Halt) less h = h
 
-waiting_more : (P : Plan) (O : Options) (limit rise more : ℕ) (all : List Record) (check : Check) → rise ≤ more → EndsWaiting P O limit rise all check → EndsWaiting P O limit more all check
+abbrev waiting_more : (P : Plan) (O : Options) (limit rise more : ℕ) (all : List Record) (check : Check) → rise ≤ more → EndsWaiting P O limit rise all check → EndsWaiting P O limit more all check
 waiting_more P O limit rise more all check less e = record {
   moves = e.moves;
   logged = e.logged;
@@ -64,6 +66,14 @@ waiting_more P O limit rise more all check less e = record {
   vain = vain_more P O e.moves limit rise more e.stop less e.vain;
   answer = e.answer;
   over = e.over;
+}
+
+here_more : (P : Plan) (O : Options) (limit rise more : ℕ) (all : List Move) (check : Check) → rise ≤ more → EndsHere P O limit rise all check → EndsHere P O limit more all check
+here_more P O limit rise more all check less e = record {
+  ends = waiting_more P O limit rise more (records_of all) check less e.ends;
+  more = e.more;
+  are = e.are;
+  none = e.none;
 }
 
 -- ---- what a stop for waiting sets
@@ -125,7 +135,7 @@ module _ {S : Type 0} (trust : Type 0) (gives : Function) (may_fail : Job → Fa
   ended_more : (sure more : Type 0) (limit : ℕ) (after : DeskState S) (count count_mid count_now hall hall_mid hall_now idles idles_mid idles_now : ℕ) (result : Result Check Stopped) → (more → sure) → count ≤ count_mid → hall ≤ hall_mid → idles ≤ idles_mid
       → EndedBy tells kept sure files limit after count_mid count_now hall_mid hall_now idles_mid idles_now result → EndedBy tells kept more files limit after count count_now hall hall_now idles idles_now result
   ended_more sure more limit after count count_mid count_now hall hall_mid hall_now idles idles_mid idles_now (Ok check) so c m i h =
-      (h.0, waiting_more after.plan after.options limit (idles_now - idles_mid) (idles_now - idles) (records_of after.moves) check (omega (arith, i)) h.1)
+      (h.0, here_more after.plan after.options limit (idles_now - idles_mid) (idles_now - idles) after.moves check (omega (arith, i)) h.1)
   ended_more sure more limit after count count_mid count_now hall hall_mid hall_now idles idles_mid idles_now (Err (stopped.Refused why)) so c m i h = h
   ended_more sure more limit after count count_mid count_now hall hall_mid hall_now idles idles_mid idles_now (Err (stopped.Halted why)) so c m i h = halted_later sure more after count count_mid count_now why so c h
   ended_more sure more limit after count count_mid count_now hall hall_mid hall_now idles idles_mid idles_now (Err stopped.Hall) so c m i h = (h.0, (let rose = h.1 in omega (arith, rose, m)))
@@ -185,12 +195,17 @@ module _ {S : Type 0} (trust : Type 0) (gives : Function) (may_fail : Job → Fa
           (
             ends.ends.0,
             record {
-              moves = mid.moves;
-              logged = ends.ends.2.logged;
-              stop = None;
-              vain = tt;
-              answer = ends.ends.2.answer ∙ ap (λ (k : Option Stop). end_over after.plan after.options (before_end (records_of after.moves)) k) unset;
-              over = ends.ends.2.over;
+              ends = record {
+                moves = mid.moves;
+                logged = ends.ends.2.logged;
+                stop = None;
+                vain = tt;
+                answer = ends.ends.2.answer ∙ ap (λ (k : Option Stop). end_over after.plan after.options (before_end (records_of after.moves)) k) unset;
+                over = ends.ends.2.over;
+              };
+              more = ends.ends.2.more;
+              are = ends.ends.2.are;
+              none = ends.ends.2.none;
             },
           ),
         );
@@ -331,12 +346,17 @@ module _ {S : Type 0} (trust : Type 0) (gives : Function) (may_fail : Job → Fa
   waits_by sure limit n d mid after count count_now hall hall_now idles idles_now (Ok check) goes h vain most few less = (
     h.0,
     record {
-      moves = mid.moves;
-      logged = h.2.logged;
-      stop = Some (stops.Waited n);
-      vain = (most, few, subst (λ (P : Plan). is_in_vain P after.options mid.moves ≡ true) (sym goes.plan) (subst (λ (O : Options). is_in_vain mid.plan O mid.moves ≡ true) (sym goes.options) vain));
-      answer = h.2.answer;
-      over = h.2.over;
+      ends = record {
+        moves = mid.moves;
+        logged = h.2.logged;
+        stop = Some (stops.Waited n);
+        vain = (most, few, subst (λ (P : Plan). is_in_vain P after.options mid.moves ≡ true) (sym goes.plan) (subst (λ (O : Options). is_in_vain mid.plan O mid.moves ≡ true) (sym goes.options) vain));
+        answer = h.2.answer;
+        over = h.2.over;
+      };
+      more = h.2.more;
+      are = h.2.are;
+      none = h.2.none;
     },
   )
   waits_by sure limit n d mid after count count_now hall hall_now idles idles_now (Err why) goes h vain most few less =
@@ -410,20 +430,29 @@ module _ {S : Type 0} (tells kept sure : Type 0) (files : S → Files) (limit : 
   spared_by (Err (stopped.Halted halts.Memory)) h is = tt
   spared_by (Err stopped.Hall) h is = tt
 
-  pub ends_by_waiting : (first last : ℕ) (result : Result Check Stopped) → first ≤ idles → idles_now ≤ last → EndBySure result → IfOk result (EndsWaiting now.plan now.options limit (last - first) (records_of now.moves))
-  ends_by_waiting first last (Ok check) before later h = waiting_more now.plan now.options limit (idles_now - idles) (last - first) (records_of now.moves) check (omega (arith, before, later)) h.1
+  pub ends_by_waiting : (first last : ℕ) (result : Result Check Stopped) → first ≤ idles → idles_now ≤ last → EndBySure result → IfOk result (EndsHere now.plan now.options limit (last - first) now.moves)
+  ends_by_waiting first last (Ok check) before later h = here_more now.plan now.options limit (idles_now - idles) (last - first) now.moves check (omega (arith, before, later)) h.1
   ends_by_waiting first last (Err why) before later h = tt
 
 -- all links were handed back
-pub are_back : {L X : Type 0} (count count_now : ℕ) (got got_now : List X) (given given_now idles idles_now : ℕ) (c after : CompanyState L) → after.seats ≡ [] → after.guests ≡ [] → links_in c ≡ 0 → after.lost ≡ false
-    → Meets count count_now got got_now given given_now idles idles_now (links_in c) (links_in after) c.failed after.failed c.lost after.lost
-    → (more : List X) × (got_now ≡ got ++ more) × (length more + given ≡ given_now)
-are_back {L} count count_now got got_now given given_now idles idles_now c after seats guests empty kept m =
+pub are_back : {L : Type 0} (count count_now : ℕ) (got got_now : List (Option LinkNo × L)) (given given_now idles idles_now : ℕ) (c after : CompanyState L) → after.seats ≡ [] → after.guests ≡ [] → c.seats ≡ [] → links_in c ≡ 0 → after.lost ≡ false
+    → Meets count count_now got got_now given given_now idles idles_now (inside_of c) (inside_of after) c.failed after.failed c.lost after.lost
+    → AreBack got got_now given given_now
+are_back {L} count count_now got got_now given given_now idles idles_now c after seats guests none empty kept m =
     let all = (m.counted kept).1 in
     let many = all.many in
     let zero_seats = ap (λ (xs : List (SeatState L)). length xs) seats in
     let zero_guests = ap (λ (xs : List (PeerState L)). length xs) guests in
-    (all.more, all.are, omega (arith, many, zero_seats, zero_guests, empty))
+    record {
+      more = all.more;
+      are = all.are;
+      many = omega (arith, many, zero_seats, zero_guests, empty);
+      apart = λ k.
+          let once = m.numbers.once k in
+          let first = ap (seats_under k) none in
+          let sums = ap (back_under k) all.are ∙ sum_by-append (λ (x : Option LinkNo × L). one_under k x.0) got all.more in
+          omega (arith, once, first, sums);
+    }
 
 module _ {S : Type 0} (trust : Type 0) (gives : Function) (may_fail : Job → Failure → Type 0) (sources : Contents) (tells : Type 0) (files : S → Files) (may_leave : S → Outcomes) (moment : S → ℕ)
     (images_since : S → ℕ → Files → Type 0) (d after : DeskState S) (goes : GoesOn trust gives may_fail sources tells files may_leave moment images_since [] d after) where

@@ -1,5 +1,5 @@
 -- How a run with workers ends.
-use Rattle.std.specs.Prelude.{◌≡◌, ◌≤◌, ◌<◌, ◌+◌, ℕ, true, List, ◌++◌, length, Option, Some, None, Result, Ok, Err, All}
+use Rattle.std.specs.Prelude.{◌≡◌, ◌≤◌, ◌<◌, ◌+◌, ℕ, true, List, [], ◌++◌, length, Option, Some, None, Result, Ok, Err, All}
 use Rattle.flow_types.specs.declared.numbers.LinkNo.{LinkNo}
 use Rattle.flow_types.specs.declared.plan.Plan.{Plan}
 use Rattle.flow_types.specs.declared.records.Record.{Record}
@@ -17,6 +17,8 @@ use Rattle.local_run.specs.declared.ended.Stopped.{Stopped}
 use Rattle.local_run.specs.declared.ended.Stopped.TheVariants as stopped
 use Rattle.local_run.specs.declared.halt.Halt.TheVariants as halts
 use Rattle.local_run.specs.Course.{IsHalt}
+use Rattle.local_run.specs.Links.{link_moves}
+use Rattle.wq_run.specs.Seats.{back_under}
 use Rattle.local_run.specs.Losses.{LosesAway}
 
 -- Why a run that was started stopped, where it did, by what the desk and the counts of the faults of its runners and of its hall are then.
@@ -58,8 +60,16 @@ pub record EndsWaiting (P : Plan) (O : Options) (limit rise : ℕ) (all : List R
   pub answer : check ≡ end_over P O (before_end all) stop
   pub over : IsOver check
 
--- As many links were handed back as were given.
+-- How a run with workers ends at a desk with all these moves: what it ends by, and waits in vain by, are the desk's own moves before those of its end, among which no link came or left.
+pub record EndsHere (P : Plan) (O : Options) (limit rise : ℕ) (all : List Move) (check : Check) : Type 0 where
+  pub ends : EndsWaiting P O limit rise (records_of all) check
+  pub more : List Move
+  pub are : all ≡ ends.moves ++ more
+  pub none : link_moves more ≡ []
+
+-- As many links were handed back as were given, and no two under one number.
 pub record AreBack {L : Type 0} (got got_now : List (Option LinkNo × L)) (given given_now : ℕ) : Type 0 where
   pub more : List (Option LinkNo × L)
   pub are : got_now ≡ got ++ more
   pub many : length more + given ≡ given_now
+  pub apart : (k : ℕ) → back_under k more ≤ 1

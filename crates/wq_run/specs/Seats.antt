@@ -1,5 +1,5 @@
 -- Workers that joined, each with the attempts that run there, as the run has them.
-use Rattle.std.specs.Prelude.{◌≡◌, ◌≢◌, ◌≤◌, ◌<◌, ◌+◌, ◌⊎◌, ℕ, Bool, true, false, List, [], ◌∷◌, ◌++◌, Option, Some, None, Result, Ok, Err, length, map, slice_get}
+use Rattle.std.specs.Prelude.{◌==◌, cond, sum_by, ◌≡◌, ◌≢◌, ◌≤◌, ◌<◌, ◌+◌, ◌⊎◌, ℕ, Bool, true, false, List, [], ◌∷◌, ◌++◌, Option, Some, None, Result, Ok, Err, length, map, slice_get}
 use Rattle.std.specs.List.{AllByRecursion}
 use Rattle.flow_types.specs.declared.plan.Plan.{Plan}
 use Rattle.flow_types.specs.declared.plan.Rule.{Rule}
@@ -187,16 +187,44 @@ KeepsManned {S} trust gives may_fail sources tells kept sure files may_leave mom
 
 -- ---- those that the run has
 
--- The seats, the peers that came and haven't joined yet, whether the place where peers come failed, and whether a link was lost for want of memory.
+-- The seats, the peers that came and haven't joined yet, whether the place where peers come failed, whether a link was lost for want of memory, and the highest number of a link that was seated.
 pub record CompanyState (L : Type 0) : Type 0 where
   pub seats : List (SeatState L)
   pub guests : List (PeerState L)
   pub failed : Bool
   pub lost : Bool
+  pub newest : ℕ
 
 -- how many links it has
 abbrev pub links_in : {L : Type 0} → CompanyState L → ℕ
 links_in c = length c.seats + length c.guests
+
+-- one where the link has this number, and else nothing
+abbrev pub one_under : ℕ → Option LinkNo → ℕ
+one_under k None = 0
+one_under k (Some link) = cond (link.0 == k) 1 0
+
+-- how many of the seats have a link of this number
+abbrev pub seats_under : {L : Type 0} → ℕ → List (SeatState L) → ℕ
+seats_under k seats = sum_by (λ s. one_under k (Some s.link)) seats
+
+-- how many of the links were handed back under this number
+abbrev pub back_under : {L : Type 0} → ℕ → List (Option LinkNo × L) → ℕ
+back_under k got = sum_by (λ x. one_under k x.0) got
+
+-- The links that a run has: how many, how many under each number, and the highest number so far.
+pub record Inside : Type 0 where
+  pub links : ℕ
+  pub numbered : ℕ → ℕ
+  pub newest : ℕ
+
+-- those of a company
+abbrev pub inside_of : {L : Type 0} → CompanyState L → Inside
+inside_of c = record { links = links_in c; numbered = λ k. seats_under k c.seats; newest = c.newest }
+
+-- these and one in hand, under its number if it has one
+abbrev pub with_hand : Option LinkNo → Inside → Inside
+with_hand link i = record { links = i.links + 1; numbered = λ k. i.numbered k + one_under k link; newest = i.newest }
 
 -- Nothing is open at a peer that hasn't joined, and it can be heard.
 pub record IsGuest {L : Type 0} (p : PeerState L) : Type 0 where
@@ -213,12 +241,24 @@ pub record KeepsCount {X : Type 0} (got got_now : List X) (given given_now insid
   pub are : got_now ≡ got ++ more
   pub many : length more + inside_now + given ≡ given_now + inside
 
--- What a call makes of the hall, by its counts and the links that were handed back, and of the number of links that the run has and of its two marks.
-pub record Meets {X : Type 0} (count count_now : ℕ) (got got_now : List X) (given given_now idles idles_now inside inside_now : ℕ) (failed failed_now lost lost_now : Bool) : Type 0 where
+-- how many links have this number, of those that were handed back and those that the run has
+abbrev pub there : {L : Type 0} → ℕ → List (Option LinkNo × L) → Inside → ℕ
+there k got i = back_under k got + i.numbered k
+
+-- A link comes under a number once at most, and under one beyond the highest so far; so none is handed back twice under one.
+pub record KeepsNumbers {L : Type 0} (got got_now : List (Option LinkNo × L)) (inside inside_now : Inside) : Type 0 where
+  pub newest : inside.newest ≤ inside_now.newest
+  pub old : (k : ℕ) → k ≤ inside.newest → there k got_now inside_now ≤ there k got inside
+  pub once : (k : ℕ) → there k got_now inside_now ≤ there k got inside + 1
+  pub beyond : (k : ℕ) → inside_now.newest < k → there k got_now inside_now ≤ there k got inside
+
+-- What a call makes of the hall, by its counts and the links that were handed back, and of the links that the run has and of its two marks.
+pub record Meets {L : Type 0} (count count_now : ℕ) (got got_now : List (Option LinkNo × L)) (given given_now idles idles_now : ℕ) (inside inside_now : Inside) (failed failed_now lost lost_now : Bool) : Type 0 where
   pub later : count ≤ count_now
   pub idles_later : idles ≤ idles_now
   pub fails : failed_now ≡ true → (failed ≡ true) ⊎ (count < count_now)
-  pub counted : lost_now ≡ false → (lost ≡ false) × KeepsCount got got_now given given_now inside inside_now
+  pub counted : lost_now ≡ false → (lost ≡ false) × KeepsCount got got_now given given_now inside.links inside_now.links
+  pub numbers : KeepsNumbers got got_now inside inside_now
 
 -- A seat that is to be left, and the others before and behind it.
 pub record Parts {S L : Type 0} (trust : Type 0) (gives : Function) (may_fail : Job → Failure → Type 0) (sources : Contents) (tells kept sure : Type 0) (files : S → Files) (may_leave : S → Outcomes) (moment : S → ℕ)

@@ -1,5 +1,5 @@
 -- What rounds of a run with workers come to.
-use Rattle.std.specs.Prelude.{◌≡◌, ◌≤◌, ◌<◌, ◌-◌, ℕ, false, List, [], length, Option, Some, None, Result, Ok, Err, OnOk}
+use Rattle.std.specs.Prelude.{◌≡◌, ◌≤◌, ◌<◌, ◌-◌, ℕ, false, List, [], ◌++◌, length, Option, Some, None, Result, Ok, Err, OnOk}
 use Rattle.flow_types.specs.declared.job.Job.{Job}
 use Rattle.flow_types.specs.declared.job.Failure.{Failure}
 use Rattle.flow_types.specs.Serial.{Contents, Function}
@@ -17,9 +17,10 @@ use Rattle.local_run.specs.declared.ended.Stopped.TheVariants as stopped
 use Rattle.local_run.specs.declared.halt.Halt.{Halt}
 use Rattle.local_run.specs.Course.{GoesOn, IsHalt}
 use Rattle.local_run.specs.Ends.{IsApart, IsFoundDamaged, IsSureHalt, IsWholeHalt}
+use Rattle.local_run.specs.Links.{link_moves}
 use Rattle.wq_run.specs.declared.rounds.Turn.{Turn}
 use Rattle.wq_run.specs.declared.rounds.Turn.TheVariants as turns
-use Rattle.wq_run.specs.Ends.{EndsWaiting, IsOver, LosesOnLinks}
+use Rattle.wq_run.specs.Ends.{EndsHere, IsOver, LosesOnLinks}
 
 -- Nothing stopped the run, and it hasn't ended.
 pub record IsOn {S : Type 0} (now : DeskState S) : Type 0 where
@@ -37,7 +38,7 @@ pub record HaltedBy {S : Type 0} (tells kept sure : Type 0) (files : S → Files
 -- How a run ended, or why it stopped.
 abbrev pub EndedBy : {S : Type 0} → Type 0 → Type 0 → Type 0 → (S → Files) → ℕ → DeskState S → ℕ → ℕ → ℕ → ℕ → ℕ → ℕ → Result Check Stopped → Type 0
 EndedBy tells kept sure files limit now count count_now hall hall_now idles idles_now (Ok check) =
-    IsFine now.trouble × EndsWaiting now.plan now.options limit (idles_now - idles) (records_of now.moves) check
+    IsFine now.trouble × EndsHere now.plan now.options limit (idles_now - idles) now.moves check
 EndedBy tells kept sure files limit now count count_now hall hall_now idles idles_now (Err (stopped.Refused why)) = ⊥
 EndedBy tells kept sure files limit now count count_now hall hall_now idles idles_now (Err (stopped.Halted halt)) =
     HaltedBy tells kept sure files now count count_now halt
@@ -77,11 +78,14 @@ pub record Works {S : Type 0} (trust : Type 0) (gives : Function) (may_fail : Jo
   pub ended : EndedBy tells kept sure files limit after count count_now hall hall_now idles idles_now result
   pub lost : OnOk result (LosesOnLinks (records_of d.moves) (records_of after.moves))
 
--- The answer of an end, by the moves and the stop that it found: the records behind it are theirs and perhaps the end.
+-- The answer of an end, by the moves and the stop that it found: behind it stand these moves and perhaps the end.
 pub record EndsAt {S : Type 0} (after : DeskState S) (moves : List Move) (stop : Option Stop) (check : Check) : Type 0 where
   pub logged : records_of moves ≡ before_end (records_of after.moves)
   pub answer : check ≡ end_over after.plan after.options (before_end (records_of after.moves)) stop
   pub over : IsOver check
+  pub more : List Move
+  pub are : after.moves ≡ moves ++ more
+  pub none : link_moves more ≡ []
   pub lost : LosesOnLinks (records_of moves) (records_of after.moves)
 
 -- What an end made of the desk, by what it tells.

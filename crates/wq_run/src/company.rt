@@ -1,5 +1,5 @@
 //! All workers of a run.
-ghost use Rattle.std.specs.Prelude.{◌≡◌, [], false, true};
+ghost use Rattle.std.specs.Prelude.{◌≡◌, ◌<◌, [], false, true};
 ghost use Rattle.wq_run.specs.Seats.{IsUnseated, gathered};
 
 mod guests;
@@ -32,6 +32,8 @@ pub(crate) struct Company<F: Commands, L: Link<F>> {
     busy: u32,
     // How many moves the desk had when no claim gave a rule.
     quiet: u64,
+    // The highest number of a link that was seated.
+    newest: u32,
 }
 
 impl<F: Commands, L: Link<F>> Model for Company<F, L> {
@@ -44,6 +46,7 @@ impl<F: Commands, L: Link<F>> Model for Company<F, L> {
       guests = c.guests.items;
       failed = c.failed;
       lost = c.lost;
+      newest = c.newest;
     } };
 
     ghost invariant = { λ c. AreGuests c.guests.items };
@@ -52,7 +55,13 @@ impl<F: Commands, L: Link<F>> Model for Company<F, L> {
 impl<F: Commands, L: Link<F>> Company<F, L> {
     /// Nobody has come.
     pub fn new(alloc: Global) -> Company<F, L>
-        ensures { result ≡ record { seats = []; guests = []; failed = false; lost = false } }
+        ensures { result ≡ record {
+          seats = [];
+          guests = [];
+          failed = false;
+          lost = false;
+          newest = 0;
+        } }
     {
         Company {
             seats: Vec::new(alloc),
@@ -62,6 +71,7 @@ impl<F: Commands, L: Link<F>> Company<F, L> {
             looks: 0,
             busy: 0,
             quiet: u64::MAX,
+            newest: 0,
         }
     }
 
@@ -120,8 +130,17 @@ impl<F: Commands, L: Link<F>> Company<F, L> {
             looks: _,
             busy: _,
             quiet: _,
+            newest: _,
         } = self;
         seats.destroy_empty();
+    }
+
+    // Whether a link of this number may be seated: it is beyond all that were, and no seat has it.
+    fn takes(&self, link: LinkNo) -> bool
+        ensures unseated { result ≡ true → IsUnseated link.0 self.now.seats }
+        ensures beyond { result ≡ true → self.now.newest < link.0 }
+    {
+        link.0 > self.newest && !self.has(link)
     }
 
     // Whether a seat has this link.

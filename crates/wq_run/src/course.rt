@@ -11,7 +11,7 @@ ghost use Rattle.desk.specs.State.{IsFine};
 ghost use Rattle.local_run.specs.Course.{GoesOn};
 ghost use Rattle.local_run.specs.Ends.{IsApart, IsWholeRun, RunDamage};
 ghost use Rattle.local_run.specs.Runs.{IsCutRun};
-ghost use Rattle.wq_run.specs.Ends.{AreBack, EndsWaiting, IsSparedRunners, LosesOnLinks, StopsBy};
+ghost use Rattle.wq_run.specs.Ends.{AreBack, EndsHere, IsSparedRunners, LosesOnLinks, StopsBy};
 
 use crate::company::{Company, disband};
 use crate::rounds::run_all;
@@ -69,8 +69,8 @@ pub fn work<
     ensures never { AllSure R.sure runners.old → IsSparedRunners result }
     ensures lost { OnOk result
         (LosesOnLinks (records_of desk.old.moves) (records_of desk.new.moves)) }
-    ensures ends { IfOk result (EndsWaiting desk.new.plan desk.new.options workers.limit
-        (H.idle_count hall.new - H.idle_count hall.old) (records_of desk.new.moves)) }
+    ensures ends { IfOk result (EndsHere desk.new.plan desk.new.options workers.limit
+        (H.idle_count hall.new - H.idle_count hall.old) desk.new.moves) }
     ensures back { (IsCutRun result → ⊥)
         → AreBack (H.got hall.old) (H.got hall.new) (H.given hall.old) (H.given hall.new) }
 {

@@ -6,7 +6,7 @@ ghost use Rattle.worker_pool.specs.declared.hand.Tally.{Tally};
 ghost use Rattle.desk.specs.State.{DeskState};
 ghost use Rattle.local_run.specs.Underway.{IsSurePool};
 ghost use Rattle.wq_run.specs.Comes.{Finished};
-ghost use Rattle.wq_run.specs.Seats.{IsManned, Manned, Meets, links_in};
+ghost use Rattle.wq_run.specs.Seats.{IsManned, Manned, Meets, inside_of};
 
 use crate::company::{Company, dismiss};
 use desk::{Desk, Terms};
@@ -40,7 +40,7 @@ pub(crate) fn finish<B: PoolTerms, F: Commands, S: Site, H: Hall<F>, T: Terms, C
     ensures listens { H.listens hall.old → H.listens hall.new }
     ensures met { Meets (H.count hall.old) (H.count hall.new) (H.got hall.old)
         (H.got hall.new) (H.given hall.old) (H.given hall.new) (H.idle_count hall.old)
-        (H.idle_count hall.new) (links_in company.old) (links_in company.new)
+        (H.idle_count hall.new) (inside_of company.old) (inside_of company.new)
         company.old.failed company.new.failed company.old.lost company.new.lost }
 {
     let mut held = held;

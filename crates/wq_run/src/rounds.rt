@@ -8,7 +8,7 @@ ghost use Rattle.run_history.specs.Storage.{running_rules};
 ghost use Rattle.worker_pool.specs.Crews.{AllSure};
 ghost use Rattle.desk.specs.State.{IsFine};
 ghost use Rattle.wq_run.specs.Ends.{IsOver};
-ghost use Rattle.wq_run.specs.Seats.{AreSeats, Meets, gathered, links_in};
+ghost use Rattle.wq_run.specs.Seats.{AreSeats, Meets, gathered, inside_of};
 ghost use Rattle.wq_run.specs.Works.{EndsNow, IsOn, Rounds, Works, with_check};
 
 use crate::company::Company;
@@ -103,7 +103,7 @@ fn wait_round<W: Wait, F: Commands, S: Site, H: Hall<F>, C: Clock, T: Terms>(
     ensures none { gathered company.new.seats ≡ [] }
     ensures met { Meets (H.count hall.old) (H.count hall.new) (H.got hall.old)
         (H.got hall.new) (H.given hall.old) (H.given hall.new) (H.idle_count hall.old)
-        (H.idle_count hall.new) (links_in company.old) (links_in company.new)
+        (H.idle_count hall.new) (inside_of company.old) (inside_of company.new)
         company.old.failed company.new.failed company.old.lost company.new.lost }
 {
     let before = hall.idles();
@@ -159,7 +159,7 @@ fn go_round<
     ensures none { gathered company.new.seats ≡ [] }
     ensures met { Meets (H.count hall.old) (H.count hall.new) (H.got hall.old)
         (H.got hall.new) (H.given hall.old) (H.given hall.new) (H.idle_count hall.old)
-        (H.idle_count hall.new) (links_in company.old) (links_in company.new)
+        (H.idle_count hall.new) (inside_of company.old) (inside_of company.new)
         company.old.failed company.new.failed company.old.lost company.new.lost }
     ensures listens { H.listens hall.new }
 {
@@ -242,7 +242,7 @@ pub(crate) fn run_all<
     ensures none { gathered company.new.seats ≡ [] }
     ensures met { Meets (H.count hall.old) (H.count hall.new) (H.got hall.old)
         (H.got hall.new) (H.given hall.old) (H.given hall.new) (H.idle_count hall.old)
-        (H.idle_count hall.new) (links_in company.old) (links_in company.new)
+        (H.idle_count hall.new) (inside_of company.old) (inside_of company.new)
         company.old.failed company.new.failed company.old.lost company.new.lost }
 {
     for _ in rt.forever() {

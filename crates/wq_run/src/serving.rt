@@ -13,7 +13,7 @@ ghost use Rattle.desk.specs.State.{IsFine};
 ghost use Rattle.local_run.specs.Underway.{IsShapedPool, IsSurePool, IsWantHalt};
 ghost use Rattle.wq_run.specs.Comes.{ComesOn};
 ghost use Rattle.wq_run.specs.Seats.{AreSeats, IsServed, KeepsServed, Meets};
-ghost use Rattle.wq_run.specs.Seats.{gathered, links_in};
+ghost use Rattle.wq_run.specs.Seats.{gathered, inside_of};
 
 use crate::company::{Company, ask_all, dismiss, round};
 use crate::finishing::finish;
@@ -57,7 +57,7 @@ fn start_more<B: PoolTerms, W: Wait, F: Commands, S: Site, H: Hall<F>, T: Terms,
     ensures listens { H.listens hall.new }
     ensures met { Meets (H.count hall.old) (H.count hall.new) (H.got hall.old)
         (H.got hall.new) (H.given hall.old) (H.given hall.new) (H.idle_count hall.old)
-        (H.idle_count hall.new) (links_in company.old) (links_in company.new)
+        (H.idle_count hall.new) (inside_of company.old) (inside_of company.new)
         company.old.failed company.new.failed company.old.lost company.new.lost }
 {
     if !company.has_news(desk.moves_made()) {
@@ -104,7 +104,7 @@ fn turn<B: PoolTerms, W: Wait, F: Commands, S: Site, H: Hall<F>, T: Terms, C: Cl
     ensures listens { H.listens hall.new }
     ensures met { Meets (H.count hall.old) (H.count hall.new) (H.got hall.old)
         (H.got hall.new) (H.given hall.old) (H.given hall.new) (H.idle_count hall.old)
-        (H.idle_count hall.new) (links_in company.old) (links_in company.new)
+        (H.idle_count hall.new) (inside_of company.old) (inside_of company.new)
         company.old.failed company.new.failed company.old.lost company.new.lost }
 {
     if start_more::<B, W, F, S, H, T, C>(rt, alloc, desk, held, pool, company, hall, most, clock) {
@@ -147,7 +147,7 @@ fn wind_down<B: PoolTerms, W: Wait, F: Commands, S: Site, H: Hall<F>, T: Terms, 
     ensures listens { H.listens hall.new }
     ensures met { Meets (H.count hall.old) (H.count hall.new) (H.got hall.old)
         (H.got hall.new) (H.given hall.old) (H.given hall.new) (H.idle_count hall.old)
-        (H.idle_count hall.new) (links_in company.old) (links_in company.new)
+        (H.idle_count hall.new) (inside_of company.old) (inside_of company.new)
         company.old.failed company.new.failed company.old.lost company.new.lost }
     ensures over { result ≡ true → pool.new.waiting ≡ [] }
 {
@@ -193,7 +193,7 @@ fn serve<B: PoolTerms, W: Wait, F: Commands, S: Site, H: Hall<F>, T: Terms, C: C
     ensures listens { H.listens hall.new }
     ensures met { Meets (H.count hall.old) (H.count hall.new) (H.got hall.old)
         (H.got hall.new) (H.given hall.old) (H.given hall.new) (H.idle_count hall.old)
-        (H.idle_count hall.new) (links_in company.old) (links_in company.new)
+        (H.idle_count hall.new) (inside_of company.old) (inside_of company.new)
         company.old.failed company.new.failed company.old.lost company.new.lost }
     ensures heard { (IsWantHalt held.new.halt → ⊥) → pool.new.waiting ≡ [] }
 {
@@ -252,7 +252,7 @@ fn serve_and_close<B: PoolTerms, W: Wait, F: Commands, S: Site, H: Hall<F>, T: T
     ensures listens { H.listens hall.new }
     ensures met { Meets (H.count hall.old) (H.count hall.new) (H.got hall.old)
         (H.got hall.new) (H.given hall.old) (H.given hall.new) (H.idle_count hall.old)
-        (H.idle_count hall.new) (links_in company.old) (links_in company.new)
+        (H.idle_count hall.new) (inside_of company.old) (inside_of company.new)
         company.old.failed company.new.failed company.old.lost company.new.lost }
     ensures heard { (IsWantHalt held.new.halt → ⊥) → pool.new.waiting ≡ [] }
 {
@@ -315,7 +315,7 @@ fn serve_beside<
     ensures listens { H.listens hall.new }
     ensures met { Meets (H.count hall.old) (H.count hall.new) (H.got hall.old)
         (H.got hall.new) (H.given hall.old) (H.given hall.new) (H.idle_count hall.old)
-        (H.idle_count hall.new) (links_in company.old) (links_in company.new)
+        (H.idle_count hall.new) (inside_of company.old) (inside_of company.new)
         company.old.failed company.new.failed company.old.lost company.new.lost }
     ensures heard { (IsWantHalt held.new.halt → ⊥) → pool.new.waiting ≡ [] }
 {
@@ -347,8 +347,8 @@ fn serve_beside<
             ensures met { Meets (H.count hall.entry.now) (H.count hall.exit.now)
                 (H.got hall.entry.now) (H.got hall.exit.now) (H.given hall.entry.now)
                 (H.given hall.exit.now) (H.idle_count hall.entry.now)
-                (H.idle_count hall.exit.now) (links_in company.entry.now)
-                (links_in company.exit.now) company.entry.now.failed company.exit.now.failed
+                (H.idle_count hall.exit.now) (inside_of company.entry.now)
+                (inside_of company.exit.now) company.entry.now.failed company.exit.now.failed
                 company.entry.now.lost company.exit.now.lost }
             ensures heard { (IsWantHalt held.exit.now.halt → ⊥)
                 → pool.exit.now.waiting ≡ [] }
@@ -406,7 +406,7 @@ fn serve_in<
     ensures listens { H.listens hall.new }
     ensures met { Meets (H.count hall.old) (H.count hall.new) (H.got hall.old)
         (H.got hall.new) (H.given hall.old) (H.given hall.new) (H.idle_count hall.old)
-        (H.idle_count hall.new) (links_in company.old) (links_in company.new)
+        (H.idle_count hall.new) (inside_of company.old) (inside_of company.new)
         company.old.failed company.new.failed company.old.lost company.new.lost }
 {
     let Ok((line, token)) = Line::<B>::new(alloc) else {
@@ -463,7 +463,7 @@ pub(crate) fn serve_all<
     ensures listens { H.listens hall.new }
     ensures met { Meets (H.count hall.old) (H.count hall.new) (H.got hall.old)
         (H.got hall.new) (H.given hall.old) (H.given hall.new) (H.idle_count hall.old)
-        (H.idle_count hall.new) (links_in company.old) (links_in company.new)
+        (H.idle_count hall.new) (inside_of company.old) (inside_of company.new)
         company.old.failed company.new.failed company.old.lost company.new.lost }
 {
     let Ok((tickets, pass)) = new_tickets(alloc) else {

@@ -6,7 +6,7 @@ ghost use Rattle.run_history.specs.Storage.{running_rules};
 ghost use Rattle.desk.specs.State.{IsFine};
 ghost use Rattle.local_run.specs.Underway.{IsSurePool};
 ghost use Rattle.wq_run.specs.Comes.{ComesOn};
-ghost use Rattle.wq_run.specs.Seats.{AreSeats, IsManned, KeepsManned, Meets, gathered, links_in};
+ghost use Rattle.wq_run.specs.Seats.{AreSeats, IsManned, KeepsManned, Meets, gathered, inside_of};
 
 use crate::company::{Company, round};
 use crate::finishing::finish;
@@ -41,7 +41,7 @@ fn look<B: PoolTerms, W: Wait, F: Commands, S: Site, H: Hall<F>, T: Terms, C: Cl
     ensures listens { H.listens hall.new }
     ensures met { Meets (H.count hall.old) (H.count hall.new) (H.got hall.old)
         (H.got hall.new) (H.given hall.old) (H.given hall.new) (H.idle_count hall.old)
-        (H.idle_count hall.new) (links_in company.old) (links_in company.new)
+        (H.idle_count hall.new) (inside_of company.old) (inside_of company.new)
         company.old.failed company.new.failed company.old.lost company.new.lost }
 {
     let start = hall.idles();
@@ -83,7 +83,7 @@ pub(crate) fn wait<B: PoolTerms, W: Wait, F: Commands, S: Site, H: Hall<F>, T: T
     ensures listens { H.listens hall.new }
     ensures met { Meets (H.count hall.old) (H.count hall.new) (H.got hall.old)
         (H.got hall.new) (H.given hall.old) (H.given hall.new) (H.idle_count hall.old)
-        (H.idle_count hall.new) (links_in company.old) (links_in company.new)
+        (H.idle_count hall.new) (inside_of company.old) (inside_of company.new)
         company.old.failed company.new.failed company.old.lost company.new.lost }
 {
     let mut held = Held::new(alloc);

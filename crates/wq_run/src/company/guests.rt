@@ -1,7 +1,7 @@
 //! Peers that came and haven't joined yet.
-ghost use Rattle.std.specs.Prelude.{◌≡◌, ◌⊎◌, ◌+◌, ◌++◌, ◌∷◌, [], None, OnOk};
+ghost use Rattle.std.specs.Prelude.{◌≡◌, ◌⊎◌, ◌++◌, ◌∷◌, [], None, OnOk};
 ghost use Rattle.local_run.specs.Underway.{HeldState, IsSurePool};
-ghost use Rattle.wq_run.specs.Seats.{IsGuest, IsUnseated, KeepsManned, Meets, links_in};
+ghost use Rattle.wq_run.specs.Seats.{IsGuest, IsUnseated, KeepsManned, Meets, inside_of, with_hand};
 
 use super::Company;
 use super::hall::hand_back;
@@ -93,7 +93,8 @@ fn stay<F: Commands, H: Hall<F>>(
     ensures listens { H.listens hall.old → H.listens hall.new }
     ensures met { Meets (H.count hall.old) (H.count hall.new) (H.got hall.old)
         (H.got hall.new) (H.given hall.old) (H.given hall.new) (H.idle_count hall.old)
-        (H.idle_count hall.new) (links_in company.old + 1) (links_in company.new)
+        (H.idle_count hall.new) (with_hand None (inside_of company.old))
+        (inside_of company.new)
         company.old.failed company.new.failed company.old.lost company.new.lost }
 {
     if let Err(failed) = company.guests.push(peer) {
@@ -101,7 +102,8 @@ fn stay<F: Commands, H: Hall<F>>(
     }
 }
 
-/// A guest that joined gets its seat. Where there is no memory for it the run can't go on.
+/// A guest that joined gets its seat. Where there is no memory for it the run can't go on. The desk
+/// gives each link a number above all before it.
 fn take_seat<F: Commands, H: Hall<F>>(
     company: &mut Company<F, H::Way>,
     alloc: Global,
@@ -115,26 +117,22 @@ fn take_seat<F: Commands, H: Hall<F>>(
     ensures listens { H.listens hall.old → H.listens hall.new }
     ensures met { Meets (H.count hall.old) (H.count hall.new) (H.got hall.old)
         (H.got hall.new) (H.given hall.old) (H.given hall.new) (H.idle_count hall.old)
-        (H.idle_count hall.new) (links_in company.old + 1) (links_in company.new)
+        (H.idle_count hall.new) (with_hand None (inside_of company.old))
+        (inside_of company.new)
         company.old.failed company.new.failed company.old.lost company.new.lost }
 {
     let link = seat.link();
-    let seat = if company.has(link) {
-        seat
-    } else {
-        match company.seats.push(seat) {
-            Ok(()) => return,
-            Err(failed) => failed.value,
-        }
-    };
-    hand_back::<F, H>(
-        company,
-        alloc,
-        hall,
-        Some(link),
-        seat.into_peer().into_way(),
-    );
-    company.lost = true;
+    if !company.takes(link) {
+        hand_back::<F, H>(company, alloc, hall, None, seat.into_peer().into_way());
+        company.lost = true;
+        return;
+    }
+    company.newest = link.0;
+    if let Err(failed) = company.seats.push(seat) {
+        let way = failed.value.into_peer().into_way();
+        hand_back::<F, H>(company, alloc, hall, Some(link), way);
+        company.lost = true;
+    }
 }
 
 /// A guest joins with what it offers. Where the desk refuses it its link is handed back.
@@ -153,7 +151,8 @@ fn seat_guest<B: PoolTerms, F: Commands, S: Site, H: Hall<F>, T: Terms>(
     ensures listens { H.listens hall.old → H.listens hall.new }
     ensures met { Meets (H.count hall.old) (H.count hall.new) (H.got hall.old)
         (H.got hall.new) (H.given hall.old) (H.given hall.new) (H.idle_count hall.old)
-        (H.idle_count hall.new) (links_in company.old + 1) (links_in company.new)
+        (H.idle_count hall.new) (with_hand None (inside_of company.old))
+        (inside_of company.new)
         company.old.failed company.new.failed company.old.lost company.new.lost }
 {
     match join::<B, F, S, T>(desk, offer.total, offer.largest, offer.cache) {
@@ -177,7 +176,7 @@ fn greet_next<B: PoolTerms, F: Commands, S: Site, H: Hall<F>, T: Terms>(
     ensures listens { H.listens hall.old → H.listens hall.new }
     ensures met { Meets (H.count hall.old) (H.count hall.new) (H.got hall.old)
         (H.got hall.new) (H.given hall.old) (H.given hall.new) (H.idle_count hall.old)
-        (H.idle_count hall.new) (links_in company.old) (links_in company.new)
+        (H.idle_count hall.new) (inside_of company.old) (inside_of company.new)
         company.old.failed company.new.failed company.old.lost company.new.lost }
 {
     if company.guests.is_empty() {
@@ -214,7 +213,7 @@ pub(super) fn greet_all<B: PoolTerms, F: Commands, S: Site, H: Hall<F>, T: Terms
     ensures listens { H.listens hall.old → H.listens hall.new }
     ensures met { Meets (H.count hall.old) (H.count hall.new) (H.got hall.old)
         (H.got hall.new) (H.given hall.old) (H.given hall.new) (H.idle_count hall.old)
-        (H.idle_count hall.new) (links_in company.old) (links_in company.new)
+        (H.idle_count hall.new) (inside_of company.old) (inside_of company.new)
         company.old.failed company.new.failed company.old.lost company.new.lost }
 {
     let mut did = false;

@@ -1,6 +1,6 @@
 //! Where peers come and go.
-ghost use Rattle.std.specs.Prelude.{◌≡◌, ◌+◌};
-ghost use Rattle.wq_run.specs.Seats.{Meets, links_in};
+ghost use Rattle.std.specs.Prelude.{◌≡◌, None};
+ghost use Rattle.wq_run.specs.Seats.{Meets, inside_of, with_hand};
 
 use super::Company;
 use flow_types::LinkNo;
@@ -26,11 +26,13 @@ pub(super) fn hand_back<F: Commands, H: Hall<F>>(
     ensures listens { H.listens hall.old → H.listens hall.new }
     ensures met { Meets (H.count hall.old) (H.count hall.new) (H.got hall.old)
         (H.got hall.new) (H.given hall.old) (H.given hall.new) (H.idle_count hall.old)
-        (H.idle_count hall.new) (links_in company.old + 1) (links_in company.new)
+        (H.idle_count hall.new) (with_hand link (inside_of company.old))
+        (inside_of company.new)
         company.old.failed company.new.failed company.old.lost company.new.lost }
 {
-    if hall.back(alloc, link, way).is_err() {
-        company.lost = true;
+    match hall.back(alloc, link, way) {
+        Ok(()) => {}
+        Err(_) => company.lost = true,
     }
 }
 
@@ -45,7 +47,8 @@ fn let_in<F: Commands, H: Hall<F>>(
     ensures listens { H.listens hall.old → H.listens hall.new }
     ensures met { Meets (H.count hall.old) (H.count hall.new) (H.got hall.old)
         (H.got hall.new) (H.given hall.old) (H.given hall.new) (H.idle_count hall.old)
-        (H.idle_count hall.new) (links_in company.old + 1) (links_in company.new)
+        (H.idle_count hall.new) (with_hand None (inside_of company.old))
+        (inside_of company.new)
         company.old.failed company.new.failed company.old.lost company.new.lost }
 {
     match Peer::new(alloc, way, 0) {
@@ -69,7 +72,7 @@ fn wait<F: Commands, H: Hall<F>>(
     ensures listens { H.listens hall.new }
     ensures met { Meets (H.count hall.old) (H.count hall.new) (H.got hall.old)
         (H.got hall.new) (H.given hall.old) (H.given hall.new) (H.idle_count hall.old)
-        (H.idle_count hall.new) (links_in company.old) (links_in company.new)
+        (H.idle_count hall.new) (inside_of company.old) (inside_of company.new)
         company.old.failed company.new.failed company.old.lost company.new.lost }
 {
     match hall.wait(alloc) {
@@ -102,7 +105,7 @@ pub(super) fn meet<F: Commands, H: Hall<F>>(
     ensures listens { H.listens hall.new }
     ensures met { Meets (H.count hall.old) (H.count hall.new) (H.got hall.old)
         (H.got hall.new) (H.given hall.old) (H.given hall.new) (H.idle_count hall.old)
-        (H.idle_count hall.new) (links_in company.old) (links_in company.new)
+        (H.idle_count hall.new) (inside_of company.old) (inside_of company.new)
         company.old.failed company.new.failed company.old.lost company.new.lost }
 {
     if hall.ready() || is_turn {

@@ -1,12 +1,12 @@
 //! Workers that are left.
-ghost use Rattle.std.specs.Prelude.{◌≡◌, ◌<◌, ◌+◌, ◌++◌, ℕ, List, length};
+ghost use Rattle.std.specs.Prelude.{◌≡◌, ◌<◌, ◌++◌, ℕ, List, Some, length};
 ghost use Rattle.flow_types.specs.declared.job.Start.{Start as StartValue};
 ghost use Rattle.flow_types.specs.Plans.{IsValid};
 ghost use Rattle.worker_pool.specs.declared.hand.Tally.{Tally};
 ghost use Rattle.desk.specs.State.{DeskState};
 ghost use Rattle.local_run.specs.Underway.{IsSurePool};
 ghost use Rattle.wq_run.specs.Seats.{IsParting, IsPartingAt, Manned, Meets, Parts, PartsAt};
-ghost use Rattle.wq_run.specs.Seats.{SeatState, links_in};
+ghost use Rattle.wq_run.specs.Seats.{SeatState, inside_of, with_hand};
 
 use super::Company;
 use super::hall::hand_back;
@@ -46,7 +46,8 @@ pub(super) fn part<B: PoolTerms, F: Commands, S: Site, H: Hall<F>, T: Terms, C: 
     ensures listens { H.listens hall.old → H.listens hall.new }
     ensures met { Meets (H.count hall.old) (H.count hall.new) (H.got hall.old)
         (H.got hall.new) (H.given hall.old) (H.given hall.new) (H.idle_count hall.old)
-        (H.idle_count hall.new) (links_in company.old + 1) (links_in company.new)
+        (H.idle_count hall.new) (with_hand (Some seat.link) (inside_of company.old))
+        (inside_of company.new)
         company.old.failed company.new.failed company.old.lost company.new.lost }
 {
     let mut seat = seat;
@@ -84,7 +85,7 @@ pub(super) fn part_at<B: PoolTerms, F: Commands, S: Site, H: Hall<F>, T: Terms, 
     ensures listens { H.listens hall.old → H.listens hall.new }
     ensures met { Meets (H.count hall.old) (H.count hall.new) (H.got hall.old)
         (H.got hall.new) (H.given hall.old) (H.given hall.new) (H.idle_count hall.old)
-        (H.idle_count hall.new) (links_in company.old) (links_in company.new)
+        (H.idle_count hall.new) (inside_of company.old) (inside_of company.new)
         company.old.failed company.new.failed company.old.lost company.new.lost }
 {
     let seat = company.seats.remove(at);

@@ -2,7 +2,7 @@
 ghost use Rattle.std.specs.Prelude.{◌≡◌, ◌<◌, ◌+◌, [], ℕ, false, length, true};
 ghost use Rattle.flow_types.specs.Plans.{IsValid};
 ghost use Rattle.local_run.specs.Underway.{IsSurePool};
-ghost use Rattle.wq_run.specs.Seats.{IsManned, KeepsManned, Meets, gathered, links_in};
+ghost use Rattle.wq_run.specs.Seats.{IsManned, KeepsManned, Meets, gathered, inside_of};
 
 use super::Company;
 use super::guests::greet_all;
@@ -54,7 +54,7 @@ pub(crate) fn round<B: PoolTerms, F: Commands, S: Site, H: Hall<F>, T: Terms, C:
     ensures listens { H.listens hall.new }
     ensures met { Meets (H.count hall.old) (H.count hall.new) (H.got hall.old)
         (H.got hall.new) (H.given hall.old) (H.given hall.new) (H.idle_count hall.old)
-        (H.idle_count hall.new) (links_in company.old) (links_in company.new)
+        (H.idle_count hall.new) (inside_of company.old) (inside_of company.new)
         company.old.failed company.new.failed company.old.lost company.new.lost }
 {
     let is_turn = has_turn::<F, H>(company);
@@ -89,7 +89,7 @@ fn dismiss_last<B: PoolTerms, F: Commands, S: Site, H: Hall<F>, T: Terms, C: Clo
     ensures listens { H.listens hall.old → H.listens hall.new }
     ensures met { Meets (H.count hall.old) (H.count hall.new) (H.got hall.old)
         (H.got hall.new) (H.given hall.old) (H.given hall.new) (H.idle_count hall.old)
-        (H.idle_count hall.new) (links_in company.old) (links_in company.new)
+        (H.idle_count hall.new) (inside_of company.old) (inside_of company.new)
         company.old.failed company.new.failed company.old.lost company.new.lost }
     ensures fewer { result ≡ true
         → length company.old.seats ≡ length company.new.seats + 1 }
@@ -126,7 +126,7 @@ pub(crate) fn dismiss<B: PoolTerms, F: Commands, S: Site, H: Hall<F>, T: Terms, 
     ensures listens { H.listens hall.old → H.listens hall.new }
     ensures met { Meets (H.count hall.old) (H.count hall.new) (H.got hall.old)
         (H.got hall.new) (H.given hall.old) (H.given hall.new) (H.idle_count hall.old)
-        (H.idle_count hall.new) (links_in company.old) (links_in company.new)
+        (H.idle_count hall.new) (inside_of company.old) (inside_of company.new)
         company.old.failed company.new.failed company.old.lost company.new.lost }
 {
     while dismiss_last::<B, F, S, H, T, C>(company, alloc, desk, held, hall, clock) {}
@@ -146,7 +146,7 @@ pub(crate) fn disband<F: Commands, H: Hall<F>>(
     ensures guests { company.new.guests ≡ [] }
     ensures met { Meets (H.count hall.old) (H.count hall.new) (H.got hall.old)
         (H.got hall.new) (H.given hall.old) (H.given hall.new) (H.idle_count hall.old)
-        (H.idle_count hall.new) (links_in company.old) (links_in company.new)
+        (H.idle_count hall.new) (inside_of company.old) (inside_of company.new)
         company.old.failed company.new.failed company.old.lost company.new.lost }
 {
     while let Some(mut seat) = company.seats.pop() {

@@ -2,7 +2,7 @@
 ghost use Rattle.std.specs.Prelude.{◌≡◌, ◌<◌, ℕ, length};
 ghost use Rattle.flow_types.specs.Plans.{IsValid};
 ghost use Rattle.local_run.specs.Underway.{IsSurePool};
-ghost use Rattle.wq_run.specs.Seats.{IsManned, KeepsManned, Meets, SeatsAfter, links_in};
+ghost use Rattle.wq_run.specs.Seats.{IsManned, KeepsManned, Meets, SeatsAfter, inside_of, seats_under};
 
 use super::Company;
 use super::parting::part_at;
@@ -34,6 +34,8 @@ fn hear_at<B: PoolTerms, F: Commands, S: Site, H: Hall<F>, T: Terms, C: Clock>(
         S.files S.may_leave S.moment S.images_since at desk.old desk.new
         held.old held.new company.old.seats company.new.seats result }
     ensures many { length company.new.seats ≡ length company.old.seats }
+    ensures numbers { (k : ℕ) → seats_under k company.new.seats ≡ seats_under k company.old.seats }
+    ensures newest { company.new.newest ≡ company.old.newest }
     ensures guests { company.new.guests ≡ company.old.guests }
     ensures failed { company.new.failed ≡ company.old.failed }
     ensures lost { company.new.lost ≡ company.old.lost }
@@ -62,6 +64,8 @@ fn claim_at<B: PoolTerms, F: Commands, S: Site, H: Hall<F>, T: Terms, C: Clock>(
         S.files S.may_leave S.moment S.images_since at desk.old desk.new
         held.old held.new company.old.seats company.new.seats result }
     ensures many { length company.new.seats ≡ length company.old.seats }
+    ensures numbers { (k : ℕ) → seats_under k company.new.seats ≡ seats_under k company.old.seats }
+    ensures newest { company.new.newest ≡ company.old.newest }
     ensures guests { company.new.guests ≡ company.old.guests }
     ensures failed { company.new.failed ≡ company.old.failed }
     ensures lost { company.new.lost ≡ company.old.lost }
@@ -98,7 +102,7 @@ fn visit<B: PoolTerms, F: Commands, S: Site, H: Hall<F>, T: Terms, C: Clock>(
     ensures listens { H.listens hall.old → H.listens hall.new }
     ensures met { Meets (H.count hall.old) (H.count hall.new) (H.got hall.old)
         (H.got hall.new) (H.given hall.old) (H.given hall.new) (H.idle_count hall.old)
-        (H.idle_count hall.new) (links_in company.old) (links_in company.new)
+        (H.idle_count hall.new) (inside_of company.old) (inside_of company.new)
         company.old.failed company.new.failed company.old.lost company.new.lost }
 {
     match hear_at::<B, F, S, H, T, C>(company, alloc, desk, held, at, is_turn, limit, clock) {
@@ -130,7 +134,7 @@ fn ask<B: PoolTerms, F: Commands, S: Site, H: Hall<F>, T: Terms, C: Clock>(
     ensures listens { H.listens hall.old → H.listens hall.new }
     ensures met { Meets (H.count hall.old) (H.count hall.new) (H.got hall.old)
         (H.got hall.new) (H.given hall.old) (H.given hall.new) (H.idle_count hall.old)
-        (H.idle_count hall.new) (links_in company.old) (links_in company.new)
+        (H.idle_count hall.new) (inside_of company.old) (inside_of company.new)
         company.old.failed company.new.failed company.old.lost company.new.lost }
 {
     match claim_at::<B, F, S, H, T, C>(company, alloc, desk, held, at, clock) {
@@ -164,7 +168,7 @@ pub(super) fn visit_all<B: PoolTerms, F: Commands, S: Site, H: Hall<F>, T: Terms
     ensures listens { H.listens hall.old → H.listens hall.new }
     ensures met { Meets (H.count hall.old) (H.count hall.new) (H.got hall.old)
         (H.got hall.new) (H.given hall.old) (H.given hall.new) (H.idle_count hall.old)
-        (H.idle_count hall.new) (links_in company.old) (links_in company.new)
+        (H.idle_count hall.new) (inside_of company.old) (inside_of company.new)
         company.old.failed company.new.failed company.old.lost company.new.lost }
 {
     let mut did = false;
@@ -195,7 +199,7 @@ pub(crate) fn ask_all<B: PoolTerms, F: Commands, S: Site, H: Hall<F>, T: Terms, 
     ensures listens { H.listens hall.old → H.listens hall.new }
     ensures met { Meets (H.count hall.old) (H.count hall.new) (H.got hall.old)
         (H.got hall.new) (H.given hall.old) (H.given hall.new) (H.idle_count hall.old)
-        (H.idle_count hall.new) (links_in company.old) (links_in company.new)
+        (H.idle_count hall.new) (inside_of company.old) (inside_of company.new)
         company.old.failed company.new.failed company.old.lost company.new.lost }
 {
     let mut did = false;

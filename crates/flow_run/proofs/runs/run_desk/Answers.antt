@@ -21,7 +21,7 @@ use Rattle.local_run.proofs.Going.{goes_records}
 use Rattle.local_run.proofs.Openings.{opens_on}
 use Rattle.wq_run.specs.Ends.{EndsWaiting, LosesOnLinks}
 use Rattle.flow_run.proofs.Placed.{placed_by}
-use Rattle.flow_run.proofs.Stops.{causes_stop, fine_stop, hall_stop, started_stop, starts_stop, stop_kept}
+use Rattle.flow_run.proofs.Stops.{causes_stop, fine_stop, hall_stop, started_stop, starts_stop, stop_kept, waits_logged}
 use Rattle.flow_run.proofs.runs.run_desk.Goals as goal
 
 pub returns-clause-more : goal.returns-clause-more
@@ -74,7 +74,8 @@ returns-clause-waited g c apart =
     let rise = g.H.Hall.idle_count c.work-how.new.hall - g.H.Hall.idle_count c.args.hall.now in
     subst (λ (G : List Record). IfOk c.work-how.result (EndsWaiting c.args.desk.plan c.args.desk.options limit rise G)) (sym c.into_parts-site.ensures.records)
     (subst (λ (P : Plan). IfOk c.work-how.result (EndsWaiting P c.args.desk.options limit rise (records_of c.work-how.new.desk.moves))) c.work-how.ensures.goes.1.plan
-    (subst (λ (O : Options). IfOk c.work-how.result (EndsWaiting c.work-how.new.desk.plan O limit rise (records_of c.work-how.new.desk.moves))) c.work-how.ensures.goes.1.options (c.work-how.ensures.waited apart)))
+    (subst (λ (O : Options). IfOk c.work-how.result (EndsWaiting c.work-how.new.desk.plan O limit rise (records_of c.work-how.new.desk.moves))) c.work-how.ensures.goes.1.options
+    (waits_logged c.work-how.new.desk.plan c.work-how.new.desk.options limit rise c.work-how.new.desk.moves c.work-how.result (c.work-how.ensures.waited apart))))
 
 pub returns-clause-others : goal.returns-clause-others
 returns-clause-others g c told =

@@ -23,7 +23,7 @@ returns-in-Err-Failed g c =
       never = λ is. tt;
       lost = tt;
       ends = tt;
-      back = λ uncut. record { more = []; are = c.listen.ensures.got ∙ sym (append-nil (g.H.Hall.got c.args.hall.now)); many = (let given = c.listen.ensures.given in omega (arith, given)) };
+      back = λ uncut. record { more = []; are = c.listen.ensures.got ∙ sym (append-nil (g.H.Hall.got c.args.hall.now)); many = (let given = c.listen.ensures.given in omega (arith, given)); apart = λ k. omega arith };
     }
 
 pub returns-in-Err-Memory : goal.returns-in-Err-Memory
@@ -105,10 +105,11 @@ returns g c =
       back = λ uncut.
           let company : CompanyState g.row.H-Way.Denot = c.new-company.result in
           let met = met_then c.run_all-done.ensures.met c.disband.ensures.met in
+          let none : company.seats ≡ [] = ap (λ (x : CompanyState g.row.H-Way.Denot). x.seats) c.new-company.ensures in
           let empty : links_in company ≡ 0 = ap links_in c.new-company.ensures in
           let b = are_back (g.H.Hall.count c.listen.new.self) (g.H.Hall.count c.disband.new.hall) (g.H.Hall.got c.listen.new.self) (g.H.Hall.got c.disband.new.hall) (g.H.Hall.given c.listen.new.self) (g.H.Hall.given c.disband.new.hall) (g.H.Hall.idle_count c.listen.new.self) (g.H.Hall.idle_count c.disband.new.hall)
-          company c.disband.new.company c.disband.ensures.seats c.disband.ensures.guests empty (search rules) met in
-          record { more = b.0; are = b.1 ∙ ap (λ l. l ++ b.0) c.listen.ensures.got; many = (let all = b.2 in let given = c.listen.ensures.given in omega (arith, all, given)) };
+          company c.disband.new.company c.disband.ensures.seats c.disband.ensures.guests none empty (search rules) met in
+          record { more = b.more; are = b.are ∙ ap (λ l. l ++ b.more) c.listen.ensures.got; many = (let all = b.many in let given = c.listen.ensures.given in omega (arith, all, given)); apart = b.apart };
     }
 
 pub run_all-done-requires-clause-going : goal.run_all-done-requires-clause-going

@@ -1,7 +1,7 @@
 use Rattle.std.proofs.Common.{◌≡◌, ◌<◌, [], length}
 use Rattle.std.specs.Prelude.{sum_by}
 use Rattle.worker_pool.specs.Crews.{AllSure}
-use Rattle.wq_run.specs.Seats.{AreSeats, Meets, gathered, links_in}
+use Rattle.wq_run.specs.Seats.{AreSeats, Meets, gathered, inside_of}
 use Rattle.wq_run.proofs.Working.{Stands}
 use Rattle.wq_run.proofs.rounds.run_all.Given as goal
 
@@ -13,5 +13,5 @@ invariant-loop g l = record {
   listens : g.H.Hall.listens l.hall;
   seats : AreSeats l.desk.plan l.desk.options l.desk.moves l.company.seats;
   none : gathered l.company.seats ≡ [];
-  met : Meets (g.H.Hall.count l.fn.hall) (g.H.Hall.count l.hall) (g.H.Hall.got l.fn.hall) (g.H.Hall.got l.hall) (g.H.Hall.given l.fn.hall) (g.H.Hall.given l.hall) (g.H.Hall.idle_count l.fn.hall) (g.H.Hall.idle_count l.hall) (links_in l.fn.company) (links_in l.company) l.fn.company.failed l.company.failed l.fn.company.lost l.company.lost;
+  met : Meets (g.H.Hall.count l.fn.hall) (g.H.Hall.count l.hall) (g.H.Hall.got l.fn.hall) (g.H.Hall.got l.hall) (g.H.Hall.given l.fn.hall) (g.H.Hall.given l.hall) (g.H.Hall.idle_count l.fn.hall) (g.H.Hall.idle_count l.hall) (inside_of l.fn.company) (inside_of l.company) l.fn.company.failed l.company.failed l.fn.company.lost l.company.lost;
 }

@@ -1,6 +1,7 @@
 use Rattle.std.proofs.Common.{rules, ◌≡◌, ◌≢◌, ◌∙◌, ap, sym, arith, length, true≢false}
 use Rattle.std.specs.Prelude.{remove}
 use Rattle.std.proofs.lemmas.Bool.{eq-eqb}
+use Rattle.wq_run.specs.Seats.{seats_under}
 use Rattle.wq_run.proofs.Companies.{fewer_first, man_as, met_then, still_met}
 use Rattle.wq_run.proofs.company.guests.greet_next.Goals as goal
 
@@ -10,11 +11,13 @@ returns-in-Ok-None-clause-met g c =
     let some : length c.company.inside.guests.items ≢ 0 = (λ none. true≢false (sym (eq-eqb (length c.company.inside.guests.items) 0 none) ∙ search rules)) in
     let fewer = fewer_first c.company.inside.guests.items some in
     let now = ap length behind in
-    let seats : length c.args.company.now.seats ≡ length c.company.inside.seats.items = search rules in
+    let same : c.company.inside.seats.items ≡ c.args.company.now.seats = search rules in
+    let seats = ap length same in
+    let newest : c.company.inside.newest ≡ c.args.company.now.newest = search rules in
     let guests : length c.args.company.now.guests ≡ length c.company.inside.guests.items = search rules in
     let failed : c.company.inside.failed ≡ c.args.company.now.failed = search rules in
     let lost : c.company.inside.lost ≡ c.args.company.now.lost = search rules in
-    met_then (still_met (omega (arith, fewer, now, seats, guests)) failed lost) c.stay.ensures.met
+    met_then (still_met (record { links = omega (arith, fewer, now, seats, guests); fewer = λ k. let e = ap (seats_under k) same in omega (arith, e); newest = newest }) failed lost) c.stay.ensures.met
 
 pub returns-in-Ok-Some-clause-manned : goal.returns-in-Ok-Some-clause-manned
 returns-in-Ok-Some-clause-manned g c held first waiting heard m =
@@ -27,11 +30,13 @@ returns-in-Ok-Some-clause-met g c =
     let some : length c.company.inside.guests.items ≢ 0 = (λ none. true≢false (sym (eq-eqb (length c.company.inside.guests.items) 0 none) ∙ search rules)) in
     let fewer = fewer_first c.company.inside.guests.items some in
     let now = ap length behind in
-    let seats : length c.args.company.now.seats ≡ length c.company.inside.seats.items = search rules in
+    let same : c.company.inside.seats.items ≡ c.args.company.now.seats = search rules in
+    let seats = ap length same in
+    let newest : c.company.inside.newest ≡ c.args.company.now.newest = search rules in
     let guests : length c.args.company.now.guests ≡ length c.company.inside.guests.items = search rules in
     let failed : c.company.inside.failed ≡ c.args.company.now.failed = search rules in
     let lost : c.company.inside.lost ≡ c.args.company.now.lost = search rules in
-    met_then (still_met (omega (arith, fewer, now, seats, guests)) failed lost) c.seat_guest.ensures.met
+    met_then (still_met (record { links = omega (arith, fewer, now, seats, guests); fewer = λ k. let e = ap (seats_under k) same in omega (arith, e); newest = newest }) failed lost) c.seat_guest.ensures.met
 
 pub returns-in-Err-clause-met : goal.returns-in-Err-clause-met
 returns-in-Err-clause-met g c =
@@ -39,8 +44,10 @@ returns-in-Err-clause-met g c =
     let some : length c.company.inside.guests.items ≢ 0 = (λ none. true≢false (sym (eq-eqb (length c.company.inside.guests.items) 0 none) ∙ search rules)) in
     let fewer = fewer_first c.company.inside.guests.items some in
     let now = ap length behind in
-    let seats : length c.args.company.now.seats ≡ length c.company.inside.seats.items = search rules in
+    let same : c.company.inside.seats.items ≡ c.args.company.now.seats = search rules in
+    let seats = ap length same in
+    let newest : c.company.inside.newest ≡ c.args.company.now.newest = search rules in
     let guests : length c.args.company.now.guests ≡ length c.company.inside.guests.items = search rules in
     let failed : c.company.inside.failed ≡ c.args.company.now.failed = search rules in
     let lost : c.company.inside.lost ≡ c.args.company.now.lost = search rules in
-    met_then (still_met (omega (arith, fewer, now, seats, guests)) failed lost) c.hand_back.ensures.met
+    met_then (still_met (record { links = omega (arith, fewer, now, seats, guests); fewer = λ k. let e = ap (seats_under k) same in omega (arith, e); newest = newest }) failed lost) c.hand_back.ensures.met

@@ -1,28 +1,49 @@
-use Rattle.std.proofs.Common.{rules, ◌≡◌, ◌⊎◌, inl, inr, ◌+◌, ◌++◌, ◌∷◌, [], ap, ◌∙◌, arith, length, length-append}
-use Rattle.wq_run.specs.Seats.{IsUnseated, Meets, links_in}
-use Rattle.wq_run.proofs.Companies.{lost_met, still_met}
+use Rattle.std.proofs.Common.{rules, ◌≡◌, ◌<◌, ◌⊎◌, inl, inr, ◌+◌, ◌++◌, ◌∷◌, [], None, Some, ap, refl, sym, subst, ◌∙◌, arith, length, length-append}
+use Rattle.std.proofs.lemmas.List.{append-nil}
+use Rattle.flow_types.specs.declared.numbers.LinkNo.{LinkNo}
+use Rattle.wq_run.specs.Seats.{IsUnseated, inside_of, one_under, seats_under, with_hand}
+use Rattle.wq_run.proofs.Companies.{lost_met, seat_met}
+use Rattle.wq_run.proofs.Counting.{numbers_as, numbers_more, numbers_then, seated_split}
 use Rattle.wq_run.proofs.company.guests.take_seat.Goals as goal
-use Rattle.wq_run.proofs.company.guests.take_seat.Goals.{then-has, else-has+in-Err}
 
-pub returns-in-Ok-clause-met : goal.returns-in-Ok-clause-met
-returns-in-Ok-clause-met g c =
-    let items : c.push.new.self.items ≡ c.company.inside.seats.items ++ (c.args.seat ∷ []) = search rules in
+pub returns-then-not-takes-clause-met : goal.returns-then-not-takes-clause-met
+returns-then-not-takes-clause-met g c =
+    let behind : c.company-then-not-takes.inside.failed ≡ c.hand_back.new.company.failed = search rules in
+    let seats : c.company-then-not-takes.inside.seats.items ≡ c.hand_back.new.company.seats = search rules in
+    let newest : c.company-then-not-takes.inside.newest ≡ c.hand_back.new.company.newest = search rules in
+    lost_met c.hand_back.ensures.met (numbers_then _ _ _ _ _ _ c.hand_back.ensures.met.numbers (numbers_as _ (inside_of c.hand_back.new.company) _ newest (λ k. let e = ap (seats_under k) seats in omega (arith, e)))) behind refl
+
+pub returns-in-Err-clause-met : goal.returns-in-Err-clause-met
+returns-in-Err-clause-met g c =
+    let behind : c.company-in-Err.inside.failed ≡ c.hand_back-in-Err.new.company.failed = search rules in
+    let seats : c.company-in-Err.inside.seats.items ≡ c.hand_back-in-Err.new.company.seats = search rules in
+    let newest : c.company-in-Err.inside.newest ≡ c.hand_back-in-Err.new.company.newest = search rules in
+    let before : c.company.inside.failed ≡ c.args.company.now.failed = search rules in
+    let items : c.push.new.self.items ≡ c.args.company.now.seats = search rules in
+    let above : c.args.company.now.newest < c.link-link.result.0 = c.takes.ensures.beyond (search rules) in
+    lost_met c.hand_back-in-Err.ensures.met
+    (numbers_then _ _ _ _ _ _ (numbers_more _ (with_hand None (inside_of c.args.company.now)) _ c.link-link.result above refl (λ k. let e = ap (seats_under k) items in omega (arith, e)))
+    (numbers_then _ _ _ _ _ _ c.hand_back-in-Err.ensures.met.numbers (numbers_as _ (inside_of c.hand_back-in-Err.new.company) _ newest (λ k. let e = ap (seats_under k) seats in omega (arith, e))))) behind before
+
+pub returns-in_default-clause-seats : goal.returns-in_default-clause-seats
+returns-in_default-clause-seats g c =
+    let items : c.push.new.self.items ≡ c.args.company.now.seats ++ (c.args.seat ∷ []) = search rules in
+    inr (subst (λ (l : LinkNo). IsUnseated l.0 c.args.company.now.seats) c.link-link.ensures (c.takes.ensures.unseated (search rules)), items)
+
+pub returns-in_default-clause-met : goal.returns-in_default-clause-met
+returns-in_default-clause-met g c =
+    let items : c.push.new.self.items ≡ c.args.company.now.seats ++ (c.args.seat ∷ []) = search rules in
     let more = ap length items in
-    let both = length-append c.company.inside.seats.items (c.args.seat ∷ []) in
-    let seats : length c.args.company.now.seats ≡ length c.company.inside.seats.items = search rules in
+    let both = length-append c.args.company.now.seats (c.args.seat ∷ []) in
     let guests : length c.args.company.now.guests ≡ length c.company.inside.guests.items = search rules in
     let failed : c.company.inside.failed ≡ c.args.company.now.failed = search rules in
     let lost : c.company.inside.lost ≡ c.args.company.now.lost = search rules in
-    still_met (omega (arith, more, both, seats, guests)) failed lost
-
-pub returns-clause-seats : goal.returns-clause-seats
-returns-clause-seats g c =
-    let before : c.if-has.company.seats ≡ c.args.company.now.seats = elim c.if-has.branch [ then-has w ↦ search rules | else-has+in-Err w ↦ search rules ] in
-    let behind : c.company-2.inside.seats.items ≡ c.hand_back.new.company.seats = search rules in
-    inl (behind ∙ c.hand_back.ensures.seats ∙ before)
-
-pub returns-clause-met : goal.returns-clause-met
-returns-clause-met g c =
-    let before : c.if-has.company.failed ≡ c.args.company.now.failed = elim c.if-has.branch [ then-has w ↦ search rules | else-has+in-Err w ↦ search rules ] in
-    let behind : c.company-2.inside.failed ≡ c.hand_back.new.company.failed = search rules in
-    lost_met c.hand_back.ensures.met behind before
+    let above : c.args.company.now.newest < c.link-link.result.0 = c.takes.ensures.beyond (search rules) in
+    seat_met (omega (arith, more, both, guests))
+    (numbers_more _ (with_hand None (inside_of c.args.company.now)) _ c.link-link.result above refl
+    (λ k.
+    let e = ap (seats_under k) items in
+    let split = seated_split k c.args.company.now.seats [] c.args.seat in
+    let nil = ap (seats_under k) (append-nil c.args.company.now.seats) in
+    let link = ap (λ (l : LinkNo). one_under k (Some l)) c.link-link.ensures in
+    omega (arith, e, split, nil, link))) failed lost

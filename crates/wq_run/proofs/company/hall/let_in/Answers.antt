@@ -1,4 +1,5 @@
 use Rattle.std.proofs.Common.{rules, ◌≡◌, ◌++◌, ◌∷◌, [], ap, arith, length, length-append}
+use Rattle.wq_run.specs.Seats.{seats_under}
 use Rattle.wq_run.proofs.Companies.{still_met}
 use Rattle.wq_run.proofs.company.hall.let_in.Goals as goal
 
@@ -7,8 +8,10 @@ returns-in_default-clause-met g c =
     let items : c.push.new.self.items ≡ c.company.inside.guests.items ++ (c.in-Ok.peer ∷ []) = search rules in
     let more = ap length items in
     let both = length-append c.company.inside.guests.items (c.in-Ok.peer ∷ []) in
-    let seats : length c.args.company.now.seats ≡ length c.company.inside.seats.items = search rules in
+    let same : c.company.inside.seats.items ≡ c.args.company.now.seats = search rules in
+    let seats = ap length same in
+    let newest : c.company.inside.newest ≡ c.args.company.now.newest = search rules in
     let guests : length c.args.company.now.guests ≡ length c.company.inside.guests.items = search rules in
     let failed : c.company.inside.failed ≡ c.args.company.now.failed = search rules in
     let lost : c.company.inside.lost ≡ c.args.company.now.lost = search rules in
-    still_met (omega (arith, more, both, seats, guests)) failed lost
+    still_met (record { links = omega (arith, more, both, seats, guests); fewer = λ k. let e = ap (seats_under k) same in omega (arith, e); newest = newest }) failed lost

@@ -1,7 +1,8 @@
-use Rattle.std.proofs.Common.{◌≡◌, ◌∙◌, None, sym, subst}
+use Rattle.std.proofs.Common.{◌≡◌, ◌∙◌, None, Some, ap, sym, subst}
+use Rattle.flow_types.specs.declared.numbers.LinkNo.{LinkNo}
 use Rattle.desk.specs.State.{DeskState}
 use Rattle.local_run.specs.Underway.{IsSurePool}
-use Rattle.wq_run.specs.Seats.{Manned}
+use Rattle.wq_run.specs.Seats.{Manned, Meets, inside_of, with_hand}
 use Rattle.wq_run.proofs.Companies.{leave_asks, parted_left, parted_still}
 use Rattle.wq_run.proofs.company.parting.part.Goals as goal
 use Rattle.wq_run.proofs.company.parting.part.Goals.{then-works, else-works}
@@ -21,3 +22,8 @@ returns-clause-manned g c before behind first waiting heard are parts =
       | else-works w ↦ subst (λ (d : DeskState g.row.S.Denot). Manned g.T.Terms.trust g.F.Commands.gives g.F.Commands.may_fail g.T.Terms.sources g.S.Site.tells g.T.Terms.kept (IsSurePool g.B.Terms.fits) g.S.Site.files g.S.Site.may_leave g.S.Site.moment g.S.Site.images_since first d c.abandon.new.held waiting heard c.hand_back.new.company.seats) (sym w.desk-is)
           (parted_still c.abandon.ensures.stays c.abandon.ensures.none c.abandon.ensures.keeps (c.hand_back.ensures.seats ∙ are) parts)
     ]
+
+pub returns-clause-met : goal.returns-clause-met
+returns-clause-met g c =
+    subst (λ (l : LinkNo). Meets (g.H.Hall.count c.args.hall.now) (g.H.Hall.count c.hand_back.new.hall) (g.H.Hall.got c.args.hall.now) (g.H.Hall.got c.hand_back.new.hall) (g.H.Hall.given c.args.hall.now) (g.H.Hall.given c.hand_back.new.hall) (g.H.Hall.idle_count c.args.hall.now) (g.H.Hall.idle_count c.hand_back.new.hall)
+    (with_hand (Some l) (inside_of c.args.company.now)) (inside_of c.hand_back.new.company) c.args.company.now.failed c.hand_back.new.company.failed c.args.company.now.lost c.hand_back.new.company.lost) (c.link-link.ensures ∙ c.abandon.ensures.stays.link) c.hand_back.ensures.met

@@ -1,7 +1,8 @@
-use Rattle.std.proofs.Common.{rules, ◌≡◌, ◌∙◌, ap, sym, arith, length, length-append, ◌∷◌, slice_index_or}
+use Rattle.std.proofs.Common.{rules, ◌≡◌, ◌∙◌, ap, sym, arith, length, length-append, ◌∷◌, Some, slice_index_or}
 use Rattle.std.specs.Prelude.{remove}
-use Rattle.wq_run.specs.Seats.{links_in}
-use Rattle.wq_run.proofs.Companies.{met_then, parting_of, parts_of, rest_at, still_met}
+use Rattle.wq_run.specs.Seats.{SeatState, one_under, seats_under}
+use Rattle.wq_run.proofs.Companies.{met_then, parting_of, parts_of, rest_at, still_met, taken_at}
+use Rattle.wq_run.proofs.Counting.{seated_split}
 use Rattle.wq_run.proofs.company.parting.part_at.Goals as goal
 
 pub part-requires-clause-parting : goal.part-requires-clause-parting
@@ -27,4 +28,17 @@ returns-clause-met g c =
     let guests : length c.args.company.now.guests ≡ length c.company.inside.guests.items = search rules in
     let failed : c.company.inside.failed ≡ c.args.company.now.failed = search rules in
     let lost : c.company.inside.lost ≡ c.args.company.now.lost = search rules in
-    met_then (still_met (omega (arith, were, now, all, both, guests)) failed lost) c.part.ensures.met
+    let newest : c.company.inside.newest ≡ c.args.company.now.newest = search rules in
+    let is : c.remove-seat.result ≡ slice_index_or c.args.company.now.seats c.args.at c.remove-seat.result = search rules in
+    let same : c.remove-seat.result ≡ p.seat = taken_at c.args.company.now.seats c.args.at c.remove-seat.result p.before p.seat p.behind p.are p.place is in
+    let seats = rest ∙ rest_at c.args.company.now.seats c.args.at p.before p.seat p.behind p.are p.place in
+    met_then (still_met (record {
+      links = omega (arith, were, now, all, both, guests);
+      fewer = λ k.
+          let old = ap (seats_under k) p.are in
+          let new = ap (seats_under k) seats in
+          let split = seated_split k p.before p.behind p.seat in
+          let hand = ap (λ (s : SeatState g.row.H-Way.Denot). one_under k (Some s.link)) same in
+          omega (arith, old, new, split, hand);
+      newest = newest;
+    }) failed lost) c.part.ensures.met

@@ -1,5 +1,6 @@
 use Rattle.std.proofs.Common.{rules, ◌≡◌, ◌∙◌, ◌++◌, ◌∷◌, [], ap, sym, arith, length, length-append}
 use Rattle.std.proofs.lemmas.List.{append-nil}
+use Rattle.wq_run.specs.Seats.{seats_under}
 use Rattle.wq_run.proofs.Companies.{is_then, man_as, met_then, still_met, valid_then}
 use Rattle.wq_run.proofs.company.rounds.dismiss.Goals as goal
 
@@ -33,11 +34,12 @@ loop-peer-preserved g c =
     let seats = ap length same in
     let failed : c.company.inside.failed ≡ c.loop-peer.company.failed = search rules in
     let lost : c.company.inside.lost ≡ c.loop-peer.company.lost = search rules in
+    let newest : c.company.inside.newest ≡ c.loop-peer.company.newest = search rules in
     record {
       manned = λ first waiting heard m. man_as (c.hand_back.ensures.seats ∙ same) (c.loop-peer.invariant.manned first waiting heard m);
       seats = c.hand_back.ensures.seats ∙ same ∙ c.loop-peer.invariant.seats;
       listens = λ is. c.hand_back.ensures.listens (c.loop-peer.invariant.listens is);
-      met = met_then c.loop-peer.invariant.met (met_then (still_met (omega (arith, many, both, seats)) failed lost) c.hand_back.ensures.met);
+      met = met_then c.loop-peer.invariant.met (met_then (still_met (record { links = omega (arith, many, both, seats); fewer = λ k. let e = ap (seats_under k) same in omega (arith, e); newest = newest }) failed lost) c.hand_back.ensures.met);
     }
 
 pub returns-clause-manned : goal.returns-clause-manned
@@ -54,4 +56,5 @@ returns-clause-met g c =
     let seats = ap length same in
     let failed : c.company.inside.failed ≡ c.loop-peer.company.failed = search rules in
     let lost : c.company.inside.lost ≡ c.loop-peer.company.lost = search rules in
-    met_then c.loop-peer.invariant.met (still_met (omega (arith, many, both, seats)) failed lost)
+    let newest : c.company.inside.newest ≡ c.loop-peer.company.newest = search rules in
+    met_then c.loop-peer.invariant.met (still_met (record { links = omega (arith, many, both, seats); fewer = λ k. let e = ap (seats_under k) same in omega (arith, e); newest = newest }) failed lost)

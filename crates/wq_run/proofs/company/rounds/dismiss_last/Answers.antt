@@ -1,7 +1,9 @@
-use Rattle.std.proofs.Common.{rules, ◌≡◌, ◌∙◌, ◌++◌, ◌∷◌, [], ap, sym, arith, length, length-append}
+use Rattle.std.proofs.Common.{rules, ◌≡◌, ◌∙◌, ◌++◌, ◌∷◌, [], Some, ap, sym, arith, length, length-append}
 use Rattle.std.proofs.lemmas.List.{append-nil}
-use Rattle.wq_run.specs.Seats.{links_in}
+use Rattle.flow_types.specs.declared.numbers.LinkNo.{LinkNo}
+use Rattle.wq_run.specs.Seats.{one_under, seats_under}
 use Rattle.wq_run.proofs.Companies.{last_is, last_parts, met_then, still_met}
+use Rattle.wq_run.proofs.Counting.{seated_split}
 use Rattle.wq_run.proofs.company.rounds.dismiss_last.Goals as goal
 
 pub part-requires-clause-parting : goal.part-requires-clause-parting
@@ -23,7 +25,17 @@ returns-in-Some-clause-met g c =
     let guests : length c.args.company.now.guests ≡ length c.company.inside.guests.items = search rules in
     let failed : c.company.inside.failed ≡ c.args.company.now.failed = search rules in
     let lost : c.company.inside.lost ≡ c.args.company.now.lost = search rules in
-    met_then (still_met (omega (arith, many, both, guests)) failed lost) c.part.ensures.met
+    let newest : c.company.inside.newest ≡ c.args.company.now.newest = search rules in
+    met_then (still_met (record {
+      links = omega (arith, many, both, guests);
+      fewer = λ k.
+          let old = ap (seats_under k) are in
+          let split = seated_split k c.pop.new.self.items [] c.in-Some.seat in
+          let none = ap (seats_under k) (append-nil c.pop.new.self.items) in
+          let hand = ap (λ (l : LinkNo). one_under k (Some l)) c.farewell.ensures.link in
+          omega (arith, old, split, none, hand);
+      newest = newest;
+    }) failed lost) c.part.ensures.met
 
 pub returns-in-None-clause-met : goal.returns-in-None-clause-met
 returns-in-None-clause-met g c =
@@ -33,4 +45,9 @@ returns-in-None-clause-met g c =
     let guests : length c.args.company.now.guests ≡ length c.company.inside.guests.items = search rules in
     let failed : c.company.inside.failed ≡ c.args.company.now.failed = search rules in
     let lost : c.company.inside.lost ≡ c.args.company.now.lost = search rules in
-    still_met (omega (arith, many, both, guests)) failed lost
+    let newest : c.company.inside.newest ≡ c.args.company.now.newest = search rules in
+    still_met (record {
+      links = omega (arith, many, both, guests);
+      fewer = λ k. let old = ap (seats_under k) are in let none = ap (seats_under k) (append-nil c.pop.new.self.items) in omega (arith, old, none);
+      newest = newest;
+    }) failed lost

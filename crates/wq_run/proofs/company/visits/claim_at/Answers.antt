@@ -1,8 +1,8 @@
 use Rattle.std.proofs.Common.{rules, ◌≡◌, List, Option, None, Some, true, true≢false, refl, ◌∙◌, ap, sym, length}
 use Rattle.std.specs.Prelude.{is_none, slice_get, slice_set}
 use Rattle.local_run.specs.Underway.{IsSurePool}
-use Rattle.wq_run.specs.Seats.{SeatState}
-use Rattle.wq_run.proofs.Companies.{got_at, set_many, visited}
+use Rattle.wq_run.specs.Seats.{SeatState, seats_under}
+use Rattle.wq_run.proofs.Companies.{got_at, link_stays, set_many, set_seated, visited}
 use Rattle.wq_run.proofs.Splits.{split_at}
 use Rattle.wq_run.proofs.Visits.{visit_at}
 use Rattle.wq_run.proofs.company.visits.claim_at.Goals as goal
@@ -35,6 +35,16 @@ pub returns-clause-many : goal.returns-clause-many
 returns-clause-many g c =
     let are : c.company.inside.seats.items ≡ c.args.company.now.seats = search rules in
     set_many c.company.inside.seats.items c.args.at c.in-Some.seat.now c.claim.new.self (got_at c.company.inside.seats.items c.args.at c.in-Some.seat.now c.in-Some.ensures.item.0 c.in-Some.ensures.item.1) ∙ ap length are
+
+pub returns-clause-numbers : goal.returns-clause-numbers
+returns-clause-numbers g c k =
+    let are : c.company.inside.seats.items ≡ c.args.company.now.seats = search rules in
+    set_seated c.company.inside.seats.items c.args.at c.in-Some.seat.now c.claim.new.self (got_at c.company.inside.seats.items c.args.at c.in-Some.seat.now c.in-Some.ensures.item.0 c.in-Some.ensures.item.1)
+    (link_stays g.T.Terms.trust g.F.Commands.gives g.F.Commands.may_fail g.T.Terms.sources g.S.Site.tells g.T.Terms.kept (IsSurePool g.B.Terms.fits) g.S.Site.files g.S.Site.may_leave g.S.Site.moment g.S.Site.images_since c.args.desk.now c.claim.new.desk c.args.held.now c.claim.new.held c.in-Some.seat.now c.claim.new.self c.claim.result c.claim.ensures.keeps) k
+    ∙ ap (seats_under k) are
+
+pub returns-clause-newest : goal.returns-clause-newest
+returns-clause-newest g c = search rules
 
 pub returns-clause-guests : goal.returns-clause-guests
 returns-clause-guests g c = search rules

@@ -1,5 +1,4 @@
 use Rattle.std.proofs.Common.{rules, ◌≡◌, ap, arith, length}
-use Rattle.wq_run.specs.Seats.{links_in}
 use Rattle.wq_run.proofs.Companies.{inside_parts, met_then, still_met, valid_parts}
 use Rattle.wq_run.proofs.company.visits.visit.Goals as goal
 
@@ -22,7 +21,7 @@ pub returns-in-Ok-clause-met : goal.returns-in-Ok-clause-met
 returns-in-Ok-clause-met g c =
     let many = c.hear_at.ensures.many in
     let guests = ap length c.hear_at.ensures.guests in
-    still_met (omega (arith, many, guests)) c.hear_at.ensures.failed c.hear_at.ensures.lost
+    still_met (record { links = omega (arith, many, guests); fewer = λ k. let e = c.hear_at.ensures.numbers k in omega (arith, e); newest = c.hear_at.ensures.newest }) c.hear_at.ensures.failed c.hear_at.ensures.lost
 
 pub returns-in-Err-clause-manned : goal.returns-in-Err-clause-manned
 returns-in-Err-clause-manned g c first waiting heard m = c.part_at.ensures.manned first waiting heard (c.in-Err.ensures.manned first waiting heard m)
@@ -31,4 +30,4 @@ pub returns-in-Err-clause-met : goal.returns-in-Err-clause-met
 returns-in-Err-clause-met g c =
     let many = c.hear_at.ensures.many in
     let guests = ap length c.hear_at.ensures.guests in
-    met_then (still_met (omega (arith, many, guests)) c.hear_at.ensures.failed c.hear_at.ensures.lost) c.part_at.ensures.met
+    met_then (still_met (record { links = omega (arith, many, guests); fewer = λ k. let e = c.hear_at.ensures.numbers k in omega (arith, e); newest = c.hear_at.ensures.newest }) c.hear_at.ensures.failed c.hear_at.ensures.lost) c.part_at.ensures.met
