@@ -49,13 +49,13 @@ fails_by faults before way outside.Failed halt cause le link memory = subst (Fai
 fails_by faults before way outside.Memory halt cause le link memory = subst (FailsBy faults way) (sym (memory refl)) tt
 
 -- the frames of a row and of one message more, before what comes behind
-frames_more : (ms : List Message) (m : Message) (rest : List ℕ) → frames_of ms ++ (framed m ++ rest) ≡ frames_of (ms ++ m ∷ []) ++ rest
+pub frames_more : (ms : List Message) (m : Message) (rest : List ℕ) → frames_of ms ++ (framed m ++ rest) ≡ frames_of (ms ++ m ∷ []) ++ rest
 frames_more ms m rest =
     sym (append_assoc (frames_of ms) (framed m) rest)
     ∙ ap (λ (w : List ℕ). (frames_of ms ++ w) ++ rest) (sym (append-nil (framed m)))
     ∙ ap (λ (w : List ℕ). w ++ rest) (sym (frames_append ms (m ∷ [])))
 
-frames_len : (ms : List Message) (m : Message) → length (frames_of (ms ++ m ∷ [])) ≡ length (frames_of ms) + length (framed m)
+pub frames_len : (ms : List Message) (m : Message) → length (frames_of (ms ++ m ∷ [])) ≡ length (frames_of ms) + length (framed m)
 frames_len ms m =
     omega (arith, ap length (frames_append ms (m ∷ [])), length-append (frames_of ms) (frames_of (m ∷ [])), length-append (framed m) [])
 

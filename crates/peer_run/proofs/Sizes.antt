@@ -29,18 +29,18 @@ use Rattle.peer_run.specs.Says.{CanBeTold}
 
 -- ---- lengths of spellings
 
-len : (n x : ℕ) → length (big_bytes n x) ≡ n
+pub len : (n x : ℕ) → length (big_bytes n x) ≡ n
 len n x = length-bytes_high_first n x
 
 amounts_len : (a : Amounts) → length (amounts_bytes a) ≡ 12
 amounts_len a =
     omega (arith, length-append (big_bytes 4 a.cores) (big_bytes 4 a.memory ++ big_bytes 4 a.disk), length-append (big_bytes 4 a.memory) (big_bytes 4 a.disk), len 4 a.cores, len 4 a.memory, len 4 a.disk)
 
-offer_len : (total largest : Amounts) (cache : ℕ) → length (offer_bytes total largest cache) ≡ 32
+pub offer_len : (total largest : Amounts) (cache : ℕ) → length (offer_bytes total largest cache) ≡ 32
 offer_len total largest cache =
     omega (arith, length-append (amounts_bytes total) (amounts_bytes largest ++ big_bytes 8 cache), length-append (amounts_bytes largest) (big_bytes 8 cache), amounts_len total, amounts_len largest, len 8 cache)
 
-spelled_len : (m : Message) → length (spelling m) ≡ 1 + length (fields_of m)
+pub spelled_len : (m : Message) → length (spelling m) ≡ 1 + length (fields_of m)
 spelled_len m = omega (arith, length-append (big_bytes 1 (kind_of m)) (fields_of m), len 1 (kind_of m))
 
 pub hello_told : (total largest : Amounts) (cache : ℕ) → CanBeTold (messages.Hello total largest cache)
@@ -64,7 +64,7 @@ success_len : (contents : List (List ℕ)) → length (outcome_bytes (outcomes.S
 success_len contents =
     omega (arith, length-append (big_bytes 1 0) (big_bytes 4 (length contents) ++ flat_map counted contents), length-append (big_bytes 4 (length contents)) (flat_map counted contents), len 1 0, len 4 (length contents), length-flat_map counted contents, counted_sum contents)
 
-done_len : (attempt : AttemptNo) (outcome : Outcome) → length (spelling (messages.Done attempt outcome)) ≡ 9 + length (outcome_bytes outcome)
+pub done_len : (attempt : AttemptNo) (outcome : Outcome) → length (spelling (messages.Done attempt outcome)) ≡ 9 + length (outcome_bytes outcome)
 done_len attempt outcome =
     omega (arith, spelled_len (messages.Done attempt outcome), length-append (big_bytes 8 attempt.0) (outcome_bytes outcome), len 8 attempt.0)
 

@@ -31,6 +31,18 @@ line_of (causes.SinkFault before after) = []
 line_of (causes.BadMessage at) = codes "work_queue_worker: bad message\n"
 line_of causes.Memory = codes "work_queue_worker: out of memory\n"
 
+-- what a foreman prints
+abbrev pub foreman_line_of : PeerCause → List ℕ
+foreman_line_of causes.Bye = codes "work_queue_foreman: bye\n"
+foreman_line_of causes.Usage = codes "work_queue_foreman: usage\n"
+foreman_line_of causes.Closed = codes "work_queue_foreman: closed\n"
+foreman_line_of (causes.DialFault before after) = codes "work_queue_foreman: fault\n"
+foreman_line_of (causes.LinkFault before after) = codes "work_queue_foreman: fault\n"
+foreman_line_of (causes.HallFault before after) = codes "work_queue_foreman: fault\n"
+foreman_line_of (causes.SinkFault before after) = []
+foreman_line_of (causes.BadMessage at) = codes "work_queue_foreman: bad message\n"
+foreman_line_of causes.Memory = codes "work_queue_foreman: out of memory\n"
+
 -- why it ends that left its link so, whose count is this by now and was nothing first
 abbrev pub cause_of : ℕ → Halt → PeerCause
 cause_of after halts.Bye = causes.Bye

@@ -10,21 +10,22 @@ use Rattle.worker_core.specs.Workers.{Worker}
 use Rattle.peer_run.specs.declared.cause.PeerCause.{PeerCause}
 use Rattle.peer_run.specs.declared.cause.PeerCause.TheVariants as causes
 use Rattle.peer_run.specs.declared.halt.Halt.{Halt}
-use Rattle.peer_run.specs.Causes.{cause_of, line_of, printed_cause}
+use Rattle.peer_run.specs.Causes.{cause_of, printed_cause}
 use Rattle.peer_run.specs.Ends.{WorkLeft}
 use Rattle.peer_run.specs.Met.{new_worker}
 use Rattle.peer_run.specs.Works.{Way}
 
 -- Some answer of the sink led from the one cause to the other: the sink fails only where its count
--- rises, and what it has taken grew by the line of the cause that it was given, whole where that
+-- rises, and what it has taken grew by the line, which it took whole where the first
 -- cause stands.
-pub record IsPrinted (tells : Type 0) (before after : ℕ) (old new : List ℕ) (cause stands : PeerCause) : Type 0 where
+pub record IsPrinted (tells : Type 0) (before after : ℕ) (old new : List ℕ)
+    (line : List ℕ) (cause stands : PeerCause) : Type 0 where
   pub printed : Result (Unit {0}) Fault
   pub is_cause : stands ≡ printed_cause before after cause printed
   pub rose : IsErrOf printed faults.Failed → before < after
   pub later : before ≤ after
-  pub part : tells → (n : ℕ) × (new ≡ old ++ take n (line_of cause))
-  pub whole : (printed ≡ Ok tt) → tells → new ≡ old ++ line_of cause
+  pub part : tells → (n : ℕ) × (new ≡ old ++ take n line)
+  pub whole : (printed ≡ Ok tt) → tells → new ≡ old ++ line
 
 -- the worker that these words ask for, before anything came
 abbrev pub worker_by : WorkerOptions → Worker

@@ -1,6 +1,6 @@
 //! How a peer ends, with its status and its line.
 ghost use Rattle.std.specs.Prelude.{◌≡◌};
-ghost use Rattle.peer_run.specs.Causes.{line_of, status_of};
+ghost use Rattle.peer_run.specs.Causes.{foreman_line_of, line_of, status_of};
 
 /// Why a peer ends.
 #[derive(Clone, Copy, Debug, PartialEq, Eq)]
@@ -57,6 +57,23 @@ impl PeerCause {
             PeerCause::SinkFault { .. } => b"",
             PeerCause::BadMessage { .. } => b"work_queue_worker: bad message\n",
             PeerCause::Memory => b"work_queue_worker: out of memory\n",
+        }
+    }
+
+    /// What a foreman prints. Behind a sink's fault it prints nothing more.
+    pub fn foreman_line(self) -> &'static [u8]
+        ensures { result.now ≡ foreman_line_of self }
+    {
+        match self {
+            PeerCause::Bye => b"work_queue_foreman: bye\n",
+            PeerCause::Usage => b"work_queue_foreman: usage\n",
+            PeerCause::Closed => b"work_queue_foreman: closed\n",
+            PeerCause::DialFault { .. }
+            | PeerCause::LinkFault { .. }
+            | PeerCause::HallFault { .. } => b"work_queue_foreman: fault\n",
+            PeerCause::SinkFault { .. } => b"",
+            PeerCause::BadMessage { .. } => b"work_queue_foreman: bad message\n",
+            PeerCause::Memory => b"work_queue_foreman: out of memory\n",
         }
     }
 }

@@ -1,4 +1,4 @@
-//! What a peer hears of its parent.
+//! What a peer hears over a link.
 ghost use Rattle.std.specs.Prelude.{◌≡◌, ◌+◌, ◌-◌, ◌++◌, [], None, IfOk, OnOk, IfErr, length};
 ghost use Rattle.wq_messages.specs.Views.{HasMessage, shown};
 ghost use Rattle.peer_run.specs.Ends.{Advanced, Takes};
@@ -8,10 +8,11 @@ use flow_types::{Memory, Message};
 use std::alloc::Global;
 use std::marker::Model;
 use wq_frames::{FeedFault, Feeder};
+use wq_messages::View;
 
-/// The bytes that came down and that no message took, and how many came in all.
+/// The bytes that came over a link and that no message took, and how many came in all.
 #[derive(Drop)]
-pub(crate) struct Ear {
+pub struct Ear {
     feeder: Feeder,
     fed: u64,
 }
@@ -63,20 +64,28 @@ impl Ear {
         Ok(())
     }
 
-    // Takes the next frame, if a whole one is there.
-    fn advance(&mut self) -> Result<bool, FeedFault>
+    /// Takes the next frame, if a whole one is there. After an error nothing more is to be taken.
+    pub fn advance(&mut self) -> Result<bool, FeedFault>
         requires { self.old.stop ≡ None }
         ensures { Advanced self.old result self.new }
     {
         self.feeder.advance()
     }
 
-    // The message of the frame that was taken last.
+    /// The message of the frame that was taken last.
+    pub fn heard(&self) -> View<'_>
+        requires { HasMessage self.now.body }
+        ensures { result ≡ shown self.now.body }
+    {
+        self.feeder.heard()
+    }
+
+    // The same, for itself.
     fn message(&self, alloc: Global) -> Result<Message, Memory>
         requires { HasMessage self.now.body }
         ensures { IfOk result (λ message. message ≡ shown self.now.body) }
     {
-        self.feeder.heard().to_message(alloc)
+        self.heard().to_message(alloc)
     }
 
     /// Takes the next message, if a whole one is there.

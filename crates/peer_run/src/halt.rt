@@ -1,6 +1,6 @@
-//! Why a worker leaves its link.
+//! Why a peer leaves its parent.
 
-/// Why a worker leaves its link.
+/// Why a peer leaves its parent.
 #[derive(Clone, Copy, Debug, PartialEq, Eq)]
 pub enum Halt {
     /// Its work is over.

@@ -1,4 +1,4 @@
-//! The programs of peers: a worker over one link.
+//! The programs of peers: a worker over one link, and what a foreman has in common with it.
 #![tactic(auto)]
 
 mod cause;
@@ -11,6 +11,8 @@ mod voice;
 mod work;
 
 pub use cause::PeerCause;
+pub use ear::Ear;
 pub use halt::Halt;
+pub use printing::tell;
 pub use top::{PeerEnded, worker_top};
 pub use voice::say;

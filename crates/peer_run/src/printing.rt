@@ -1,4 +1,4 @@
-//! Prints how a worker ends.
+//! Prints how a peer ends.
 ghost use Rattle.std.specs.Prelude.{◌≡◌, ◌≤◌};
 ghost use Rattle.peer_run.specs.Causes.{printed_cause};
 ghost use Rattle.peer_run.specs.Ended.{IsPrinted};
@@ -16,12 +16,12 @@ fn printed_cause(cause: PeerCause, before: u64, after: u64, printed: Result<(), 
     }
 }
 
-/// Prints the line of a worker that ends by this cause, and answers the cause that stands then.
-pub(crate) fn tell<O: Sink>(cause: PeerCause, out: &mut O) -> PeerCause
+/// Prints the line of a peer that ends by this cause, and answers the cause that stands then.
+pub fn tell<O: Sink>(cause: PeerCause, line: &[u8], out: &mut O) -> PeerCause
     ensures { IsPrinted O.tells (O.count out.old) (O.count out.new) (O.bytes out.old)
-        (O.bytes out.new) cause result }
+        (O.bytes out.new) line.now cause result }
 {
     let before = out.faults();
-    let printed = out.write(cause.worker_line());
+    let printed = out.write(line);
     printed_cause(cause, before, out.faults(), printed)
 }

@@ -2,7 +2,7 @@
 ghost use Rattle.std.specs.Prelude.{◌≡◌, ◌<◌, length, map, string_bytes, sum_by};
 ghost use Rattle.command_words.specs.Peers.{worker_options_of};
 ghost use Rattle.peer_run.specs.declared.cause.PeerCause.{PeerCause as Cause};
-ghost use Rattle.peer_run.specs.Causes.{cause_of, status_of};
+ghost use Rattle.peer_run.specs.Causes.{cause_of, line_of, status_of};
 ghost use Rattle.peer_run.specs.Ended.{EndsBy, IsPrinted};
 ghost use Rattle.peer_run.specs.Works.{way_of};
 
@@ -122,10 +122,10 @@ pub fn worker_top<
         (worker_options_of (map string_bytes words.now)) (D.count dial.old) (D.count dial.new)
         (sum_by R.count runners.old) (sum_by R.count runners.new) result.link cause
         × IsPrinted O.tells (O.count out.old) (O.count out.new) (O.bytes out.old) (O.bytes out.new)
-        cause result.cause }
+        (line_of cause) cause result.cause }
 {
     let Left { cause, link } = work_for::<F, W, D, R, G>(rt, alloc, words, dial, runners, gate);
-    let cause = tell(cause, out);
+    let cause = tell(cause, cause.worker_line(), out);
     PeerEnded {
         status: cause.status(),
         cause,

@@ -1,0 +1,528 @@
+-- What a foreman has come to, step by step.
+use Rattle.std.proofs.Common.{◌≡◌, ◌≤◌, ℕ, ◌+◌, ◌-◌, Bool, true, false, List, [], ◌∷◌, ◌++◌, length, Some, None, Result, Ok, Err, inl, inr, refl, sym, ap, ◌∙◌, subst, append_assoc, append-nil, arith}
+use Rattle.std.specs.Prelude.{◌||◌, slice_get, slice_set}
+use Rattle.std.proofs.lemmas.List.{length-append}
+use Rattle.flow_types.specs.declared.job.Failure.{Failure}
+use Rattle.flow_types.specs.declared.job.Job.{Job}
+use Rattle.flow_types.specs.declared.messages.Message.{Message}
+use Rattle.flow_types.specs.Serial.{Function}
+use Rattle.links.proofs.Honesties.{new_link_right, heard_as}
+use Rattle.links.specs.declared.passing.Got.{Got}
+use Rattle.links.specs.declared.passing.Passed.{Passed}
+use Rattle.links.specs.declared.passing.Passed.TheVariants.{Received}
+use Rattle.links.specs.Honesty.{IsHonestThroughout}
+use Rattle.links.specs.Passings.{Receives, received_in, sent_in}
+use Rattle.links.specs.Peers.{IsRightLink, MaySay}
+use Rattle.message_forms.proofs.Parses.{carries_next, frames_append, framed_append}
+use Rattle.message_forms.specs.Streams.{AreFramed, BeginsWith, Carries, IsBroken, IsFramed, framed, frames_of}
+use Rattle.outside.specs.Causes.{HasCause}
+use Rattle.outside.specs.declared.fault.Fault.{Fault}
+use Rattle.outside.specs.declared.fault.Fault.TheVariants as outside
+use Rattle.peers.proofs.Serving.{honest_now}
+use Rattle.peers.specs.Serves.{WasHonest}
+use Rattle.worker_core.specs.Workers.{goes_up}
+use Rattle.wq_messages.specs.Views.{shown}
+use Rattle.foreman_core.specs.declared.acts.Down.{Down}
+use Rattle.foreman_core.specs.Foremen.{Foreman, new_foreman}
+use Rattle.foreman_core.specs.Members.{Every, Stands}
+use Rattle.foreman_core.specs.Steps.{hears_down, hears_up, loses}
+use Rattle.foreman_core.proofs.Members.{every_append, every_nil, every_one, every_set, get_stands, stands_left, stands_right}
+use Rattle.peer_run.specs.declared.halt.Halt.TheVariants as halts
+use Rattle.peer_run.specs.Ends.{Advanced, Takes}
+use Rattle.peer_run.specs.Met.{is_bye}
+use Rattle.peer_run.specs.Says.{Each, SaysAll, SendsAll}
+use Rattle.peer_run.specs.Works.{EarState, Way}
+use Rattle.peer_run.proofs.Going.{frames_len, frames_more}
+use Rattle.foreman_run.specs.declared.stop.Stop.{Stop}
+use Rattle.foreman_run.specs.declared.stop.Stop.TheVariants as stops
+use Rattle.foreman_run.specs.Ends.{FailsBy, IsFound, LeavesHall, MayStop, Stops}
+use Rattle.foreman_run.specs.Lowers.{AnswersBelow, AreHeld, AreHonest, Gains, IsHeld, Keeps, KeepsWith, LowerState, Parts, Passes, over}
+use Rattle.foreman_run.specs.Met.{Met, above, below, lost, foreman_of, goes_wrong, has_left, heard_of, hello, led_by, sent_of, told_of}
+use Rattle.foreman_run.specs.Works.{Works}
+use Rattle.foreman_run.proofs.Honest.{answered_more, came_answered, step_may}
+
+-- why a foreman stops where a call of the link to its parent failed so
+pub fails_by : {T : Type 0} (faults before : ℕ) (way : Way) (fault : Fault) (stop : Stop) → (let r : Result T Fault = Err fault in HasCause before way.faults r) → faults ≤ before
+    → (fault ≡ outside.Failed → stop ≡ stops.Left halts.Link) → (fault ≡ outside.Memory → stop ≡ stops.Left halts.Memory) → FailsBy faults way stop
+fails_by faults before way outside.Failed stop cause le link memory = subst (FailsBy faults way) (sym (link refl)) (omega (arith, le, cause.failed refl))
+fails_by faults before way outside.Memory stop cause le link memory = subst (FailsBy faults way) (sym (memory refl)) tt
+
+or_none : (b c : Bool) → c ≡ false → (b || c) ≡ b
+or_none true c e = refl
+or_none false c e = e
+
+-- ---- links to workers, as more is to go down
+
+held_one_more : {L : Type 0} (tells : Type 0) (history : L → List Passed) (sent more : List Down) (l : LowerState L) → IsHeld tells history sent l → IsHeld tells history (sent ++ more) l
+held_one_more tells history sent more l is stays t =
+    let p = is stays t in
+    record {
+      said = p.said;
+      said_framed = p.said_framed;
+      are_sent = p.are_sent;
+      went = λ m there. stands_left (over l.link m) sent more (p.went m there);
+      heard = p.heard;
+      came = p.came;
+    }
+
+pub held_more : {L : Type 0} (tells : Type 0) (history : L → List Passed) (sent more : List Down) (lowers : List (LowerState L)) → AreHeld tells history sent lowers → AreHeld tells history (sent ++ more) lowers
+held_more tells history sent more lowers all = λ l there. held_one_more tells history sent more l (all l there)
+
+-- a link over which one message more was taken
+took_one : {L : Type 0} (history : L → List Passed) (sent : List Down) (old new : LowerState L) → new.link ≡ old.link → new.way ≡ old.way
+    → Advanced old.ear (Ok true) new.ear → Passes (history old.way) old.ear old.link sent → Passes (history new.way) new.ear new.link sent
+took_one history sent old new link way took p = record {
+  said = p.said;
+  said_framed = p.said_framed;
+  are_sent = ap (λ w. sent_in (history w)) way ∙ p.are_sent;
+  went = λ m there. subst (λ k. Stands (over k m) sent) (sym link) (p.went m there);
+  heard = p.heard ++ shown new.ear.body ∷ [];
+  came = record {
+    framed_all = framed_append p.heard (shown new.ear.body ∷ []) p.came.framed_all (took.0, tt);
+    are = ap (λ w. received_in (history w)) way ∙ p.came.are ∙ ap (λ r. frames_of p.heard ++ r) took.1 ∙ frames_more p.heard (shown new.ear.body) new.ear.rest;
+  };
+}
+
+module _ {L : Type 0} (gives : Function) (may_fail : Job → Failure → Type 0) (tells : Type 0) (trusted : Bool) (below_tells : Type 0) (history : L → List Passed) (honest : L → Type 0) (cap faults : ℕ) where
+  -- it has come to this
+  abbrev pub At : Way → EarState → Foreman → List (LowerState L) → List Message → List Down → Bool → Type 0
+  At way ear core lowers owed due left = Works gives may_fail tells trusted below_tells history honest cap faults way ear core lowers owed due left
+
+  -- what goes on, as it is found
+  pub found_now : (way : Way) (ear : EarState) (core : Foreman) (lowers : List (LowerState L)) (owed : List Message) (due : List Down) (left : Bool) → (w : At way ear core lowers owed due left)
+      → IsFound gives may_fail tells trusted cap way w.past
+  found_now way ear core lowers owed due left w = record {
+    in_order = w.in_order;
+    told_framed = w.told_framed;
+    came = λ t. (ear.rest, record { framed_all = w.heard_framed; are = w.stream t });
+    sent = λ t. (frames_of owed, ap (λ b. b ++ frames_of owed) (w.sent t) ∙ sym (frames_append w.said owed) ∙ ap frames_of (sym w.are_said));
+    right = λ t trust. (w.right t trust).honest;
+  }
+
+  -- Memory was wanting.
+  pub wants : (way : Way) (ear : EarState) (core : Foreman) (lowers : List (LowerState L)) (owed : List Message) (due : List Down) (left : Bool) → At way ear core lowers owed due left
+      → Stops gives may_fail tells trusted cap faults way (stops.Left halts.Memory)
+  wants way ear core lowers owed due left w = record { past = w.past; found = found_now way ear core lowers owed due left w; why = w.closed }
+
+  -- The hall failed.
+  pub hall_failed : (way : Way) (ear : EarState) (core : Foreman) (lowers : List (LowerState L)) → At way ear core lowers [] [] false → Stops gives may_fail tells trusted cap faults way stops.Hall
+  hall_failed way ear core lowers w = record { past = w.past; found = found_now way ear core lowers [] [] false w; why = (sym w.left_is, w.closed) }
+
+  -- The hall failed, or memory was wanting there.
+  pub hosts_not : (T : Type 0) (way : Way) (ear : EarState) (core : Foreman) (lowers : List (LowerState L)) (stop : Stop) → (let r : Result T Stop = Err stop in LeavesHall r) → At way ear core lowers [] [] false
+      → Stops gives may_fail tells trusted cap faults way stop
+  hosts_not T way ear core lowers stops.Hall is w = hall_failed way ear core lowers w
+  hosts_not T way ear core lowers (stops.Left halts.Memory) is w = wants way ear core lowers [] [] false w
+  hosts_not T way ear core lowers (stops.Left halts.Bye) is w = absurd is
+  hosts_not T way ear core lowers (stops.Left halts.Closed) is w = absurd is
+  hosts_not T way ear core lowers (stops.Left halts.Link) is w = absurd is
+  hosts_not T way ear core lowers (stops.Left (halts.Bad at)) is w = absurd is
+
+  -- The work is over.
+  pub is_over : (way : Way) (ear : EarState) (core : Foreman) (lowers : List (LowerState L)) → At way ear core lowers [] [] true → Stops gives may_fail tells trusted cap faults way (stops.Left halts.Bye)
+  is_over way ear core lowers w = record {
+    past = w.past;
+    found = found_now way ear core lowers [] [] true w;
+    why = (sym w.left_is, w.closed, (λ t. w.sent t ∙ ap frames_of (sym (w.are_said ∙ append-nil w.said))));
+  }
+
+  -- The grammar is left.
+  pub is_broken : (way : Way) (ear : EarState) (core : Foreman) (lowers : List (LowerState L)) (at : ℕ) → at ≡ ear.fed - length ear.rest → IsBroken ear.rest → At way ear core lowers [] [] false
+      → Stops gives may_fail tells trusted cap faults way (stops.Left (halts.Bad at))
+  is_broken way ear core lowers at is broken w = record {
+    past = w.past;
+    found = found_now way ear core lowers [] [] false w;
+    why = (sym w.left_is, w.closed, omega (arith, is, w.fed_is), (λ t. (ear.rest, inl broken, record { framed_all = w.heard_framed; are = w.stream t })));
+  }
+
+  -- A message comes that only goes up.
+  pub is_amiss : (way : Way) (ear next : EarState) (core : Foreman) (lowers : List (LowerState L)) (at : ℕ) (m : Message) → at ≡ ear.fed - length ear.rest → Takes ear (Ok (Some m)) next → goes_up m ≡ true
+      → At way ear core lowers [] [] false → Stops gives may_fail tells trusted cap faults way (stops.Left (halts.Bad at))
+  is_amiss way ear next core lowers at m is took up w = record {
+    past = w.past;
+    found = found_now way ear core lowers [] [] false w;
+    why = (sym w.left_is, w.closed, omega (arith, is, w.fed_is), (λ t. (ear.rest, inr (m, next.rest, took.0, up, took.1), record { framed_all = w.heard_framed; are = w.stream t })));
+  }
+
+  -- ---- waiting for the parent
+
+  -- The parent has closed the link.
+  pub is_closed : (old new : Way) (ear next : EarState) (core : Foreman) (lowers : List (LowerState L)) → Takes ear (Ok None) next → (tells → new.history ≡ old.history) → new.closed ≡ true
+      → At old ear core lowers [] [] false → Stops gives may_fail tells trusted cap faults new (stops.Left halts.Closed)
+  is_closed old new ear next core lowers took same closed w = record {
+    past = w.past;
+    found = record {
+      in_order = w.in_order;
+      told_framed = w.told_framed;
+      came = λ t. (ear.rest, record { framed_all = w.heard_framed; are = ap received_in (same t) ∙ w.stream t });
+      sent = λ t. ([], append-nil (sent_in new.history) ∙ ap sent_in (same t) ∙ w.sent t ∙ ap frames_of (sym (w.are_said ∙ append-nil w.said)));
+      right = λ t trust. subst (IsHonestThroughout gives may_fail received_in sent_in) (sym (same t)) (w.right t trust).honest;
+    };
+    why = (sym w.left_is, closed, (λ t. (ear.rest, took.0, record { framed_all = w.heard_framed; are = ap received_in (same t) ∙ w.stream t })));
+  }
+
+  fails_why : (way : Way) (past : List Met) (stop : Stop) → FailsBy faults way stop → way.closed ≡ false → has_left past ≡ false → MayStop tells cap faults way past stop
+  fails_why way past (stops.Left halts.Link) lt closed stays = (stays, closed, lt)
+  fails_why way past (stops.Left halts.Memory) lt closed stays = closed
+  fails_why way past (stops.Left halts.Bye) lt closed stays = absurd lt
+  fails_why way past (stops.Left halts.Closed) lt closed stays = absurd lt
+  fails_why way past (stops.Left (halts.Bad at)) lt closed stays = absurd lt
+  fails_why way past stops.Hall lt closed stays = absurd lt
+
+  -- Waiting for bytes failed, or those that came couldn't be kept.
+  pub hears_not : (old new : Way) (ear : EarState) (core : Foreman) (lowers : List (LowerState L)) (got : Result Got Fault) (stop : Stop) → (tells → Receives got old.history new.history)
+      → new.closed ≡ false → FailsBy faults new stop → At old ear core lowers [] [] false → Stops gives may_fail tells trusted cap faults new stop
+  hears_not old new ear core lowers got stop received closed fails w = record {
+    past = w.past;
+    found = record {
+      in_order = w.in_order;
+      told_framed = w.told_framed;
+      came = λ t. came_more got (received t) (w.stream t);
+      sent = λ t. ([], append-nil (sent_in new.history) ∙ sent_same got (received t) ∙ w.sent t ∙ ap frames_of (sym (w.are_said ∙ append-nil w.said)));
+      right = λ t trust. (heard_as gives may_fail old.history new.history w.said got (received t) (w.right t trust)).honest;
+    };
+    why = fails_why new w.past stop fails closed (sym w.left_is);
+  }
+    where
+      came_more : (got : Result Got Fault) → Receives got old.history new.history → received_in old.history ≡ frames_of (heard_of w.past) ++ ear.rest → BeginsWith (received_in new.history) (heard_of w.past)
+      came_more (Ok (Got.Piece bytes)) is stream = (
+        ear.rest ++ bytes,
+        record { framed_all = w.heard_framed; are = ap received_in is ∙ ap (λ (r : List ℕ). r ++ bytes) stream ∙ append_assoc (frames_of (heard_of w.past)) ear.rest bytes },
+      )
+      came_more (Ok Got.Idle) is stream = (ear.rest, record { framed_all = w.heard_framed; are = ap received_in is ∙ stream })
+      came_more (Ok Got.Closed) is stream = (ear.rest, record { framed_all = w.heard_framed; are = ap received_in is ∙ stream })
+      came_more (Err fault) is stream = (ear.rest, record { framed_all = w.heard_framed; are = ap received_in is ∙ stream })
+
+      sent_same : (got : Result Got Fault) → Receives got old.history new.history → sent_in new.history ≡ sent_in old.history
+      sent_same (Ok (Got.Piece bytes)) is = ap sent_in is
+      sent_same (Ok Got.Idle) is = ap sent_in is
+      sent_same (Ok Got.Closed) is = ap sent_in is
+      sent_same (Err fault) is = ap sent_in is
+
+  -- A piece came, and is kept.
+  pub piece_came : (old new : Way) (ear next : EarState) (core : Foreman) (lowers : List (LowerState L)) (bytes : List ℕ) → (tells → new.history ≡ Received bytes ∷ old.history) → new.closed ≡ false
+      → old.faults ≤ new.faults → next.rest ≡ ear.rest ++ bytes → next.stop ≡ None → next.fed ≡ ear.fed + length bytes → At old ear core lowers [] [] false → At new next core lowers [] [] false
+  piece_came old new ear next core lowers bytes is closed later rest going fed w = record {
+    past = w.past;
+    core_is = w.core_is;
+    in_order = w.in_order;
+    left_is = w.left_is;
+    going = going;
+    heard_framed = w.heard_framed;
+    told_framed = w.told_framed;
+    fed_is = omega (arith, fed, w.fed_is, ap length rest, length-append ear.rest bytes);
+    stream = λ t. ap received_in (is t) ∙ ap (λ (r : List ℕ). r ++ bytes) (w.stream t) ∙ append_assoc (frames_of (heard_of w.past)) ear.rest bytes ∙ ap (λ (r : List ℕ). frames_of (heard_of w.past) ++ r) (sym rest);
+    said = w.said;
+    are_said = w.are_said;
+    sent = λ t. ap sent_in (is t) ∙ w.sent t;
+    right = λ t trust. heard_as gives may_fail old.history new.history w.said (let got : Result Got Fault = Ok (Got.Piece bytes) in got) (is t) (w.right t trust);
+    may = λ t trust. tt;
+    goes_down = w.goes_down;
+    answered = w.answered;
+    held = w.held;
+    all_honest = w.all_honest;
+    closed = closed;
+    later = omega (arith, w.later, later);
+  }
+
+  -- Nothing came.
+  pub nothing_came : (old new : Way) (ear next : EarState) (core : Foreman) (lowers : List (LowerState L)) → (tells → new.history ≡ old.history) → new.closed ≡ false → old.faults ≤ new.faults
+      → next.rest ≡ ear.rest → next.stop ≡ None → next.fed ≡ ear.fed → At old ear core lowers [] [] false → At new next core lowers [] [] false
+  nothing_came old new ear next core lowers is closed later rest going fed w = record {
+    past = w.past;
+    core_is = w.core_is;
+    in_order = w.in_order;
+    left_is = w.left_is;
+    going = going;
+    heard_framed = w.heard_framed;
+    told_framed = w.told_framed;
+    fed_is = omega (arith, fed, w.fed_is, ap length rest);
+    stream = λ t. ap received_in (is t) ∙ w.stream t ∙ ap (λ (r : List ℕ). frames_of (heard_of w.past) ++ r) (sym rest);
+    said = w.said;
+    are_said = w.are_said;
+    sent = λ t. ap sent_in (is t) ∙ w.sent t;
+    right = λ t trust. subst (λ (h : List Passed). IsRightLink gives may_fail h w.said) (sym (is t)) (w.right t trust);
+    may = λ t trust. tt;
+    goes_down = w.goes_down;
+    answered = w.answered;
+    held = w.held;
+    all_honest = w.all_honest;
+    closed = closed;
+    later = omega (arith, w.later, later);
+  }
+
+  -- ---- steps
+
+  -- It met this, which its machine takes; what is to be said and sent by that is owed and due.
+  stepped : (way : Way) (ear next : EarState) (core : Foreman) (lowers now : List (LowerState L)) (met : Met) → (w : At way ear core lowers [] [] false) → goes_wrong met ≡ false → next.stop ≡ None
+      → AreFramed (heard_of (met ∷ w.past)) → Every (λ told. IsFramed told.message) (told_of (met ∷ w.past)) → next.fed ≡ length (frames_of (heard_of (met ∷ w.past))) + length next.rest
+      → (tells → received_in way.history ≡ frames_of (heard_of (met ∷ w.past)) ++ next.rest)
+      → (trusted ≡ true → Every (AnswersBelow gives may_fail (sent_of cap (met ∷ w.past))) (told_of (met ∷ w.past)))
+      → AreHeld below_tells history (sent_of cap (met ∷ w.past)) now → (trusted ≡ true → AreHonest honest now)
+      → At way next (led_by core met).foreman now (led_by core met).acts.up (led_by core met).acts.down (has_left (met ∷ w.past))
+  stepped way ear next core lowers now met w fine going heard told fed stream answered held all_honest = record {
+    past = met ∷ w.past;
+    core_is = ap (λ c. (led_by c met).foreman) w.core_is;
+    in_order = (w.in_order, sym w.left_is, fine);
+    left_is = refl;
+    going = going;
+    heard_framed = heard;
+    told_framed = told;
+    fed_is = fed;
+    stream = stream;
+    said = w.said;
+    are_said = ap (λ s. s ++ (led_by (foreman_of cap w.past) met).acts.up) (w.are_said ∙ append-nil w.said) ∙ ap (λ c. w.said ++ (led_by c met).acts.up) (sym w.core_is);
+    sent = w.sent;
+    right = w.right;
+    may = λ t trust. subst (λ c. Each (MaySay gives may_fail (received_in way.history)) (led_by c met).acts.up) (sym w.core_is)
+        (step_may gives may_fail cap met w.past next.rest (received_in way.history) heard (stream t) (answered trust));
+    goes_down = subst (λ c. Every (λ d. Stands d (sent_of cap (met ∷ w.past))) (led_by c met).acts.down) (sym w.core_is)
+        (λ d there. stands_right d (sent_of cap w.past) (led_by (foreman_of cap w.past) met).acts.down there);
+    answered = answered;
+    held = held;
+    all_honest = all_honest;
+    closed = w.closed;
+    later = w.later;
+  }
+
+  -- what answered stays so at a step
+  stays_answered : (past : List Met) (met : Met) (told : List Down) → Every (AnswersBelow gives may_fail (sent_of cap past)) told → Every (AnswersBelow gives may_fail (sent_of cap (met ∷ past))) told
+  stays_answered past met told all = λ d there. answered_more gives may_fail (sent_of cap past) (led_by (foreman_of cap past) met).acts.down d (all d there)
+
+  -- A message came from above.
+  pub heard_up : (way : Way) (ear next : EarState) (core : Foreman) (lowers : List (LowerState L)) (m : Message) → Takes ear (Ok (Some m)) next → goes_up m ≡ false → At way ear core lowers [] [] false
+      → At way next (hears_up core m).foreman lowers (hears_up core m).acts.up (hears_up core m).acts.down (is_bye m)
+  heard_up way ear next core lowers m took fine w =
+      let past = w.past in
+      subst (At way next (hears_up core m).foreman lowers (hears_up core m).acts.up (hears_up core m).acts.down) (or_none (is_bye m) (has_left past) (sym w.left_is))
+      (stepped way ear next core lowers lowers (above m) w fine took.2
+      (framed_append (heard_of past) (m ∷ []) w.heard_framed (took.0, tt)) w.told_framed
+      (omega (arith, took.3, w.fed_is, ap length took.1, length-append (framed m) next.rest, frames_len (heard_of past) m))
+      (λ t. w.stream t ∙ ap (λ (r : List ℕ). frames_of (heard_of past) ++ r) took.1 ∙ frames_more (heard_of past) m next.rest)
+      (λ trust. stays_answered past (above m) (told_of past) (w.answered trust))
+      (held_more below_tells history (sent_of cap past) (led_by (foreman_of cap past) (above m)).acts.down lowers w.held) w.all_honest)
+
+  -- A link was lost.
+  pub lost_link : (way : Way) (ear : EarState) (core : Foreman) (lowers : List (LowerState L)) (k : Rattle.flow_types.specs.declared.numbers.LinkNo.LinkNo) → At way ear core lowers [] [] false
+      → At way ear (loses core k).foreman lowers (loses core k).acts.up (loses core k).acts.down false
+  lost_link way ear core lowers k w =
+      let past = w.past in
+      subst (At way ear (loses core k).foreman lowers (loses core k).acts.up (loses core k).acts.down) (sym w.left_is)
+      (stepped way ear ear core lowers lowers (lost k) w refl w.going w.heard_framed w.told_framed w.fed_is w.stream
+      (λ trust. stays_answered past (lost k) (told_of past) (w.answered trust))
+      (held_more below_tells history (sent_of cap past) (led_by (foreman_of cap past) (lost k)).acts.down lowers w.held) w.all_honest)
+
+  -- A message came from below, over the link at this place.
+  pub heard_down : (way : Way) (ear : EarState) (core : Foreman) (lowers : List (LowerState L)) (at : ℕ) (old new : LowerState L) → ((link : L) → honest link → below_tells × WasHonest gives may_fail (history link))
+      → slice_get lowers at ≡ Some old → new.link ≡ old.link → new.way ≡ old.way → old.gone ≡ false → Advanced old.ear (Ok true) new.ear → At way ear core lowers [] [] false
+      → (let led = hears_down core old.link (shown new.ear.body) in At way ear led.foreman (slice_set lowers at new) led.acts.up led.acts.down false)
+  heard_down way ear core lowers at old new law is link same stays took w =
+      subst (At way ear (hears_down core old.link m).foreman (slice_set lowers at new) (hears_down core old.link m).acts.up (hears_down core old.link m).acts.down) (sym w.left_is)
+      (stepped way ear ear core lowers (slice_set lowers at new) met w refl w.going w.heard_framed
+      (every_append (λ told. IsFramed told.message) (told_of past) (over old.link m ∷ []) w.told_framed (every_one (λ told. IsFramed told.message) (over old.link m) took.0))
+      w.fed_is w.stream
+      (λ trust. every_append (AnswersBelow gives may_fail (sent_of cap (met ∷ past))) (told_of past) (over old.link m ∷ [])
+      (stays_answered past met (told_of past) (w.answered trust))
+      (every_one (AnswersBelow gives may_fail (sent_of cap (met ∷ past))) (over old.link m)
+      (answered_more gives may_fail (sent_of cap past) more (over old.link m) (answers trust))))
+      (every_set (IsHeld below_tells history (sent_of cap (met ∷ past))) lowers at new held_new (held_more below_tells history (sent_of cap past) more lowers w.held))
+      (λ trust. every_set (λ l. honest l.way) lowers at new (subst honest (sym same) (w.all_honest trust old there)) (w.all_honest trust)))
+    where
+      m : Message
+      m = shown new.ear.body
+
+      past : List Met
+      past = w.past
+
+      met : Met
+      met = below old.link m
+
+      more : List Down
+      more = (led_by (foreman_of cap past) met).acts.down
+
+      there : Stands old lowers
+      there = get_stands lowers at old is
+
+      passes : below_tells → Passes (history old.way) old.ear old.link (sent_of cap past)
+      passes t = w.held old there stays t
+
+      carried : (t : below_tells) → Carries (received_in (history old.way)) m
+      carried t = carries_next (received_in (history old.way)) (passes t).heard m new.ear.rest (passes t).came.framed_all took.0 ((passes t).came.are ∙ ap (λ (r : List ℕ). frames_of (passes t).heard ++ r) took.1)
+
+      answers : trusted ≡ true → AnswersBelow gives may_fail (sent_of cap past) (over old.link m)
+      answers trust =
+          let told = law old.way (w.all_honest trust old there) in
+          came_answered gives may_fail (history old.way) old.ear old.link (sent_of cap past) m (passes told.0) (honest_now gives may_fail (history old.way) told.1) (carried told.0)
+
+      held_new : IsHeld below_tells history (sent_of cap (met ∷ past)) new
+      held_new = held_one_more below_tells history (sent_of cap past) more new (λ on t. took_one history (sent_of cap past) old new link same took (passes t))
+
+  -- ---- what is owed is said
+
+  -- what a call that says these messages did
+  abbrev pub Said : {T : Type 0} → Result T Fault → List Message → Way → Way → Type 0
+  Said {T} r ms old new =
+      (tells → SendsAll r ms old.history new.history)
+      × ((said : List Message) → tells → IsRightLink gives may_fail old.history said → Each (MaySay gives may_fail (received_in old.history)) ms → SaysAll gives may_fail ms said new.history r)
+      × (new.closed ≡ old.closed) × (old.faults ≤ new.faults)
+
+  pub said_all : (old new : Way) (ear : EarState) (core : Foreman) (lowers : List (LowerState L)) (owed : List Message) (due : List Down) (left : Bool) → Said (let r : Result (Unit {0}) Fault = Ok tt in r) owed old new
+      → At old ear core lowers owed due left → At new ear core lowers [] due left
+  said_all old new ear core lowers owed due left said w = record {
+    past = w.past;
+    core_is = w.core_is;
+    in_order = w.in_order;
+    left_is = w.left_is;
+    going = w.going;
+    heard_framed = w.heard_framed;
+    told_framed = w.told_framed;
+    fed_is = w.fed_is;
+    stream = λ t. (said.0 t).0 ∙ w.stream t;
+    said = w.said ++ owed;
+    are_said = w.are_said ∙ sym (append-nil (w.said ++ owed));
+    sent = λ t. (said.0 t).1 ∙ ap (λ (b : List ℕ). b ++ frames_of owed) (w.sent t) ∙ sym (frames_append w.said owed);
+    right = λ t trust. said.1 w.said t (w.right t trust) (w.may t trust);
+    may = λ t trust. tt;
+    goes_down = w.goes_down;
+    answered = w.answered;
+    held = w.held;
+    all_honest = w.all_honest;
+    closed = said.2 ∙ w.closed;
+    later = omega (arith, w.later, said.3);
+  }
+
+  pub said_not : (old new : Way) (ear : EarState) (core : Foreman) (lowers : List (LowerState L)) (owed : List Message) (due : List Down) (fault : Fault) (stop : Stop)
+      → Said (let r : Result (Unit {0}) Fault = Err fault in r) owed old new → FailsBy faults new stop
+      → At old ear core lowers owed due false → Stops gives may_fail tells trusted cap faults new stop
+  said_not old new ear core lowers owed due fault stop said fails w = record {
+    past = w.past;
+    found = record {
+      in_order = w.in_order;
+      told_framed = w.told_framed;
+      came = λ t. (ear.rest, record { framed_all = w.heard_framed; are = (said.0 t).0 ∙ w.stream t });
+      sent = λ t. (
+        (said.0 t).1.0,
+        (said.0 t).1.1 ∙ ap (λ (b : List ℕ). b ++ frames_of owed) (w.sent t) ∙ sym (frames_append w.said owed) ∙ ap frames_of (sym w.are_said),
+      );
+      right = λ t trust. said.1 w.said t (w.right t trust) (w.may t trust);
+    };
+    why = fails_why new w.past stop fails (said.2 ∙ w.closed) (sym w.left_is);
+  }
+
+  -- ---- the links to the workers
+
+  -- the same over other links
+  with_lowers : (way : Way) (ear : EarState) (core : Foreman) (lowers now : List (LowerState L)) (due then : List Down) → (w : At way ear core lowers [] due false) → Every (λ d. Stands d (sent_of cap w.past)) then
+      → AreHeld below_tells history (sent_of cap w.past) now → (trusted ≡ true → AreHonest honest now) → At way ear core now [] then false
+  with_lowers way ear core lowers now due then w goes held all_honest = record {
+    past = w.past;
+    core_is = w.core_is;
+    in_order = w.in_order;
+    left_is = w.left_is;
+    going = w.going;
+    heard_framed = w.heard_framed;
+    told_framed = w.told_framed;
+    fed_is = w.fed_is;
+    stream = w.stream;
+    said = w.said;
+    are_said = w.are_said;
+    sent = w.sent;
+    right = w.right;
+    may = w.may;
+    goes_down = goes;
+    answered = w.answered;
+    held = held;
+    all_honest = all_honest;
+    closed = w.closed;
+    later = w.later;
+  }
+
+  -- What was due went down.
+  pub went_down : (way : Way) (ear : EarState) (core : Foreman) (lowers now : List (LowerState L)) (due : List Down) → KeepsWith below_tells history honest due lowers now
+      → At way ear core lowers [] due false → At way ear core now [] [] false
+  went_down way ear core lowers now due keeps w =
+      with_lowers way ear core lowers now due [] w (every_nil (λ d. Stands d (sent_of cap w.past))) (keeps.held (sent_of cap w.past) w.goes_down w.held) (λ trust. keeps.honestly (w.all_honest trust))
+
+  pub still_kept : (way : Way) (ear : EarState) (core : Foreman) (lowers now : List (LowerState L)) → Keeps below_tells history honest lowers now → At way ear core lowers [] [] false → At way ear core now [] [] false
+  still_kept way ear core lowers now keeps w = with_lowers way ear core lowers now [] [] w w.goes_down (keeps.held (sent_of cap w.past) w.held) (λ trust. keeps.honestly (w.all_honest trust))
+
+  pub parted : (way : Way) (ear : EarState) (core : Foreman) (lowers now : List (LowerState L)) → Parts below_tells history honest lowers now → At way ear core lowers [] [] false → At way ear core now [] [] false
+  parted way ear core lowers now parts w = with_lowers way ear core lowers now [] [] w w.goes_down (parts.held (sent_of cap w.past) w.held) (λ trust. parts.honestly (w.all_honest trust))
+
+  pub gained : {T : Type 0} (E : Type 0) (way : Way) (ear : EarState) (core : Foreman) (lowers now : List (LowerState L)) (is : Type 0) (x : T) → (let r : Result T E = Ok x in Gains below_tells history honest is lowers now r)
+      → (trusted ≡ true → is) → At way ear core lowers [] [] false → At way ear core now [] [] false
+  gained E way ear core lowers now is x gains trusts w =
+      with_lowers way ear core lowers now [] [] w w.goes_down (gains.0 (sent_of cap w.past) w.held) (λ trust. gains.1 (trusts trust) (w.all_honest trust))
+
+  -- The link at a place changed, and what holds of it stays so.
+  pub changed_at : (way : Way) (ear : EarState) (core : Foreman) (lowers : List (LowerState L)) (at : ℕ) (old new : LowerState L) → slice_get lowers at ≡ Some old
+      → ((sent : List Down) → IsHeld below_tells history sent old → IsHeld below_tells history sent new) → (honest old.way → honest new.way)
+      → At way ear core lowers [] [] false → At way ear core (slice_set lowers at new) [] [] false
+  changed_at way ear core lowers at old new is held keeps w =
+      let there = get_stands lowers at old is in
+      with_lowers way ear core lowers (slice_set lowers at new) [] [] w w.goes_down
+      (every_set (IsHeld below_tells history (sent_of cap w.past)) lowers at new (held (sent_of cap w.past) (w.held old there)) w.held)
+      (λ trust. every_set (λ l. honest l.way) lowers at new (keeps (w.all_honest trust old there)) (w.all_honest trust))
+
+  -- ---- its hello
+
+  hello_may : (down : List ℕ) → Each (MaySay gives may_fail down) (hello ∷ [])
+  hello_may down = ((λ attempt outcome wrong ran. absurd (let h : ⊥ = cc in h)), tt)
+
+  -- A foreman begins over a link over which nothing has passed: its hello is owed.
+  pub begins : (way : Way) (ear : EarState) (core : Foreman) → core ≡ new_foreman cap → way.history ≡ [] → way.closed ≡ false → faults ≤ way.faults → ear ≡ record { rest = []; body = []; stop = None; fed = 0 }
+      → At way ear core [] (hello ∷ []) [] false
+  begins way ear core same none_passed stays count is =
+      let rest : ear.rest ≡ [] = ap (λ (e : EarState). e.rest) is in
+      let fed : ear.fed ≡ 0 = ap (λ (e : EarState). e.fed) is in
+      record {
+        past = [];
+        core_is = same;
+        in_order = tt;
+        left_is = refl;
+        going = ap (λ (e : EarState). e.stop) is;
+        heard_framed = tt;
+        told_framed = every_nil (λ told. IsFramed told.message);
+        fed_is = omega (arith, fed, ap length rest);
+        stream = λ t. ap received_in none_passed ∙ sym rest;
+        said = [];
+        are_said = refl;
+        sent = λ t. ap sent_in none_passed;
+        right = λ t trust. subst (λ (h : List Passed). IsRightLink gives may_fail h []) (sym none_passed) (new_link_right gives may_fail);
+        may = λ t trust. hello_may (received_in way.history);
+        goes_down = every_nil (λ (d : Down). Stands d (sent_of cap []));
+        answered = λ trust. every_nil (AnswersBelow gives may_fail []);
+        held = every_nil (IsHeld below_tells history []);
+        all_honest = λ trust. every_nil (λ l. honest l.way);
+        closed = stays;
+        later = count;
+      }
+
+-- ---- a foreman that stops before it began
+
+module _ (gives : Function) (may_fail : Job → Failure → Type 0) (tells : Type 0) (trusted : Bool) (cap faults : ℕ) where
+  -- Nothing was said, and this is why it stops.
+  stops_early : (way : Way) (stop : Stop) → way.history ≡ [] → MayStop tells cap faults way [] stop → Stops gives may_fail tells trusted cap faults way stop
+  stops_early way stop none_passed why = record {
+    past = [];
+    found = record {
+      in_order = tt;
+      told_framed = every_nil (λ told. IsFramed told.message);
+      came = λ t. (received_in way.history, record { framed_all = tt; are = refl });
+      sent = λ t. (frames_of (hello ∷ []), ap (λ (h : List Passed). sent_in h ++ frames_of (hello ∷ [])) none_passed);
+      right = λ t trust. subst (IsHonestThroughout gives may_fail received_in sent_in) (sym none_passed) (new_link_right gives may_fail).honest;
+    };
+    why = why;
+  }
+
+  -- Memory was wanting before it said its hello.
+  pub wants_early : (way : Way) → way.history ≡ [] → way.closed ≡ false → Stops gives may_fail tells trusted cap faults way (stops.Left halts.Memory)
+  wants_early way none_passed open_still = stops_early way (stops.Left halts.Memory) none_passed open_still
+
+  -- The hall failed before it said its hello.
+  pub hall_early : (way : Way) → way.history ≡ [] → way.closed ≡ false → Stops gives may_fail tells trusted cap faults way stops.Hall
+  hall_early way none_passed open_still = stops_early way stops.Hall none_passed (refl, open_still)
+
+  -- Memory was wanting once the work was over.
+  pub wants_late : (way : Way) → Stops gives may_fail tells trusted cap faults way (stops.Left halts.Bye) → Stops gives may_fail tells trusted cap faults way (stops.Left halts.Memory)
+  wants_late way s = record { past = s.past; found = s.found; why = s.why.1 }

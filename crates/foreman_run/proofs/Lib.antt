@@ -1,0 +1,11 @@
+pub mod Sizes
+pub mod Plain
+pub mod Runs
+pub mod Honest
+pub mod Going
+pub mod Hosted
+pub mod Saying
+pub mod Companies
+pub mod Ending
+pub mod Attending
+pub mod Beginning

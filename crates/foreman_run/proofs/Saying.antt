@@ -1,0 +1,94 @@
+-- Several messages that are said one after the other.
+use Rattle.std.proofs.Common.{◌≡◌, ◌<◌, ℕ, zero, suc, ◌+◌, List, [], ◌∷◌, ◌++◌, length, take, drop, get_or, Result, Ok, Err, refl, sym, ap, ◌∙◌, subst, append_assoc, append-nil, arith}
+use Rattle.std.proofs.lemmas.List.{take_more, take-append-drop}
+use Rattle.flow_types.specs.declared.job.Failure.{Failure}
+use Rattle.flow_types.specs.declared.job.Job.{Job}
+use Rattle.flow_types.specs.declared.messages.Message.{Message}
+use Rattle.flow_types.specs.Serial.{Function}
+use Rattle.links.specs.declared.passing.Passed.{Passed}
+use Rattle.links.specs.Passings.{Transmits, received_in, sent_in}
+use Rattle.links.specs.Peers.{IsRightLink, MaySay, Says}
+use Rattle.message_forms.proofs.Parses.{frames_append}
+use Rattle.message_forms.specs.Streams.{framed, frames_of}
+use Rattle.outside.specs.declared.fault.Fault.{Fault}
+use Rattle.peer_run.specs.Says.{Each, SaysAll, SendsAll}
+use Rattle.peer_run.proofs.Sends.{sends_one}
+
+-- what holds of each holds of the one at a place
+pub each_at : (P : Message → Type 0) (ms : List Message) (i : ℕ) (d : Message) → i < length ms → Each P ms → P (get_or ms i d)
+each_at P [] i d lt all = absurd (let h : ⊥ = omega (arith, lt) in h)
+each_at P (m ∷ ms) zero d lt all = all.0
+each_at P (m ∷ ms) (suc i) d lt all = each_at P ms i d (omega (arith, lt)) all.1
+
+abbrev pub done : Result (Unit {0}) Fault
+done = Ok tt
+
+sends_then : (ms ns : List Message) (h0 h1 h2 : List Passed) (r : Result (Unit {0}) Fault) → SendsAll done ms h0 h1 → SendsAll r ns h1 h2 → SendsAll r (ms ++ ns) h0 h2
+sends_then ms ns h0 h1 h2 (Ok x) a b = (
+  b.0 ∙ a.0,
+  b.1 ∙ ap (λ (w : List ℕ). w ++ frames_of ns) a.1 ∙ append_assoc (sent_in h0) (frames_of ms) (frames_of ns) ∙ ap (λ (w : List ℕ). sent_in h0 ++ w) (sym (frames_append ms ns)),
+)
+sends_then ms ns h0 h1 h2 (Err fault) a b = (
+  b.0 ∙ a.0,
+  (
+    b.1.0,
+    b.1.1 ∙ ap (λ (w : List ℕ). w ++ frames_of ns) a.1 ∙ append_assoc (sent_in h0) (frames_of ms) (frames_of ns) ∙ ap (λ (w : List ℕ). sent_in h0 ++ w) (sym (frames_append ms ns)),
+  ),
+)
+
+-- what was cut short of some is cut short of more
+sends_less : (ms ns : List Message) (h0 h1 : List Passed) (fault : Fault) → (let r : Result (Unit {0}) Fault = Err fault in SendsAll r ms h0 h1) → (let r : Result (Unit {0}) Fault = Err fault in SendsAll r (ms ++ ns) h0 h1)
+sends_less ms ns h0 h1 fault a = (
+  a.0,
+  (
+    a.1.0 ++ frames_of ns,
+    sym (append_assoc (sent_in h1) a.1.0 (frames_of ns)) ∙ ap (λ (w : List ℕ). w ++ frames_of ns) a.1.1 ∙ append_assoc (sent_in h0) (frames_of ms) (frames_of ns)
+        ∙ ap (λ (w : List ℕ). sent_in h0 ++ w) (sym (frames_append ms ns)),
+  ),
+)
+
+module _ (gives : Function) (may_fail : Job → Failure → Type 0) (tells : Type 0) where
+  -- So many of them were said.
+  pub record SaidSoFar (ms : List Message) (i : ℕ) (h0 h1 : List Passed) : Type 0 where
+    pub sent : tells → SendsAll done (take i ms) h0 h1
+    pub said : (said : List Message) → tells → IsRightLink gives may_fail h0 said → Each (MaySay gives may_fail (received_in h0)) ms → IsRightLink gives may_fail h1 (said ++ take i ms)
+
+  -- what a call that says one did
+  abbrev pub SaysOne : Message → List Passed → List Passed → Result (Unit {0}) Fault → Type 0
+  SaysOne m h1 h2 r =
+      ((said : List Message) → tells → IsRightLink gives may_fail h1 said → MaySay gives may_fail (received_in h1) m → Says gives may_fail m said h2 r)
+      × (tells → Transmits r (framed m) h1 h2)
+
+  -- None was said.
+  pub said_none : (ms : List Message) (h : List Passed) → SaidSoFar ms 0 h h
+  said_none ms h = record {
+    sent = λ t. (refl, sym (append-nil (sent_in h)));
+    said = λ said t right may. subst (IsRightLink gives may_fail h) (sym (append-nil said)) right;
+  }
+
+  may_now : (ms : List Message) (i : ℕ) (d : Message) (h0 h1 : List Passed) → i < length ms → SaidSoFar ms i h0 h1 → tells → Each (MaySay gives may_fail (received_in h0)) ms → MaySay gives may_fail (received_in h1) (get_or ms i d)
+  may_now ms i d h0 h1 lt s t may = subst (λ (b : List ℕ). MaySay gives may_fail b (get_or ms i d)) (sym (s.sent t).0) (each_at (MaySay gives may_fail (received_in h0)) ms i d lt may)
+
+  -- One more was said.
+  pub said_more : (ms : List Message) (i : ℕ) (d : Message) (h0 h1 h2 : List Passed) → i < length ms → SaidSoFar ms i h0 h1 → SaysOne (get_or ms i d) h1 h2 done → SaidSoFar ms (i + 1) h0 h2
+  said_more ms i d h0 h1 h2 lt s one =
+      let m = get_or ms i d in
+      let more : take (i + 1) ms ≡ take i ms ++ m ∷ [] = take_more ms i d lt in
+      record {
+        sent = λ t. subst (λ (xs : List Message). SendsAll done xs h0 h2) (sym more) (sends_then (take i ms) (m ∷ []) h0 h1 h2 done (s.sent t) (sends_one done m h1 h2 (one.1 t)));
+        said = λ said t right may. subst (λ (xs : List Message). IsRightLink gives may_fail h2 xs) (append_assoc said (take i ms) (m ∷ []) ∙ ap (λ (xs : List Message). said ++ xs) (sym more))
+            (one.0 (said ++ take i ms) t (s.said said t right may) (may_now ms i d h0 h1 lt s t may));
+      }
+
+  -- One was cut short: so are all of them.
+  pub said_short : (ms : List Message) (i : ℕ) (d : Message) (h0 h1 h2 : List Passed) (fault : Fault) → i < length ms → SaidSoFar ms i h0 h1 → (let r : Result (Unit {0}) Fault = Err fault in SaysOne (get_or ms i d) h1 h2 r)
+      → (let r : Result (Unit {0}) Fault = Err fault in (tells → SendsAll r ms h0 h2)
+      × ((said : List Message) → tells → IsRightLink gives may_fail h0 said → Each (MaySay gives may_fail (received_in h0)) ms → SaysAll gives may_fail ms said h2 r))
+  said_short ms i d h0 h1 h2 fault lt s one =
+      let m = get_or ms i d in
+      let r : Result (Unit {0}) Fault = Err fault in
+      let all : (take i ms ++ m ∷ []) ++ drop (i + 1) ms ≡ ms = ap (λ (xs : List Message). xs ++ drop (i + 1) ms) (sym (take_more ms i d lt)) ∙ take-append-drop (i + 1) ms in (
+        (λ t. subst (λ (xs : List Message). SendsAll r xs h0 h2) all
+            (sends_less (take i ms ++ m ∷ []) (drop (i + 1) ms) h0 h2 fault (sends_then (take i ms) (m ∷ []) h0 h1 h2 r (s.sent t) (sends_one r m h1 h2 (one.1 t))))),
+        (λ said t right may. one.0 (said ++ take i ms) t (s.said said t right may) (may_now ms i d h0 h1 lt s t may)),
+      )

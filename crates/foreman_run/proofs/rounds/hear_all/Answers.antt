@@ -1,0 +1,16 @@
+use Rattle.std.proofs.Common.{◌∙◌}
+use Rattle.foreman_run.proofs.rounds.hear_all.Goals as goal
+
+pub hear_at-requires-clause-works : goal.hear_at-requires-clause-works
+hear_at-requires-clause-works g c κs within =
+    let w = c.requires.works.1 in
+    (c.requires.works.0, record { trusted = w.trusted; untrusted = w.untrusted; cap = w.cap; faults = w.faults; works = c.loop-at.invariant.goes w.trusted w.cap w.faults c.requires.works.0 w.works })
+
+pub loop-at-preserved : goal.loop-at-preserved
+loop-at-preserved g c = record {
+  goes = λ trusted cap faults ear works. c.in-Ok.ensures.goes trusted cap faults ear (c.loop-at.invariant.goes trusted cap faults ear works);
+  many = c.in-Ok.ensures.many ∙ c.loop-at.invariant.many;
+}
+
+pub returns-in-Err-clause-goes : goal.returns-in-Err-clause-goes
+returns-in-Err-clause-goes g c = λ trusted cap faults ear works. c.in-Err.ensures.goes trusted cap faults ear (c.loop-at.invariant.goes trusted cap faults ear works)

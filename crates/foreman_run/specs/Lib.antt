@@ -1,0 +1,9 @@
+pub mod Met
+pub mod Lowers
+pub mod Works
+pub mod Ends
+pub mod Ended
+pub mod Hosts
+pub mod Says
+pub mod Looks
+pub mod Heard

@@ -1,0 +1,82 @@
+-- What a foreman meets: messages from above and from below, and lost links. The newest stands first.
+use Rattle.std.specs.Prelude.{◌≡◌, ℕ, Bool, false, List, [], ◌∷◌, ◌++◌, ◌||◌}
+use Rattle.flow_types.specs.declared.messages.Message.{Message}
+use Rattle.flow_types.specs.declared.messages.Message.TheVariants as messages
+use Rattle.flow_types.specs.declared.numbers.Amounts.{Amounts}
+use Rattle.flow_types.specs.declared.numbers.LinkNo.{LinkNo}
+use Rattle.foreman_core.specs.declared.acts.Down.{Down}
+use Rattle.foreman_core.specs.Foremen.{Foreman, new_foreman}
+use Rattle.foreman_core.specs.Steps.{Led, hears_up, hears_down, loses}
+use Rattle.peer_run.specs.Met.{is_bye}
+use Rattle.worker_core.specs.Workers.{goes_up}
+
+-- what a foreman meets
+pub data Met : Type 0 where
+  -- a message came from above
+  above : Message → Met
+  -- a message came from below, over the link of this number
+  below : LinkNo → Message → Met
+  -- the link of this number was lost
+  lost : LinkNo → Met
+
+-- nothing of each amount
+abbrev pub nothing : Amounts
+nothing = record { cores = 0; memory = 0; disk = 0 }
+
+-- what a foreman says first: it has no worker yet
+abbrev pub hello : Message
+hello = messages.Hello nothing nothing 0
+
+-- what a foreman does where it meets this
+abbrev pub led_by : Foreman → Met → Led
+led_by f (above m) = hears_up f m
+led_by f (below k m) = hears_down f k m
+led_by f (lost k) = loses f k
+
+-- the foreman with such a cache once it met these
+abbrev pub foreman_of : ℕ → List Met → Foreman
+foreman_of cap [] = new_foreman cap
+foreman_of cap (met ∷ past) = (led_by (foreman_of cap past) met).foreman
+
+-- what it says upward by then, its hello first
+abbrev pub said_of : ℕ → List Met → List Message
+said_of cap [] = hello ∷ []
+said_of cap (met ∷ past) = said_of cap past ++ (led_by (foreman_of cap past) met).acts.up
+
+-- what is to go down by then
+abbrev pub sent_of : ℕ → List Met → List Down
+sent_of cap [] = []
+sent_of cap (met ∷ past) = sent_of cap past ++ (led_by (foreman_of cap past) met).acts.down
+
+-- the messages that came from above, the oldest first
+abbrev pub heard_of : List Met → List Message
+heard_of [] = []
+heard_of (above m ∷ past) = heard_of past ++ m ∷ []
+heard_of (below k m ∷ past) = heard_of past
+heard_of (lost k ∷ past) = heard_of past
+
+-- the messages that came from below, each under its link, the oldest first
+abbrev pub told_of : List Met → List Down
+told_of [] = []
+told_of (above m ∷ past) = told_of past
+told_of (below k m ∷ past) = told_of past ++ record { link = k; message = m } ∷ []
+told_of (lost k ∷ past) = told_of past
+
+-- the message that ends the work came from above
+abbrev pub has_left : List Met → Bool
+has_left [] = false
+has_left (above m ∷ past) = is_bye m || has_left past
+has_left (below k m ∷ past) = has_left past
+has_left (lost k ∷ past) = has_left past
+
+-- what comes from above only goes up
+abbrev pub goes_wrong : Met → Bool
+goes_wrong (above m) = goes_up m
+goes_wrong (below k m) = false
+goes_wrong (lost k) = false
+
+-- They are in order: nothing is met after Bye, and nothing comes from above that only goes up.
+abbrev pub AreInOrder : List Met → Type 0
+AreInOrder [] = Unit {0}
+AreInOrder (met ∷ past) =
+    AreInOrder past × (has_left past ≡ false) × (goes_wrong met ≡ false)

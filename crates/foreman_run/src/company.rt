@@ -1,0 +1,150 @@
+//! A foreman's workers, each at its link.
+ghost use Rattle.std.specs.Prelude.{◌≡◌, ◌<◌, ◌+◌, ◌==◌, ◌∷◌, ◌++◌, [], IfErr, IfNone, IfSome, OnOk, length};
+ghost use Rattle.std.specs.List.{position};
+ghost use Rattle.foreman_run.specs.Lowers.{Keeps, KeepsWith, LowerState, Parts};
+ghost use Rattle.peer_run.specs.Says.{CanBeTold};
+ghost use Rattle.foreman_run.specs.Says.{CanGoDown};
+
+use crate::lower::Lower;
+use flow_types::LinkNo;
+use foreman_core::Down;
+use links::Link;
+use outside::Commands;
+use std::alloc::Global;
+use std::marker::Model;
+
+/// The most workers that a foreman has at once.
+const MOST_WORKERS: usize = 32;
+
+/// The links to the workers, in the order in which they came.
+#[derive(Drop)]
+pub(crate) struct Company<F: Commands, L: Link<F>> {
+    pub(crate) lowers: Vec<Lower<F, L>>,
+    // How many links had a number.
+    pub(crate) numbered: u32,
+}
+
+impl<F: Commands, L: Link<F>> Model for Company<F, L> {
+    ghost use Rattle.std.specs.Prelude.{List};
+    ghost use Rattle.foreman_run.specs.Lowers.{LowerState};
+
+    ghost Value = { List (LowerState L) };
+
+    ghost view = { λ c. c.lowers.items };
+}
+
+impl<F: Commands, L: Link<F>> Company<F, L> {
+    /// Nobody has come.
+    pub fn new(alloc: Global) -> Company<F, L>
+        ensures { result ≡ [] }
+    {
+        Company {
+            lowers: Vec::new(alloc),
+            numbered: 0,
+        }
+    }
+
+    /// The number of the next link. While as many are there as may be, and once each number was given,
+    /// there is none.
+    pub fn next(&self) -> Option<LinkNo> {
+        if self.lowers.len() >= MOST_WORKERS {
+            return None;
+        }
+        let number = self.numbered.checked_add(1)?;
+        Some(LinkNo(number))
+    }
+
+    /// One more worker, under the next number. Where memory is wanting it comes back.
+    pub fn add(&mut self, lower: Lower<F, L>) -> Result<(), Lower<F, L>>
+        ensures ok { OnOk result (self.new ≡ self.old ++ lower ∷ []) }
+        ensures back { IfErr result (λ back. (back ≡ lower) × (self.new ≡ self.old)) }
+    {
+        self.numbered = lower.link().0;
+        match self.lowers.push(lower) {
+            Ok(()) => Ok(()),
+            Err(failed) => Err(failed.value),
+        }
+    }
+
+    /// Takes the worker that came last out, if there is one.
+    pub fn pop(&mut self) -> Option<Lower<F, L>>
+        ensures some { IfSome result (λ _. length self.old ≡ length self.new + 1) }
+        ensures none { IfNone result (self.old ≡ []) }
+    {
+        self.lowers.pop()
+    }
+
+    /// How many there are.
+    pub fn count(&self) -> usize
+        ensures { result ≡ length self.now }
+    {
+        self.lowers.len()
+    }
+
+    // Where the link of this number stands.
+    fn place(&self, link: LinkNo) -> Option<usize>
+        ensures { result ≡ position (λ (l : LowerState L). l.link.0 == link.0) self.now }
+    {
+        self.lowers
+            .iter()
+            .position(|lower| lower.link().0 == link.0)
+    }
+
+    // Sends a message down, where there is its link.
+    fn send(&mut self, alloc: Global, down: &Down)
+        requires told { CanBeTold down.now.message }
+        ensures { KeepsWith L.tells L.history L.honest (down.now ∷ []) self.old self.new }
+    {
+        if let Some(at) = self.place(down.link) {
+            if let Some(lower) = self.lowers.get_mut(at) {
+                lower.send(alloc, &down.message);
+            }
+        }
+    }
+
+    /// Sends these messages down, in order.
+    pub fn send_all(&mut self, alloc: Global, downs: &[Down])
+        requires told { CanGoDown downs.now }
+        ensures { KeepsWith L.tells L.history L.honest downs.now self.old self.new }
+    {
+        for down in downs {
+            self.send(alloc, down);
+        }
+    }
+
+    // The link of this number is to be left.
+    fn leave_at(&mut self, link: LinkNo)
+        ensures { Keeps L.tells L.history L.honest self.old self.new }
+    {
+        if let Some(at) = self.place(link) {
+            if let Some(lower) = self.lowers.get_mut(at) {
+                lower.leave();
+            }
+        }
+    }
+
+    /// The link of this number is to be left, if there is a number.
+    pub fn leave(&mut self, link: Option<LinkNo>)
+        ensures { Keeps L.tells L.history L.honest self.old self.new }
+    {
+        if let Some(link) = link {
+            self.leave_at(link);
+        }
+    }
+
+    // Where the first link stands that is to be left.
+    fn place_gone(&self) -> Option<usize>
+        ensures { IfSome result (λ at. at < length self.now) }
+    {
+        self.lowers.iter().position(|lower| lower.is_gone())
+    }
+
+    /// Takes out a link that is to be left, if there is one.
+    pub fn take_gone(&mut self) -> Option<Lower<F, L>>
+        ensures some { IfSome result (λ _. Parts L.tells L.history L.honest self.old self.new) }
+        ensures none { IfNone result (self.new ≡ self.old) }
+    {
+        let at = self.place_gone()?;
+        Some(self.lowers.remove(at))
+    }
+}

@@ -1,0 +1,235 @@
+//! Where a foreman's workers come and go.
+ghost use Rattle.std.specs.Prelude.{◌≡◌, ◌+◌, [], Bool, ℕ, false, length, IfErr};
+ghost use Rattle.links.specs.Halls.{IsFresh};
+ghost use Rattle.peer_run.specs.Works.{EarState, way_of};
+ghost use Rattle.foreman_run.specs.Ends.{Goes, LeavesHall, LeavesParent, Stops};
+ghost use Rattle.foreman_run.specs.Hosts.{HostsBy, HostsWhole};
+ghost use Rattle.foreman_run.specs.Lowers.{Gains};
+ghost use Rattle.foreman_run.specs.Works.{IsAtWork, Works};
+
+use crate::company::Company;
+use crate::lower::Lower;
+use crate::parent::perform;
+use crate::stop::Stop;
+use flow_types::{LinkNo, Message};
+use foreman_core::ForemanCore;
+use links::{Came, Hall, Link};
+use outside::{Commands, Fault};
+use peer_run::Halt;
+use std::alloc::Global;
+
+/// Hands a link back.
+fn hand_back<F: Commands, H: Hall<F>>(
+    alloc: Global,
+    hall: &mut H,
+    link: LinkNo,
+    way: H::Way,
+) -> Result<(), Stop>
+    ensures hosts { HostsBy (H.count hall.old) (H.count hall.new) (H.got hall.old)
+        (H.got hall.new) (H.given hall.old) (H.given hall.new) 1 0 result }
+    ensures memory { IfErr result (λ stop. stop ≡ Stop.Left Halt.Memory) }
+    ensures listens { H.listens hall.old → H.listens hall.new }
+    ensures honest { H.honest hall.old → H.honest hall.new }
+{
+    match hall.back(alloc, Some(link), way) {
+        Ok(()) => Ok(()),
+        Err(_) => Err(Stop::Left(Halt::Memory)),
+    }
+}
+
+/// Hands a link back for which there is no memory.
+fn refuse<F: Commands, H: Hall<F>>(alloc: Global, hall: &mut H, link: LinkNo, way: H::Way) -> Stop
+    ensures memory { result ≡ Stop.Left Halt.Memory }
+    ensures hosts { (whole : Bool) × HostsWhole (H.count hall.old) (H.count hall.new)
+        (H.got hall.old) (H.got hall.new) (H.given hall.old) (H.given hall.new) 1 0 whole }
+    ensures listens { H.listens hall.old → H.listens hall.new }
+    ensures honest { H.honest hall.old → H.honest hall.new }
+{
+    let _handed = hand_back::<F, H>(alloc, hall, link, way);
+    Stop::Left(Halt::Memory)
+}
+
+/// A worker comes over this link, under this number.
+fn let_in<F: Commands, H: Hall<F>>(
+    alloc: Global,
+    company: &mut Company<F, H::Way>,
+    hall: &mut H,
+    link: LinkNo,
+    way: H::Way,
+) -> Result<bool, Stop>
+    requires fresh { IsFresh H.Way.history H.Way.count H.Way.idle_count H.Way.is_closed way }
+    ensures gains { Gains H.Way.tells H.Way.history H.Way.honest (H.Way.honest way) company.old
+        company.new result }
+    ensures hosts { HostsBy (H.count hall.old) (H.count hall.new) (H.got hall.old)
+        (H.got hall.new) (H.given hall.old) (H.given hall.new) (1 + length company.old)
+        (length company.new) result }
+    ensures fails { LeavesHall result }
+    ensures listens { H.listens hall.old → H.listens hall.new }
+    ensures honest { H.honest hall.old → H.honest hall.new }
+{
+    let lower = match Lower::new(alloc, link, way) {
+        Ok(lower) => lower,
+        Err(way) => return Err(refuse::<F, H>(alloc, hall, link, way)),
+    };
+    match company.add(lower) {
+        Ok(()) => Ok(true),
+        Err(lower) => Err(refuse::<F, H>(alloc, hall, link, lower.into_way())),
+    }
+}
+
+/// Asks for the next worker, which comes under this number, and answers whether one came.
+fn wait<F: Commands, H: Hall<F>>(
+    alloc: Global,
+    company: &mut Company<F, H::Way>,
+    hall: &mut H,
+    link: LinkNo,
+) -> Result<bool, Stop>
+    requires listens { H.listens hall.old }
+    ensures gains { Gains H.Way.tells H.Way.history H.Way.honest (H.honest hall.old) company.old
+        company.new result }
+    ensures hosts { HostsBy (H.count hall.old) (H.count hall.new) (H.got hall.old)
+        (H.got hall.new) (H.given hall.old) (H.given hall.new) (length company.old)
+        (length company.new) result }
+    ensures fails { LeavesHall result }
+    ensures listens { H.listens hall.new }
+    ensures honest { H.honest hall.old → H.honest hall.new }
+{
+    match hall.wait(alloc) {
+        Ok(Came::Link(way)) => let_in::<F, H>(alloc, company, hall, link, way),
+        Ok(Came::Idle) => Ok(false),
+        Err(Fault::Failed) => Err(Stop::Hall),
+        Err(Fault::Memory) => Err(Stop::Left(Halt::Memory)),
+    }
+}
+
+/// Lets in who has come, or waits for somebody, and answers whether anybody came. While as many are
+/// there as may be nobody is asked for.
+pub(crate) fn meet<F: Commands, H: Hall<F>>(
+    alloc: Global,
+    company: &mut Company<F, H::Way>,
+    hall: &mut H,
+    waits: bool,
+) -> Result<bool, Stop>
+    requires listens { H.listens hall.old }
+    ensures gains { Gains H.Way.tells H.Way.history H.Way.honest (H.honest hall.old) company.old
+        company.new result }
+    ensures hosts { HostsBy (H.count hall.old) (H.count hall.new) (H.got hall.old)
+        (H.got hall.new) (H.given hall.old) (H.given hall.new) (length company.old)
+        (length company.new) result }
+    ensures fails { LeavesHall result }
+    ensures listens { H.listens hall.new }
+    ensures honest { H.honest hall.old → H.honest hall.new }
+{
+    let Some(link) = company.next() else {
+        return Ok(false);
+    };
+    if !hall.ready() && !waits {
+        return Ok(false);
+    }
+    wait::<F, H>(alloc, company, hall, link)
+}
+
+/// The link of this number was lost.
+fn lose<F: Commands, U: Link<F>, L: Link<F>>(
+    alloc: Global,
+    parent: &mut U,
+    core: &mut ForemanCore,
+    company: &mut Company<F, L>,
+    link: LinkNo,
+) -> Result<bool, Stop>
+    requires works { (ear : EarState)
+        × IsAtWork F.gives F.may_fail U.tells L.tells L.history L.honest
+        (way_of U.history U.is_closed U.count parent.old) ear core.old company.old }
+    ensures goes { (trusted : Bool) (cap faults : ℕ) (ear : EarState)
+        → Works F.gives F.may_fail U.tells trusted L.tells L.history L.honest cap faults
+        (way_of U.history U.is_closed U.count parent.old) ear core.old company.old [] [] false
+        → Goes result (λ _. Works F.gives F.may_fail U.tells trusted L.tells L.history L.honest
+        cap faults (way_of U.history U.is_closed U.count parent.new) ear core.new company.new
+        [] [] false)
+        (Stops F.gives F.may_fail U.tells trusted cap faults
+        (way_of U.history U.is_closed U.count parent.new)) }
+    ensures left { LeavesParent result }
+    ensures many { length company.new ≡ length company.old }
+{
+    let Ok(acts) = core.on_lost(link) else {
+        return Err(Stop::Left(Halt::Memory));
+    };
+    match perform(alloc, parent, company, acts) {
+        Ok(()) => Ok(true),
+        Err(stop) => Err(stop),
+    }
+}
+
+/// Hands back a link that is to be left, if there is one, and loses it. It answers whether there was.
+pub(crate) fn lose_next<F: Commands, U: Link<F>, H: Hall<F>>(
+    alloc: Global,
+    parent: &mut U,
+    core: &mut ForemanCore,
+    company: &mut Company<F, H::Way>,
+    hall: &mut H,
+) -> Result<bool, Stop>
+    requires works { (ear : EarState)
+        × IsAtWork F.gives F.may_fail U.tells H.Way.tells H.Way.history H.Way.honest
+        (way_of U.history U.is_closed U.count parent.old) ear core.old company.old }
+    ensures goes { (trusted : Bool) (cap faults : ℕ) (ear : EarState)
+        → Works F.gives F.may_fail U.tells trusted H.Way.tells H.Way.history H.Way.honest cap faults
+        (way_of U.history U.is_closed U.count parent.old) ear core.old company.old [] [] false
+        → Goes result (λ _. Works F.gives F.may_fail U.tells trusted H.Way.tells H.Way.history
+        H.Way.honest cap faults (way_of U.history U.is_closed U.count parent.new) ear core.new
+        company.new [] [] false)
+        (Stops F.gives F.may_fail U.tells trusted cap faults
+        (way_of U.history U.is_closed U.count parent.new)) }
+    ensures hosts { HostsBy (H.count hall.old) (H.count hall.new) (H.got hall.old)
+        (H.got hall.new) (H.given hall.old) (H.given hall.new) (length company.old)
+        (length company.new) result }
+    ensures listens { H.listens hall.old → H.listens hall.new }
+    ensures honest { H.honest hall.old → H.honest hall.new }
+{
+    let Some(lower) = company.take_gone() else {
+        return Ok(false);
+    };
+    let link = lower.link();
+    match hand_back::<F, H>(alloc, hall, link, lower.into_way()) {
+        Ok(()) => lose(alloc, parent, core, company, link),
+        Err(stop) => Err(stop),
+    }
+}
+
+/// Tells a worker that the work is over, where it is, and hands its link back. It answers whether
+/// that was done.
+fn farewell<F: Commands, H: Hall<F>>(
+    alloc: Global,
+    hall: &mut H,
+    lower: Lower<F, H::Way>,
+    is_over: bool,
+) -> bool
+    ensures hosts { HostsWhole (H.count hall.old) (H.count hall.new) (H.got hall.old)
+        (H.got hall.new) (H.given hall.old) (H.given hall.new) 1 0 result }
+{
+    let mut lower = lower;
+    if is_over {
+        lower.send(alloc, &Message::Bye);
+    }
+    let link = lower.link();
+    hand_back::<F, H>(alloc, hall, link, lower.into_way()).is_ok()
+}
+
+/// Lets all workers go, and answers whether each link was handed back.
+pub(crate) fn dismiss<F: Commands, H: Hall<F>>(
+    alloc: Global,
+    company: Company<F, H::Way>,
+    hall: &mut H,
+    is_over: bool,
+) -> bool
+    ensures hosts { HostsWhole (H.count hall.old) (H.count hall.new) (H.got hall.old)
+        (H.got hall.new) (H.given hall.old) (H.given hall.new) (length company) 0 result }
+{
+    let mut company = company;
+    let mut whole = true;
+    while let Some(lower) = company.pop() {
+        if !farewell::<F, H>(alloc, hall, lower, is_over) {
+            whole = false;
+        }
+    }
+    whole
+}

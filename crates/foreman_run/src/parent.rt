@@ -1,0 +1,184 @@
+//! A foreman at the link to its parent.
+ghost use Rattle.std.specs.Prelude.{◌≡◌, ◌-◌, [], Bool, List, ℕ, false, None, Some, Ok, length};
+ghost use Rattle.foreman_core.specs.Foremen.{Foreman};
+ghost use Rattle.peer_run.specs.Ends.{Takes};
+ghost use Rattle.peer_run.specs.Says.{CanBeTold, Each};
+ghost use Rattle.peer_run.specs.Works.{EarState, way_of};
+ghost use Rattle.foreman_run.specs.Ends.{Goes, LeavesParent, Stops};
+ghost use Rattle.foreman_run.specs.Looks.{is_over};
+ghost use Rattle.foreman_run.specs.Lowers.{LowerState};
+ghost use Rattle.foreman_run.specs.Says.{CanGoDown};
+ghost use Rattle.foreman_run.specs.Works.{IsAtWork, Works};
+
+use crate::company::Company;
+use crate::stop::Stop;
+use crate::voice::say_all;
+use flow_types::Message;
+use foreman_core::{ForemanActs, ForemanCore};
+use links::{Got, Link};
+use outside::Commands;
+use peer_run::{Ear, Halt};
+use std::alloc::Global;
+use wq_messages::PeerFault;
+
+/// What a look at the link to the parent came to.
+#[derive(Clone, Copy, Debug, PartialEq, Eq)]
+pub enum Look {
+    /// Nothing was there.
+    Nothing,
+    /// Something was there.
+    Something,
+    /// The work is over.
+    Over,
+}
+
+impl Look {
+    // What it came to that isn't the end of the work.
+    fn of(did: bool) -> Look
+        ensures { is_over result ≡ false }
+    {
+        if did { Look::Something } else { Look::Nothing }
+    }
+}
+
+/// Says what a step says upward, sends what goes down, and leaves the link that is to be left.
+pub(crate) fn perform<F: Commands, U: Link<F>, L: Link<F>>(
+    alloc: Global,
+    link: &mut U,
+    company: &mut Company<F, L>,
+    acts: ForemanActs,
+) -> Result<(), Stop>
+    requires up { Each CanBeTold acts.up }
+    requires down { CanGoDown acts.down }
+    ensures goes { (trusted : Bool) (cap faults : ℕ) (ear : EarState) (core : Foreman)
+        → Works F.gives F.may_fail U.tells trusted L.tells L.history L.honest cap faults
+        (way_of U.history U.is_closed U.count link.old) ear core company.old
+        acts.up acts.down false
+        → Goes result (λ _. Works F.gives F.may_fail U.tells trusted L.tells L.history L.honest
+        cap faults (way_of U.history U.is_closed U.count link.new) ear core company.new [] [] false)
+        (Stops F.gives F.may_fail U.tells trusted cap faults
+        (way_of U.history U.is_closed U.count link.new)) }
+    ensures left { LeavesParent result }
+    ensures many { length company.new ≡ length company.old }
+{
+    let ForemanActs {
+        up,
+        down,
+        leave,
+        bye: _,
+    } = acts;
+    if let Err(fault) = say_all(alloc, link, up.as_slice()) {
+        return Err(Stop::of(fault));
+    }
+    company.send_all(alloc, down.as_slice());
+    company.leave(leave);
+    Ok(())
+}
+
+/// Does what a message from above asks for, which began at this byte, and answers whether the work
+/// is over.
+fn obey<F: Commands, U: Link<F>, L: Link<F>>(
+    alloc: Global,
+    link: &mut U,
+    core: &mut ForemanCore,
+    company: &mut Company<F, L>,
+    message: Message,
+    at: u64,
+) -> Result<bool, Stop>
+    requires works { (ear : EarState) × (next : EarState) × Takes ear (Ok (Some message)) next
+        × IsAtWork F.gives F.may_fail U.tells L.tells L.history L.honest
+        (way_of U.history U.is_closed U.count link.old) ear core.old company.old }
+    ensures goes { (trusted : Bool) (cap faults : ℕ) (ear next : EarState)
+        → at ≡ ear.fed - length ear.rest → Takes ear (Ok (Some message)) next
+        → Works F.gives F.may_fail U.tells trusted L.tells L.history L.honest cap faults
+        (way_of U.history U.is_closed U.count link.old) ear core.old company.old [] [] false
+        → Goes result (Works F.gives F.may_fail U.tells trusted L.tells L.history L.honest
+        cap faults (way_of U.history U.is_closed U.count link.new) next core.new company.new [] [])
+        (Stops F.gives F.may_fail U.tells trusted cap faults
+        (way_of U.history U.is_closed U.count link.new)) }
+    ensures left { LeavesParent result }
+    ensures many { length company.new ≡ length company.old }
+{
+    let acts = match core.on_up(message) {
+        Ok(acts) => acts,
+        Err(PeerFault::Unexpected) => return Err(Stop::Left(Halt::Bad { at })),
+        Err(PeerFault::Memory) => return Err(Stop::Left(Halt::Memory)),
+    };
+    if acts.bye {
+        return Ok(true);
+    }
+    match perform(alloc, link, company, acts) {
+        Ok(()) => Ok(false),
+        Err(stop) => Err(stop),
+    }
+}
+
+/// Takes the bytes that are there, where less than a message was, if there are some or it is to wait
+/// for them, and answers whether there was anything.
+fn listen<F: Commands, U: Link<F>, L: Link<F>>(
+    alloc: Global,
+    link: &mut U,
+    ear: &mut Ear,
+    waits: bool,
+) -> Result<bool, Stop>
+    requires { ear.old.stop ≡ None }
+    ensures goes { (trusted : Bool) (cap faults : ℕ) (before : EarState) (core : Foreman)
+        (lowers : List (LowerState L)) → Takes before (Ok None) ear.old
+        → Works F.gives F.may_fail U.tells trusted L.tells L.history L.honest cap faults
+        (way_of U.history U.is_closed U.count link.old) before core lowers [] [] false
+        → Goes result (λ _. Works F.gives F.may_fail U.tells trusted L.tells L.history L.honest
+        cap faults (way_of U.history U.is_closed U.count link.new) ear.new core lowers [] [] false)
+        (Stops F.gives F.may_fail U.tells trusted cap faults
+        (way_of U.history U.is_closed U.count link.new)) }
+    ensures left { LeavesParent result }
+{
+    if !link.ready() && !waits {
+        return Ok(false);
+    }
+    match link.recv(alloc) {
+        Ok(Got::Piece(piece)) => match ear.feed(piece.as_slice()) {
+            Ok(()) => Ok(true),
+            Err(_) => Err(Stop::Left(Halt::Memory)),
+        },
+        Ok(Got::Idle) => Ok(false),
+        Ok(Got::Closed) => Err(Stop::Left(Halt::Closed)),
+        Err(fault) => Err(Stop::of(fault)),
+    }
+}
+
+/// Does what the parent's next message asks for, or takes the bytes that are there.
+pub(crate) fn attend<F: Commands, U: Link<F>, L: Link<F>>(
+    alloc: Global,
+    link: &mut U,
+    ear: &mut Ear,
+    core: &mut ForemanCore,
+    company: &mut Company<F, L>,
+    waits: bool,
+) -> Result<Look, Stop>
+    requires works { IsAtWork F.gives F.may_fail U.tells L.tells L.history L.honest
+        (way_of U.history U.is_closed U.count link.old) ear.old core.old company.old }
+    ensures goes { (trusted : Bool) (cap faults : ℕ)
+        → Works F.gives F.may_fail U.tells trusted L.tells L.history L.honest cap faults
+        (way_of U.history U.is_closed U.count link.old) ear.old core.old company.old [] [] false
+        → Goes result (λ look. Works F.gives F.may_fail U.tells trusted L.tells L.history L.honest
+        cap faults (way_of U.history U.is_closed U.count link.new) ear.new core.new company.new
+        [] [] (is_over look))
+        (Stops F.gives F.may_fail U.tells trusted cap faults
+        (way_of U.history U.is_closed U.count link.new)) }
+    ensures left { LeavesParent result }
+    ensures many { length company.new ≡ length company.old }
+{
+    let at = ear.at();
+    match ear.next(alloc) {
+        Ok(Some(message)) => match obey(alloc, link, core, company, message, at) {
+            Ok(true) => Ok(Look::Over),
+            Ok(false) => Ok(Look::Something),
+            Err(stop) => Err(stop),
+        },
+        Ok(None) => match listen::<F, U, L>(alloc, link, ear, waits) {
+            Ok(did) => Ok(Look::of(did)),
+            Err(stop) => Err(stop),
+        },
+        Err(halt) => Err(Stop::Left(halt)),
+    }
+}

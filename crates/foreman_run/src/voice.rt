@@ -1,0 +1,71 @@
+//! What a foreman says to its parent, and sends to its workers.
+ghost use Rattle.std.specs.Prelude.{◌≡◌, ◌≤◌, [], List, Ok, IfOk, OnOk, length};
+ghost use Rattle.flow_types.specs.declared.messages.Message.{Message as Said};
+ghost use Rattle.links.specs.Passings.{received_in, Transmits};
+ghost use Rattle.message_forms.specs.Streams.{IsFramed, frame, framed};
+ghost use Rattle.wq_messages.specs.Spelling.{HasCounts, most_body, spelling};
+ghost use Rattle.links.specs.Peers.{IsRightLink, MaySay};
+ghost use Rattle.outside.specs.Causes.{HasCause};
+ghost use Rattle.peer_run.specs.Says.{CanBeTold, Each, SaysAll, SendsAll};
+
+use byte_fields::put_counted;
+use flow_types::{Bytes, Memory, Message};
+use links::Link;
+use outside::{Commands, Fault};
+use peer_run::say;
+use std::alloc::Global;
+use wq_messages::write_message;
+
+// A body behind its length.
+fn frame_of(alloc: Global, body: &[u8]) -> Result<Bytes, Memory>
+    requires { length body.now ≤ most_body }
+    ensures { IfOk result (λ bytes. bytes ≡ frame body.now) }
+{
+    let mut out = Vec::new(alloc);
+    put_counted(&mut out, body)?;
+    Ok(Bytes::from_vec(out))
+}
+
+/// Sends one message to a worker, over a link that stays honest where it is.
+pub(crate) fn send<F: Commands, L: Link<F>>(
+    alloc: Global,
+    way: &mut L,
+    message: &Message,
+) -> Result<(), Fault>
+    requires counts { HasCounts message.now }
+    requires short { length (spelling message.now) ≤ most_body }
+    ensures sent { L.tells → Transmits result (framed message.now) (L.history way.old)
+        (L.history way.new) }
+    ensures fits { OnOk result (IsFramed message.now) }
+    ensures honest { L.honest way.old → L.honest way.new }
+{
+    let body = write_message(alloc, message)?;
+    let bytes = frame_of(alloc, body.as_slice())?;
+    way.send(bytes.as_slice())
+}
+
+/// Says these messages, in order.
+pub(crate) fn say_all<F: Commands, U: Link<F>>(
+    alloc: Global,
+    link: &mut U,
+    messages: &[Message],
+) -> Result<(), Fault>
+    requires told { Each CanBeTold messages.now }
+    ensures said { (said : List Said) → U.tells
+        → IsRightLink F.gives F.may_fail (U.history link.old) said
+        → Each (MaySay F.gives F.may_fail (received_in (U.history link.old))) messages.now
+        → SaysAll F.gives F.may_fail messages.now said (U.history link.new) result }
+    ensures sent { U.tells → SendsAll result messages.now (U.history link.old)
+        (U.history link.new) }
+    ensures none { messages.now ≡ [] → result ≡ Ok tt }
+    ensures closed { U.is_closed link.new ≡ U.is_closed link.old }
+    ensures cause { HasCause (U.count link.old) (U.count link.new) result }
+{
+    for message in messages {
+        match say(alloc, link, message) {
+            Ok(()) => {}
+            Err(fault) => return Err(fault),
+        }
+    }
+    Ok(())
+}
