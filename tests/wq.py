@@ -347,7 +347,7 @@ def wq_waits():
         it.waits("the run", started, 2, 0, ["opened", "ended waited"])
         it.byes(worker)
 
-    with Farm("a command takes longer than the idle limit", {}, [("sleep 6; echo > out", [], ["out"])], {}) as it:
+    with Farm("a command takes longer than the idle limit", {}, [("sleep 20; echo > out", [], ["out"])], {}) as it:
         started = it.master("--idle-limit", "2")
         worker = it.worker()
         it.waits("the run", started, 2, 0, ["opened", "started 0 0", "lost 0 0", "ended waited"])
