@@ -26,8 +26,10 @@ pub(crate) struct Company<F: Commands, L: Link<F>> {
     failed: bool,
     // A link was lost for want of memory.
     lost: bool,
-    // How many looks in a row found nothing.
+    // How many looks found nothing since the last turn to be idle.
     looks: u32,
+    // The moment before the first of them.
+    since: u64,
     // How many looks in a row found something.
     busy: u32,
     // How many moves the desk had when no claim gave a rule.
@@ -69,6 +71,7 @@ impl<F: Commands, L: Link<F>> Company<F, L> {
             failed: false,
             lost: false,
             looks: 0,
+            since: 0,
             busy: 0,
             quiet: u64::MAX,
             newest: 0,
@@ -128,6 +131,7 @@ impl<F: Commands, L: Link<F>> Company<F, L> {
             failed: _,
             lost: _,
             looks: _,
+            since: _,
             busy: _,
             quiet: _,
             newest: _,

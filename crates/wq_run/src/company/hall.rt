@@ -5,13 +5,19 @@ ghost use Rattle.wq_run.specs.Seats.{Meets, inside_of, with_hand};
 use super::Company;
 use flow_types::LinkNo;
 use links::{Came, Hall};
-use outside::{Commands, Fault};
+use outside::{Clock, Commands, Fault};
 use peers::Peer;
 use std::alloc::Global;
 
-/// The most looks in a row that find nothing before each link, and the place where peers come, has
-/// its turn to be idle. A look takes a millisecond.
+/// The most looks that find nothing before each link, and the place where peers come, has its turn
+/// to be idle. A look takes a millisecond, and longer where the system's timers are coarse.
 const PATIENCE: u32 = 1_000;
+
+/// The fewest such looks before a turn that the clock gives.
+const LEAST_LOOKS: u32 = 64;
+
+/// The time from one turn to the next, by the clock, in microseconds.
+const SECOND: u64 = 1_000_000;
 
 /// Hands a link back, under its number if it joined.
 pub(super) fn hand_back<F: Commands, H: Hall<F>>(
@@ -115,12 +121,20 @@ pub(super) fn meet<F: Commands, H: Hall<F>>(
     false
 }
 
-/// Whether so many looks in a row found nothing that each has its turn to be idle; then they are
-/// counted anew.
-pub(super) fn has_turn<F: Commands, H: Hall<F>>(company: &mut Company<F, H::Way>) -> bool
+/// Whether so many looks found nothing, or so much time has gone by, that each has its turn to be
+/// idle; then both are counted anew.
+pub(super) fn has_turn<F: Commands, H: Hall<F>, C: Clock>(
+    company: &mut Company<F, H::Way>,
+    clock: &C,
+) -> bool
     ensures { company.new ≡ company.old }
 {
-    if company.looks < PATIENCE {
+    let now = clock.now();
+    if company.looks == 0 {
+        company.since = now;
+    }
+    let is_late = company.looks >= LEAST_LOOKS && now.saturating_sub(company.since) >= SECOND;
+    if company.looks < PATIENCE && !is_late {
         return false;
     }
     company.looks = 0;

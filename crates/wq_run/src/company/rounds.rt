@@ -57,7 +57,7 @@ pub(crate) fn round<B: PoolTerms, F: Commands, S: Site, H: Hall<F>, T: Terms, C:
         (H.idle_count hall.new) (inside_of company.old) (inside_of company.new)
         company.old.failed company.new.failed company.old.lost company.new.lost }
 {
-    let is_turn = has_turn::<F, H>(company);
+    let is_turn = has_turn::<F, H, C>(company, clock);
     let told = visit_all::<B, F, S, H, T, C>(
         company, alloc, desk, held, hall, is_turn, limit, clock,
     );
