@@ -2,7 +2,7 @@
 ghost use Rattle.std.specs.Prelude.{◌≡◌, ◌<◌, length, slice_get, IfOk};
 ghost use Rattle.foreman_core.specs.Answers.{HearsUp, Leads};
 ghost use Rattle.foreman_core.specs.Drafts.{drafted, led_of};
-ghost use Rattle.foreman_core.specs.Foremen.{new_foreman};
+ghost use Rattle.foreman_core.specs.Foremen.{new_foreman, totals};
 ghost use Rattle.foreman_core.specs.Steps.{cancels, cancels_at, hears_put, hears_task, hears_up, misses, settled, takes};
 ghost use Rattle.worker_core.specs.Workers.{goes_up};
 
@@ -11,6 +11,7 @@ use crate::copies::{attempts_of, links_of, renumber};
 use crate::draft::Draft;
 use crate::links::{Below, Upstream, find};
 use crate::pins::release;
+use crate::totals::stated;
 use flow_types::{AttemptNo, Bytes, Key, Memory, Message, Task};
 use std::alloc::Global;
 use std::marker::Model;
@@ -55,6 +56,13 @@ impl ForemanCore {
             links: Vec::new(alloc),
             next: 0,
         }
+    }
+
+    /// What the foreman states of its workers together, with its own cache.
+    pub fn totals(&self) -> Message
+        ensures { result ≡ totals self.now }
+    {
+        stated(self.links.as_slice(), self.cache.cap())
     }
 
     // A step on copies, with nothing to be sent yet.
