@@ -39,7 +39,7 @@ size_total : (outs : List (List ℕ)) → total (λ row. row.size) (map row_for 
 size_total [] = refl
 size_total (out ∷ outs) = ap (λ n. length out + n) (size_total outs)
 
-all_got : {A : Type 0} (p : A → Bool) (xs : List A) (n : ℕ) (x : A) → list_all p xs ≡ true → slice_get xs n ≡ Some x → p x ≡ true
+pub all_got : {A : Type 0} (p : A → Bool) (xs : List A) (n : ℕ) (x : A) → list_all p xs ≡ true → slice_get xs n ≡ Some x → p x ≡ true
 all_got p [] n x all got = absurd (let h : ⊥ = cc in h)
 all_got p (y ∷ ys) zero x all got = let same : x ≡ y = cc in ap p same ∙ (and_parts _ _ all).0
 all_got p (y ∷ ys) (suc n) x all got = all_got p ys n x (and_parts _ _ all).1 got

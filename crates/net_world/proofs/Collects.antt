@@ -8,6 +8,8 @@ use Rattle.flow_types.specs.declared.numbers.Content.{Content}
 use Rattle.flow_types.specs.declared.numbers.FileNo.{FileNo}
 use Rattle.flow_types.specs.declared.records.Record.{Record}
 use Rattle.flow_types.specs.declared.records.Record.TheVariants as records
+use Rattle.flow_types.specs.declared.messages.Message.TheVariants as messages
+use Rattle.link_session.specs.Keys.{key_of}
 use Rattle.flow_types.specs.Plans.{maker_of, makes, file_numbers}
 use Rattle.flow_types.specs.Serial.{Contents}
 use Rattle.run_history.specs.declared.options.Mode.{Mode}
@@ -24,7 +26,7 @@ use Rattle.net_world.proofs.WorldSteps.{sent_kept, connections_kept}
 use Rattle.net_world.proofs.Members.{found_stands, every_map}
 use Rattle.net_world.proofs.Files.{present_before, is_there, there_by, there_made}
 use Rattle.net_world.proofs.Closes.{logged_kept}
-use Rattle.net_world.proofs.Invariant.{Setting, due, IsRight, IsStored, IsKept}
+use Rattle.net_world.proofs.Invariant.{Setting, due, IsSendable, IsStored, IsKept}
 
 true_ne_false : true ≡ false → ⊥
 true_ne_false h = cc
@@ -83,7 +85,7 @@ unlinks_kept S w file kept =
     let on : List Connection = filter (knows file) w.connections in
     let more : World = sent_more w (map (unlink_on file) on) in
     connections_kept S more (map (forgets file) w.connections)
-    (sent_kept S w (map (unlink_on file) on) kept (every_map (IsRight S (records_in w) w.bag) (unlink_on file) on (λ c there. tt)))
+    (sent_kept S w (map (unlink_on file) on) kept (every_map (IsSendable S (records_in w) w.bag) (unlink_on file) on (λ c there. (tt, refl))))
 
 drop_by : (S : Setting) (w : World) (f : ℕ) (places : Bool) → has_places S.plan (records_in w) 1 ≡ places → is_free S.plan (records_in w) f ≡ true → IsKept S w
     → IsKept S (cond places (dropped w f) w)

@@ -27,7 +27,7 @@ use Rattle.net_world.proofs.Locals.{runs_local_kept}
 use Rattle.net_world.proofs.Invariant.{Setting, due, IsRight, IsRightRecord, IsRecorded, IsStored, IsKept}
 
 -- records as moves are these records
-records_again : (H : List Record) → records_of (map moves.Logged H) ≡ H
+pub records_again : (H : List Record) → records_of (map moves.Logged H) ≡ H
 records_again [] = refl
 records_again (x ∷ xs) = ap (λ ys. x ∷ ys) (records_again xs)
 

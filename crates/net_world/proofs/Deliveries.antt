@@ -1,5 +1,5 @@
 -- A message that comes to the master, and what it sends.
-use Rattle.std.proofs.Common.{◌≡◌, ◌⊎◌, inl, inr, ℕ, Bool, true, false, cond, List, [], ◌∷◌, ◌++◌, Option, Some, None, refl, sym, subst, arith}
+use Rattle.std.proofs.Common.{◌≡◌, ◌⊎◌, inl, inr, ℕ, Bool, true, false, cond, List, [], ◌∷◌, ◌++◌, Option, Some, None, refl, ap, sym, subst, arith}
 use Rattle.std.specs.Prelude.{slice_get, find, map, filter_map, nat_lt, Result, Ok, Err}
 use Rattle.std.specs.Option.{option_map}
 use Rattle.flow_types.specs.declared.plan.Rule.{Rule}
@@ -14,6 +14,8 @@ use Rattle.flow_types.specs.declared.records.Record.{Record}
 use Rattle.flow_types.specs.declared.messages.Message.{Message}
 use Rattle.flow_types.specs.declared.messages.Message.TheVariants as messages
 use Rattle.flow_types.specs.Plans.{IsValid}
+use Rattle.flow_types.specs.Serial.{job_of}
+use Rattle.links.specs.Honesty.{task_job}
 use Rattle.run_history.specs.Moves.{has_join_room}
 use Rattle.link_session.specs.declared.word.SessionFault.{SessionFault}
 use Rattle.link_session.specs.declared.word.SessionFault.TheVariants as faults
@@ -27,11 +29,13 @@ use Rattle.net_world.specs.declared.events.Party.TheVariants.{Master, Peer}
 use Rattle.net_world.specs.declared.events.Sent.{Sent}
 use Rattle.net_world.specs.Members.{Stands, Every}
 use Rattle.net_world.specs.Worlds.{World, Connection, records_in, rule_at, task_with, the_rule, task_at, run_of, put_of, puts_and_task, down_to, with_session, session_set, closes, moved, link_no, end_in, end_logged, puts_again, follows, answer_logged, answered, to_master, comes, delivered, at_peer, message_logged, coming_logged, delivery_logged}
+use Rattle.net_world.specs.Reach.{MayEnd}
+use Rattle.net_world.specs.Laws.{task_sent}
 use Rattle.net_world.proofs.Members.{every_append, every_one, every_map, every_filter_map, get_stands}
-use Rattle.net_world.proofs.WorldSteps.{sent_kept, connections_kept, to_peer_kept}
+use Rattle.net_world.proofs.WorldSteps.{sent_kept, connections_kept, to_other_kept, to_peer_kept}
 use Rattle.net_world.proofs.Moves.{unlogged_kept}
 use Rattle.net_world.proofs.Closes.{IsFrom, closes_kept, lost_kept}
-use Rattle.net_world.proofs.Invariant.{Setting, IsOurTask, IsOurOutcome, IsRight, IsRightMessage, IsKept}
+use Rattle.net_world.proofs.Invariant.{Setting, due, IsOurAnswer, IsOurTask, IsOurOutcome, IsRightMessage, IsSendable, IsKept}
 use Rattle.run_history.specs.declared.moves.Move.TheVariants as moves
 
 -- ---- what a session answers
@@ -82,16 +86,28 @@ lack_right : (S : Setting) (w : World) (s : State) (m : Message) (attempt : Atte
 lack_right S w s m attempt files None = tt
 lack_right S w s m attempt files (Some at) = lacked_right S w s m attempt files at (slice_get s.attempts at)
 
-hears_right : (S : Setting) (w : World) (s : State) (p : ℕ) (m : Message) → IsRightMessage S (records_in w) w.bag (Peer p) Master m → IsRightAnswer S w m (hears s m).answer
-hears_right S w s p (messages.Done attempt outcome) right = end_right S w s attempt outcome (place attempt s.attempts) right.0 (inr (p, right.1))
-hears_right S w s p (messages.Missing attempt files) right = lack_right S w s (messages.Missing attempt files) attempt files (place attempt s.attempts)
-hears_right S w s p (messages.Totals total largest cache) right = tt
-hears_right S w s p (messages.Put key content) right = tt
-hears_right S w s p (messages.Task t) right = tt
-hears_right S w s p (messages.Hello total largest cache) right = tt
-hears_right S w s p (messages.Cancel attempt) right = tt
-hears_right S w s p (messages.Unlink key) right = tt
-hears_right S w s p messages.Bye right = tt
+-- an answer to a task of the master is one of an attempt that was started
+pub answer_ours : (S : Setting) (w : World) (p : ℕ) (attempt : AttemptNo) (outcome : Outcome) → IsKept S w → IsOurAnswer S w.bag Master (Peer p) attempt outcome
+    → IsOurOutcome S (records_in w) attempt.0 outcome
+answer_ours S w p attempt outcome kept answer =
+    let ours : IsOurTask S (records_in w) answer.0 = kept.sent (task_sent Master (Peer p) answer.0) answer.2 in
+    let same : answer.0.attempt.0 ≡ attempt.0 = ap (λ (a : AttemptNo). a.0) answer.1 in
+    let job : task_job answer.0 (due S) ≡ job_of S.plan ours.0.rule (due S) = ap (λ t. task_job t (due S)) ours.1 in (
+      record { number = ours.0.number; rule = ours.0.rule; started = subst (λ a. rule_at (records_in w) a ≡ Some ours.0.number) same ours.0.started; in_plan = ours.0.in_plan },
+      subst (λ j. MayEnd S.gives S.may_fail j outcome) job answer.3,
+    )
+
+hears_right : (S : Setting) (w : World) (s : State) (p : ℕ) (m : Message) → IsKept S w → IsRightMessage S (records_in w) w.bag (Peer p) Master m → IsRightAnswer S w m (hears s m).answer
+hears_right S w s p (messages.Done attempt outcome) kept right =
+    end_right S w s attempt outcome (place attempt s.attempts) (answer_ours S w p attempt outcome kept right) (inr (p, (right.0, right.1, right.2)))
+hears_right S w s p (messages.Missing attempt files) kept right = lack_right S w s (messages.Missing attempt files) attempt files (place attempt s.attempts)
+hears_right S w s p (messages.Totals total largest cache) kept right = tt
+hears_right S w s p (messages.Put key content) kept right = tt
+hears_right S w s p (messages.Task t) kept right = tt
+hears_right S w s p (messages.Hello total largest cache) kept right = tt
+hears_right S w s p (messages.Cancel attempt) kept right = tt
+hears_right S w s p (messages.Unlink key) kept right = tt
+hears_right S w s p messages.Bye kept right = tt
 
 greets_right : (S : Setting) (w : World) (s : State) (m : Message) → IsRightAnswer S w m (greets s m).answer
 greets_right S w s (messages.Hello total largest cache) = tt
@@ -109,12 +125,12 @@ abbrev refused : State → Told
 refused s = record { state = s; answer = Err faults.Unexpected }
 
 -- A message is the first one, or one behind the hello, or it is refused.
-told_by_stage : (Q : Told → Type 0) (s : State) (m : Message) → Q (greets s m) → Q (hears s m) → Q (refused s) → Q (told s m)
+pub told_by_stage : (Q : Told → Type 0) (s : State) (m : Message) → Q (greets s m) → Q (hears s m) → Q (refused s) → Q (told s m)
 told_by_stage Q s m first behind never = grind (arith, first, behind, never)
 
 -- What a session answers on a right message.
-told_right : (S : Setting) (w : World) (s : State) (p : ℕ) (m : Message) → IsRightMessage S (records_in w) w.bag (Peer p) Master m → IsRightAnswer S w m (told s m).answer
-told_right S w s p m right = told_by_stage (λ did. IsRightAnswer S w m did.answer) s m (greets_right S w s m) (hears_right S w s p m right) tt
+told_right : (S : Setting) (w : World) (s : State) (p : ℕ) (m : Message) → IsKept S w → IsRightMessage S (records_in w) w.bag (Peer p) Master m → IsRightAnswer S w m (told s m).answer
+told_right S w s p m kept right = told_by_stage (λ did. IsRightAnswer S w m did.answer) s m (greets_right S w s m) (hears_right S w s p m kept right) tt
 
 -- ---- what the master sends
 
@@ -131,20 +147,20 @@ pub task_right : (S : Setting) (H : List Record) (attempt : AttemptNo) (t : Task
 task_right S H attempt t is = task_by S H attempt t (rule_at H attempt.0) (the_rule S.plan (rule_at H attempt.0)) refl refl is
 
 put_by : (S : Setting) (w : World) (p run : ℕ) (file : FileNo) (m : Message) (content : Option (List ℕ)) → w.contents file.0 ≡ content → IsKept S w
-    → option_map (λ content. messages.Put (key_of run file) content) content ≡ Some m → IsRight S (records_in w) w.bag (down_to p m)
+    → option_map (λ content. messages.Put (key_of run file) content) content ≡ Some m → IsSendable S (records_in w) w.bag (down_to p m)
 put_by S w p run file m None at kept is = absurd (let h : ⊥ = cc in h)
 put_by S w p run file m (Some content) at kept is =
     let same : messages.Put (key_of run file) content ≡ m = cc in
-    subst (λ m. IsRight S (records_in w) w.bag (down_to p m)) same (kept.stored.sound file.0 content at)
+    subst (λ m. IsSendable S (records_in w) w.bag (down_to p m)) same (kept.stored.sound file.0 content at, refl)
 
 -- the Puts and the task that the master sends are right
-pub puts_right : (S : Setting) (w : World) (p : ℕ) (files : List FileNo) (t : Task) → IsKept S w → IsOurTask S (records_in w) t → Every (IsRight S (records_in w) w.bag) (puts_and_task w p files t)
+pub puts_right : (S : Setting) (w : World) (p : ℕ) (files : List FileNo) (t : Task) → IsKept S w → IsOurTask S (records_in w) t → Every (IsSendable S (records_in w) w.bag) (puts_and_task w p files t)
 puts_right S w p files t kept ours =
-    let Right : Message → Type 0 = λ m. IsRight S (records_in w) w.bag (down_to p m) in
-    every_map (IsRight S (records_in w) w.bag) (down_to p) (filter_map (put_of w.contents t.run) files ++ (messages.Task t ∷ []))
+    let Right : Message → Type 0 = λ m. IsSendable S (records_in w) w.bag (down_to p m) in
+    every_map (IsSendable S (records_in w) w.bag) (down_to p) (filter_map (put_of w.contents t.run) files ++ (messages.Task t ∷ []))
     (every_append Right (filter_map (put_of w.contents t.run) files) (messages.Task t ∷ [])
     (every_filter_map Right (put_of w.contents t.run) files (λ file m is. put_by S w p t.run file m (w.contents file.0) refl kept is))
-    (every_one Right (messages.Task t) ours))
+    (every_one Right (messages.Task t) (ours, refl)))
 
 puts_kept : (S : Setting) (w : World) (c : Connection) (files : List FileNo) (task : Option Task) → ((t : Task) → task ≡ Some t → IsOurTask S (records_in w) t) → IsKept S w
     → IsKept S (puts_again w c files task)
@@ -188,7 +204,7 @@ to_master_kept : (S : Setting) (w : World) (p : ℕ) (m : Message) (connection :
 to_master_kept S w p m None valid right kept = kept
 to_master_kept S w p m (Some c) valid right kept =
     let did : Told = told c.session m in
-    answered_kept S (with_session w c.link did.state) c m did.answer valid (told_right S w c.session p m right)
+    answered_kept S (with_session w c.link did.state) c m did.answer valid (told_right S w c.session p m kept right)
     (connections_kept S w (map (session_set c.link did.state) w.connections) kept)
 
 comes_kept : (S : Setting) (w : World) (from to : Party) (m : Message) → IsValid S.plan → IsRightMessage S (records_in w) w.bag from to m
@@ -196,7 +212,7 @@ comes_kept : (S : Setting) (w : World) (from to : Party) (m : Message) → IsVal
 comes_kept S w Master (Peer p) m valid right stands kept = to_peer_kept S w p m (find (at_peer p) w.connections) (slice_get w.peers p) refl right stands kept
 comes_kept S w (Peer p) Master m valid right stands kept = to_master_kept S w p m (find (at_peer p) w.connections) valid right kept
 comes_kept S w Master Master m valid right stands kept = kept
-comes_kept S w (Peer p) (Peer q) m valid right stands kept = kept
+comes_kept S w (Peer p) (Peer q) m valid right stands kept = to_other_kept S w p q m (slice_get w.peers q) refl right stands kept
 
 -- a delivery
 pub delivered_kept : (S : Setting) (w : World) (n : ℕ) (found : Option Sent) → slice_get w.bag n ≡ found → IsValid S.plan → IsKept S w → IsKept S (delivered S.plan w found)
@@ -209,7 +225,7 @@ message_logged_kept : (S : Setting) (w : World) (p : ℕ) (m : Message) (connect
     → IsKept S (message_logged S.plan w m connection)
 message_logged_kept S w p m None valid right kept = kept
 message_logged_kept S w p m (Some c) valid right kept =
-    logged_by S w m (told c.session m).answer valid (told_right S w c.session p m right) kept
+    logged_by S w m (told c.session m).answer valid (told_right S w c.session p m kept right) kept
 
 coming_kept : (S : Setting) (w : World) (from to : Party) (m : Message) → IsValid S.plan → IsRightMessage S (records_in w) w.bag from to m → IsKept S w
     → IsKept S (coming_logged S.plan w from to m)

@@ -2,6 +2,7 @@
 use Rattle.std.proofs.Common.{◌≡◌, ◌⊎◌, inl, inr, ℕ, zero, suc, ◌+◌, ◌<◌, Bool, true, false, cond, List, [], ◌∷◌, ◌++◌, length, Option, Some, None, refl, ap, sym, ◌∙◌, arith, subst}
 use Rattle.std.specs.Prelude.{filter, map, find, slice_get, slice_set, filter_map}
 use Rattle.std.specs.List.{cons_option, range_with_len}
+use Rattle.std.specs.Option.{option_map}
 use Rattle.net_world.specs.Members.{Stands, Every}
 
 pub stands_left : {A : Type 0} (x : A) (xs ys : List A) → Stands x xs → Stands x (xs ++ ys)
@@ -17,6 +18,16 @@ pub every_append : {A : Type 0} (P : A → Type 0) (xs ys : List A) → Every P 
 every_append P [] ys left right x there = right x there
 every_append P (z ∷ xs) ys left right x (inl same) = left x (inl same)
 every_append P (z ∷ xs) ys left right x (inr later) = every_append P xs ys (λ y there. left y (inr there)) right x later
+
+-- what stands in joined lists stands in one of them
+pub stands_either : {A : Type 0} (x : A) (xs ys : List A) → Stands x (xs ++ ys) → Stands x xs ⊎ Stands x ys
+stands_either x [] ys there = inr there
+stands_either x (z ∷ xs) ys (inl same) = inl (inl same)
+stands_either x (z ∷ xs) ys (inr there) = by (stands_either x xs ys there)
+  where
+    by : Stands x xs ⊎ Stands x ys → ((x ≡ z) ⊎ Stands x xs) ⊎ Stands x ys
+    by (inl left) = inl (inr left)
+    by (inr right) = inr right
 
 pub every_nil : {A : Type 0} (P : A → Type 0) → Every P []
 every_nil P x here = absurd here
@@ -50,6 +61,11 @@ pub every_filter_map : {A B : Type 0} (P : B → Type 0) (g : A → Option B) (x
 every_filter_map P g [] all = every_nil P
 every_filter_map P g (x ∷ xs) all = filter_map_at P g xs (g x) (all x) (every_filter_map P g xs all)
 
+-- the same, where what is asked of an item may rest on its standing there
+pub every_filter_map_in : {A B : Type 0} (P : B → Type 0) (g : A → Option B) (xs : List A) → ((x : A) → Stands x xs → (y : B) → g x ≡ Some y → P y) → Every P (filter_map g xs)
+every_filter_map_in P g [] all = every_nil P
+every_filter_map_in P g (x ∷ xs) all = filter_map_at P g xs (g x) (all x (inl refl)) (every_filter_map_in P g xs (λ y there. all y (inr there)))
+
 found_at : {A : Type 0} (test : A → Bool) (y : A) (ys : List A) (x : A) (b : Bool) → test y ≡ b → cond b (Some y) (find test ys) ≡ Some x
     → (find test ys ≡ Some x → Stands x ys × (test x ≡ true)) → Stands x (y ∷ ys) × (test x ≡ true)
 found_at test y ys x true is found later = let same : x ≡ y = cc in (inl same, ap test same ∙ is)
@@ -75,24 +91,42 @@ pub get_last : {A : Type 0} (xs : List A) (x : A) (n : ℕ) → n ≡ length xs 
 get_last [] x n end = ap (slice_get (x ∷ [])) end
 get_last (z ∷ xs) x n end = ap (slice_get (z ∷ (xs ++ (x ∷ [])))) end ∙ get_last xs x (length xs) refl
 
--- an item of a list with one more is an old one or the new one
-pub get_push : {A : Type 0} (xs : List A) (x y : A) (n : ℕ) → slice_get (xs ++ (x ∷ [])) n ≡ Some y → (slice_get xs n ≡ Some y) ⊎ (y ≡ x)
-get_push [] x y zero got = inr (let same : y ≡ x = cc in same)
-get_push [] x y (suc n) got = absurd (let h : ⊥ = cc in h)
-get_push (z ∷ xs) x y zero got = inl got
-get_push (z ∷ xs) x y (suc n) got = get_push xs x y n got
-
--- an item of a list with one replaced is an old one or the new one, at its place
-pub get_set : {A : Type 0} (xs : List A) (i : ℕ) (x y : A) (n : ℕ) → slice_get (slice_set xs i x) n ≡ Some y → (slice_get xs n ≡ Some y) ⊎ ((y ≡ x) × (n ≡ i))
-get_set [] i x y n got = inl got
-get_set (z ∷ xs) zero x y zero got = inr (let same : y ≡ x = cc in same, refl)
-get_set (z ∷ xs) zero x y (suc n) got = inl got
-get_set (z ∷ xs) (suc i) x y zero got = inl got
-get_set (z ∷ xs) (suc i) x y (suc n) got = more (get_set xs i x y n got)
+-- a place that was replaced holds the new item, and every other one what it held
+pub get_set : {A : Type 0} (xs : List A) (i : ℕ) (old x : A) (n : ℕ) → slice_get xs i ≡ Some old
+    → ((n ≡ i) × (slice_get (slice_set xs i x) n ≡ Some x)) ⊎ ((n ≡ i → ⊥) × (slice_get (slice_set xs i x) n ≡ slice_get xs n))
+get_set [] i old x n at = absurd (let h : ⊥ = cc in h)
+get_set (z ∷ xs) zero old x zero at = inl (refl, refl)
+get_set (z ∷ xs) zero old x (suc n) at = inr (λ same. let h : ⊥ = omega (arith, same) in h, refl)
+get_set (z ∷ xs) (suc i) old x zero at = inr (λ same. let h : ⊥ = omega (arith, same) in h, refl)
+get_set (z ∷ xs) (suc i) old x (suc n) at = more (get_set xs i old x n at)
   where
-    more : (slice_get xs n ≡ Some y) ⊎ ((y ≡ x) × (n ≡ i)) → (slice_get xs n ≡ Some y) ⊎ ((y ≡ x) × (suc n ≡ suc i))
-    more (inl old) = inl old
-    more (inr new) = inr (new.0, ap suc new.1)
+    more : ((n ≡ i) × (slice_get (slice_set xs i x) n ≡ Some x)) ⊎ ((n ≡ i → ⊥) × (slice_get (slice_set xs i x) n ≡ slice_get xs n))
+        → ((suc n ≡ suc i) × (slice_get (slice_set xs i x) n ≡ Some x)) ⊎ ((suc n ≡ suc i → ⊥) × (slice_get (slice_set xs i x) n ≡ slice_get xs n))
+    more (inl new) = inl (ap suc new.0, new.1)
+    more (inr old) = inr (λ same. old.0 (omega (arith, same)), old.1)
+
+-- one more item: an earlier place holds what it held, and a later one nothing
+pub get_more : {A : Type 0} (xs : List A) (x : A) (n : ℕ) → ((n ≡ length xs) × (slice_get (xs ++ x ∷ []) n ≡ Some x)) ⊎ (slice_get (xs ++ x ∷ []) n ≡ slice_get xs n)
+get_more [] x zero = inl (refl, refl)
+get_more [] x (suc n) = inr refl
+get_more (z ∷ xs) x zero = inr refl
+get_more (z ∷ xs) x (suc n) = more (get_more xs x n)
+  where
+    more : ((n ≡ length xs) × (slice_get (xs ++ x ∷ []) n ≡ Some x)) ⊎ (slice_get (xs ++ x ∷ []) n ≡ slice_get xs n)
+        → ((suc n ≡ suc (length xs)) × (slice_get (xs ++ x ∷ []) n ≡ Some x)) ⊎ (slice_get (xs ++ x ∷ []) n ≡ slice_get xs n)
+    more (inl new) = inl (ap suc new.0, new.1)
+    more (inr old) = inr old
+
+-- a mapped list holds at each place the image of what stood there
+pub get_map : {A B : Type 0} (g : A → B) (xs : List A) (n : ℕ) → slice_get (map g xs) n ≡ option_map g (slice_get xs n)
+get_map g [] n = refl
+get_map g (x ∷ xs) zero = refl
+get_map g (x ∷ xs) (suc n) = get_map g xs n
+
+-- nothing stands behind the last item
+pub get_past : {A : Type 0} (xs : List A) → slice_get xs (length xs) ≡ None
+get_past [] = refl
+get_past (x ∷ xs) = get_past xs
 
 stands_kept : {A : Type 0} (test : A → Bool) (y : A) (ys : List A) (x : A) (b : Bool) → test y ≡ b → Stands x (cond b (y ∷ filter test ys) (filter test ys))
     → (Stands x (filter test ys) → Stands x ys × (test x ≡ true)) → Stands x (y ∷ ys) × (test x ≡ true)

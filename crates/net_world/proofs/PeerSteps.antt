@@ -19,10 +19,11 @@ use Rattle.links.specs.Honesty.{task_job}
 use Rattle.worker_cache.specs.Caches.{Rows, place, held_place, if_linked, is_linked, is_held, content_of, content_in, row_at, is_full, put_in}
 use Rattle.worker_core.specs.declared.running.Running.{Running}
 use Rattle.worker_core.specs.Workers.{Worker, Acted, key_of, holds_all, content_or_none, given_of, job_of, runs, starts, misses, hears, quiet, with_rows, reports, ends_at, place_of, told, files_of}
+use Rattle.net_world.specs.declared.events.Party.{Party}
 use Rattle.net_world.specs.declared.events.Party.TheVariants.{Master, Peer}
 use Rattle.net_world.specs.declared.events.Sent.{Sent}
 use Rattle.net_world.specs.Members.{Stands, Every}
-use Rattle.net_world.specs.Worlds.{is_least, least_job, up_from}
+use Rattle.net_world.specs.Worlds.{is_least, least_job, told_to, down_to}
 use Rattle.net_world.specs.Laws.{task_sent}
 use Rattle.net_world.proofs.Members.{every_nil, every_one, found_stands}
 use Rattle.net_world.proofs.Rows.{all_got, place_held, all_put, all_unlinked, all_pinned_all, all_unpinned_all, all_touched_all}
@@ -84,74 +85,74 @@ same_job S rows t all holds =
 -- ---- messages
 
 -- a peer after a step is right, and sends what is right
-pub record IsFed (S : Setting) (H : List Record) (bag : List Sent) (p : ℕ) (did : Acted) : Type 0 where
+pub record IsFed (S : Setting) (H : List Record) (bag : List Sent) (home : Party) (p : ℕ) (did : Acted) : Type 0 where
   pub held : AllRows (IsDue S) did.worker.cache.rows
-  pub start : Every (IsRightJob S bag p) did.acts.start
-  pub send : Every (IsRight S H bag) (map (up_from p) did.acts.send)
+  pub start : Every (IsRightJob S bag home p) did.acts.start
+  pub send : Every (IsRight S H bag) (map (told_to home p) did.acts.send)
 
 -- a step that starts and sends nothing
-fed : (S : Setting) (H : List Record) (bag : List Sent) (p : ℕ) (w : Worker) → AllRows (IsDue S) w.cache.rows → IsFed S H bag p (quiet w)
-fed S H bag p w all = record { held = all; start = every_nil (IsRightJob S bag p); send = every_nil (IsRight S H bag) }
+fed : (S : Setting) (H : List Record) (bag : List Sent) (home : Party) (p : ℕ) (w : Worker) → AllRows (IsDue S) w.cache.rows → IsFed S H bag home p (quiet w)
+fed S H bag home p w all = record { held = all; start = every_nil (IsRightJob S bag home p); send = every_nil (IsRight S H bag) }
 
-task_fed : (S : Setting) (H : List Record) (bag : List Sent) (p : ℕ) (w : Worker) (t : Task) (running holds : Bool) → holds_all w.cache.rows t.run t.inputs ≡ holds
-    → Stands (task_sent Master (Peer p) t) bag → AllRows (IsDue S) w.cache.rows → IsFed S H bag p (cond running (quiet w) (cond holds (starts w t) (misses w t)))
-task_fed S H bag p w t true holds is stands all = fed S H bag p w all
-task_fed S H bag p w t false true is stands all = record {
+task_fed : (S : Setting) (H : List Record) (bag : List Sent) (home : Party) (p : ℕ) (w : Worker) (t : Task) (running holds : Bool) → holds_all w.cache.rows t.run t.inputs ≡ holds
+    → Stands (task_sent home (Peer p) t) bag → AllRows (IsDue S) w.cache.rows → IsFed S H bag home p (cond running (quiet w) (cond holds (starts w t) (misses w t)))
+task_fed S H bag home p w t true holds is stands all = fed S H bag home p w all
+task_fed S H bag home p w t false true is stands all = record {
   held = all_pinned_all (IsDue S) t.run t.inputs w.cache.rows all;
-  start = every_one (IsRightJob S bag p) (record { attempt = t.attempt; job = job_of w.cache.rows t })
+  start = every_one (IsRightJob S bag home p) (record { attempt = t.attempt; job = job_of w.cache.rows t })
       (record { task = t; numbered = refl; stands = stands; job_is = same_job S w.cache.rows t all is });
   send = every_nil (IsRight S H bag);
 }
-task_fed S H bag p w t false false is stands all = record {
+task_fed S H bag home p w t false false is stands all = record {
   held = all_touched_all (IsDue S) t.run (files_of t.inputs) w.cache.rows all;
-  start = every_nil (IsRightJob S bag p);
+  start = every_nil (IsRightJob S bag home p);
   send = every_one (IsRight S H bag) _ tt;
 }
 
-put_fed : (S : Setting) (H : List Record) (bag : List Sent) (p : ℕ) (w : Worker) (key : Key) (content : List ℕ) (full : Bool) → IsDue S key content → AllRows (IsDue S) w.cache.rows
-    → IsFed S H bag p (cond full (quiet w) (quiet (with_rows w (put_in w.cache.cap key content w.cache.rows))))
-put_fed S H bag p w key content true is all = fed S H bag p w all
-put_fed S H bag p w key content false is all = fed S H bag p _ (all_put (IsDue S) w.cache.cap key content w.cache.rows is all)
+put_fed : (S : Setting) (H : List Record) (bag : List Sent) (home : Party) (p : ℕ) (w : Worker) (key : Key) (content : List ℕ) (full : Bool) → IsDue S key content → AllRows (IsDue S) w.cache.rows
+    → IsFed S H bag home p (cond full (quiet w) (quiet (with_rows w (put_in w.cache.cap key content w.cache.rows))))
+put_fed S H bag home p w key content true is all = fed S H bag home p w all
+put_fed S H bag home p w key content false is all = fed S H bag home p _ (all_put (IsDue S) w.cache.cap key content w.cache.rows is all)
 
 -- A worker that hears a right message.
-pub hears_fed : (S : Setting) (H : List Record) (bag : List Sent) (p : ℕ) (w : Worker) (m : Message) → IsRightMessage S H bag Master (Peer p) m
-    → Stands (let sent : Sent = record { from = Master; to = Peer p; message = m } in sent) bag → AllRows (IsDue S) w.cache.rows → IsFed S H bag p (hears w m)
-hears_fed S H bag p w (messages.Put key content) is stands all = put_fed S H bag p w key content (is_full key (length content) w.cache.cap w.cache.rows) is all
-hears_fed S H bag p w (messages.Task t) is stands all = task_fed S H bag p w t (runs t.attempt w) (holds_all w.cache.rows t.run t.inputs) refl stands all
-hears_fed S H bag p w (messages.Unlink key) is stands all = fed S H bag p _ (all_unlinked (IsDue S) key w.cache.rows all)
-hears_fed S H bag p w (messages.Cancel attempt) is stands all = fed S H bag p _ all
-hears_fed S H bag p w (messages.Done attempt outcome) is stands all = fed S H bag p w all
-hears_fed S H bag p w (messages.Hello total largest cache) is stands all = fed S H bag p w all
-hears_fed S H bag p w (messages.Missing attempt files) is stands all = fed S H bag p w all
-hears_fed S H bag p w (messages.Totals total largest cache) is stands all = fed S H bag p w all
-hears_fed S H bag p w messages.Bye is stands all = record { held = all; start = every_nil (IsRightJob S bag p); send = every_nil (IsRight S H bag) }
+pub hears_fed : (S : Setting) (H : List Record) (bag : List Sent) (home : Party) (p : ℕ) (w : Worker) (m : Message) → IsRightMessage S H bag home (Peer p) m
+    → Stands (let sent : Sent = record { from = home; to = Peer p; message = m } in sent) bag → AllRows (IsDue S) w.cache.rows → IsFed S H bag home p (hears w m)
+hears_fed S H bag home p w (messages.Put key content) is stands all = put_fed S H bag home p w key content (is_full key (length content) w.cache.cap w.cache.rows) is all
+hears_fed S H bag home p w (messages.Task t) is stands all = task_fed S H bag home p w t (runs t.attempt w) (holds_all w.cache.rows t.run t.inputs) refl stands all
+hears_fed S H bag home p w (messages.Unlink key) is stands all = fed S H bag home p _ (all_unlinked (IsDue S) key w.cache.rows all)
+hears_fed S H bag home p w (messages.Cancel attempt) is stands all = fed S H bag home p _ all
+hears_fed S H bag home p w (messages.Done attempt outcome) is stands all = fed S H bag home p w all
+hears_fed S H bag home p w (messages.Hello total largest cache) is stands all = fed S H bag home p w all
+hears_fed S H bag home p w (messages.Missing attempt files) is stands all = fed S H bag home p w all
+hears_fed S H bag home p w (messages.Totals total largest cache) is stands all = fed S H bag home p w all
+hears_fed S H bag home p w messages.Bye is stands all = record { held = all; start = every_nil (IsRightJob S bag home p); send = every_nil (IsRight S H bag) }
 
 -- ---- reports
 
-told_right : (S : Setting) (H : List Record) (bag : List Sent) (p : ℕ) (attempt : AttemptNo) (outcome : Outcome) (silent : Bool)
-    → IsRightMessage S H bag (Peer p) Master (messages.Done attempt outcome) → Every (IsRight S H bag) (map (up_from p) (told silent attempt outcome))
-told_right S H bag p attempt outcome true is = every_nil (IsRight S H bag)
-told_right S H bag p attempt outcome false is = every_one (IsRight S H bag) _ is
+told_right : (S : Setting) (H : List Record) (bag : List Sent) (home : Party) (p : ℕ) (attempt : AttemptNo) (outcome : Outcome) (silent : Bool)
+    → IsRightMessage S H bag (Peer p) home (messages.Done attempt outcome) → Every (IsRight S H bag) (map (told_to home p) (told silent attempt outcome))
+told_right S H bag home p attempt outcome true is = every_nil (IsRight S H bag)
+told_right S H bag home p attempt outcome false is = every_one (IsRight S H bag) _ is
 
-ended_fed : (S : Setting) (H : List Record) (bag : List Sent) (p : ℕ) (w : Worker) (attempt : AttemptNo) (outcome : Outcome) (at : ℕ) (found : Option Running)
-    → IsRightMessage S H bag (Peer p) Master (messages.Done attempt outcome) → AllRows (IsDue S) w.cache.rows → IsFed S H bag p (ends_at w attempt outcome at found)
-ended_fed S H bag p w attempt outcome at None is all = fed S H bag p w all
-ended_fed S H bag p w attempt outcome at (Some r) is all = record {
+ended_fed : (S : Setting) (H : List Record) (bag : List Sent) (home : Party) (p : ℕ) (w : Worker) (attempt : AttemptNo) (outcome : Outcome) (at : ℕ) (found : Option Running)
+    → IsRightMessage S H bag (Peer p) home (messages.Done attempt outcome) → AllRows (IsDue S) w.cache.rows → IsFed S H bag home p (ends_at w attempt outcome at found)
+ended_fed S H bag home p w attempt outcome at None is all = fed S H bag home p w all
+ended_fed S H bag home p w attempt outcome at (Some r) is all = record {
   held = all_unpinned_all (IsDue S) r.run r.inputs w.cache.rows all;
-  start = every_nil (IsRightJob S bag p);
-  send = told_right S H bag p attempt outcome r.silent is;
+  start = every_nil (IsRightJob S bag home p);
+  send = told_right S H bag home p attempt outcome r.silent is;
 }
 
-placed_fed : (S : Setting) (H : List Record) (bag : List Sent) (p : ℕ) (w : Worker) (attempt : AttemptNo) (outcome : Outcome) (found : Option ℕ)
-    → IsRightMessage S H bag (Peer p) Master (messages.Done attempt outcome) → AllRows (IsDue S) w.cache.rows
-    → IsFed S H bag p (option_map_or (λ at. ends_at w attempt outcome at (slice_get w.running at)) found (quiet w))
-placed_fed S H bag p w attempt outcome None is all = fed S H bag p w all
-placed_fed S H bag p w attempt outcome (Some at) is all = ended_fed S H bag p w attempt outcome at (slice_get w.running at) is all
+placed_fed : (S : Setting) (H : List Record) (bag : List Sent) (home : Party) (p : ℕ) (w : Worker) (attempt : AttemptNo) (outcome : Outcome) (found : Option ℕ)
+    → IsRightMessage S H bag (Peer p) home (messages.Done attempt outcome) → AllRows (IsDue S) w.cache.rows
+    → IsFed S H bag home p (option_map_or (λ at. ends_at w attempt outcome at (slice_get w.running at)) found (quiet w))
+placed_fed S H bag home p w attempt outcome None is all = fed S H bag home p w all
+placed_fed S H bag home p w attempt outcome (Some at) is all = ended_fed S H bag home p w attempt outcome at (slice_get w.running at) is all
 
 -- A worker that reports what may be said.
-pub reports_fed : (S : Setting) (H : List Record) (bag : List Sent) (p : ℕ) (w : Worker) (attempt : AttemptNo) (outcome : Outcome)
-    → IsRightMessage S H bag (Peer p) Master (messages.Done attempt outcome) → AllRows (IsDue S) w.cache.rows → IsFed S H bag p (reports w attempt outcome)
-reports_fed S H bag p w attempt outcome is all = placed_fed S H bag p w attempt outcome (place_of attempt w.running) is all
+pub reports_fed : (S : Setting) (H : List Record) (bag : List Sent) (home : Party) (p : ℕ) (w : Worker) (attempt : AttemptNo) (outcome : Outcome)
+    → IsRightMessage S H bag (Peer p) home (messages.Done attempt outcome) → AllRows (IsDue S) w.cache.rows → IsFed S H bag home p (reports w attempt outcome)
+reports_fed S H bag home p w attempt outcome is all = placed_fed S H bag home p w attempt outcome (place_of attempt w.running) is all
 
 -- The job that is run next is one of the peer's.
 pub least_stands : (jobs : List Start) (s : Start) → least_job jobs ≡ Some s → Stands s jobs

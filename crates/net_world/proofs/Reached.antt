@@ -1,11 +1,12 @@
 -- Every event keeps the invariant, and the first world has it.
 use Rattle.std.proofs.Common.{◌≡◌, ◌⊎◌, inl, inr, ℕ, Bool, true, false, cond, List, [], ◌∷◌, Option, Some, None, refl, ap, sym, ◌∙◌, subst}
-use Rattle.std.specs.Prelude.{slice_get, map, is_some, is_none, nat_le, length, ◌==◌, unwrap_or, bytes_eq}
+use Rattle.std.specs.Prelude.{◌||◌, slice_get, map, is_some, is_none, nat_le, length, ◌==◌, unwrap_or, bytes_eq}
 use Rattle.std.specs.List.{list_all}
 use Rattle.std.specs.Option.{option_map_or}
 use Rattle.std.proofs.lemmas.Bool.{eqb-true, eq-eqb}
 use Rattle.std.proofs.lemmas.List.{length-map}
 use Rattle.flow_types.specs.declared.plan.Plan.{Plan}
+use Rattle.flow_types.specs.declared.numbers.AttemptNo.{AttemptNo}
 use Rattle.flow_types.specs.declared.numbers.Content.{Content}
 use Rattle.flow_types.specs.declared.job.Job.{Job}
 use Rattle.flow_types.specs.declared.job.Outcome.{Outcome}
@@ -13,7 +14,7 @@ use Rattle.flow_types.specs.declared.job.Outcome.TheVariants as outcomes
 use Rattle.flow_types.specs.declared.job.Task.{Task}
 use Rattle.flow_types.specs.declared.records.Record.{Record}
 use Rattle.flow_types.specs.Plans.{IsValid, is_source, maker_of, sources_of, file_numbers, most_bytes}
-use Rattle.flow_types.specs.Serial.{Contents, Function, of_sources, job_of}
+use Rattle.flow_types.specs.Serial.{Contents, Function, given_by, of_sources, job_of}
 use Rattle.flow_types.proofs.SerialRun.{serial-source}
 use Rattle.link_session.specs.Sessions.{State}
 use Rattle.links.specs.Honesty.{task_job}
@@ -23,15 +24,23 @@ use Rattle.run_history.specs.Moves.{join_refusal}
 use Rattle.run_history.specs.States.{row_of, present_with, made_state}
 use Rattle.run_history.specs.Storage.{wanted, size_in}
 use Rattle.run_history.proofs.Bools.{both}
+use Rattle.foreman_core.specs.Steps.{renumbered}
 use Rattle.net_world.specs.declared.events.Joiner.{Joiner}
+use Rattle.flow_types.specs.declared.messages.Message.{Message}
+use Rattle.flow_types.specs.declared.messages.Message.TheVariants as messages
+use Rattle.net_world.specs.declared.events.Party.{Party}
+use Rattle.net_world.specs.declared.events.Party.TheVariants.{Master, Peer}
+use Rattle.net_world.specs.declared.events.Sent.{Sent}
 use Rattle.net_world.specs.declared.events.WorldEvent.{WorldEvent}
 use Rattle.net_world.specs.declared.events.WorldEvent.TheVariants as events
 use Rattle.net_world.specs.Members.{Stands}
-use Rattle.net_world.specs.Worlds.{World, Machine, records_in, rule_at, joins, claimed_rule, happens, happens_up, happens_down, cut_short, job_run}
+use Rattle.net_world.specs.declared.member.Member.{Member}
+use Rattle.net_world.specs.declared.member.Member.TheVariants.{Leads, Works}
+use Rattle.net_world.specs.Worlds.{party_of, told_to, World, records_in, rule_at, comes_below, joins, claimed_rule, happens, happens_up, happens_down, cut_short, job_run}
 use Rattle.net_world.specs.Reach.{Failures, MayAnswer, Reaches, first_world, opening, source_logged}
-use Rattle.net_world.specs.Laws.{AreSources, IsTrueWorld, EveryWorldIsTrue, EveryPeerRunsItsJobs, EventsCompose, EventsLeadOn}
+use Rattle.net_world.specs.Laws.{AreSources, IsTrueWorld, EveryWorldIsTrue, EveryAnswerIsOfItsJob, EveryPeerRunsItsJobs, EveryReportFits, EventsCompose, EventsLeadOn, IsReport, TellsTo, task_sent}
 use Rattle.net_world.proofs.Members.{every_nil, every_one, stands_filter}
-use Rattle.net_world.proofs.WorldSteps.{ran_on_kept}
+use Rattle.net_world.proofs.WorldSteps.{place_right, ran_on_kept}
 use Rattle.net_world.proofs.Deliveries.{delivered_kept}
 use Rattle.net_world.proofs.Claims.{claims_kept}
 use Rattle.net_world.proofs.Collects.{collects_kept}
@@ -39,7 +48,7 @@ use Rattle.net_world.proofs.Ends.{ends_kept}
 use Rattle.net_world.proofs.Links.{joins_kept, loses_link_kept, evicts_kept}
 use Rattle.net_world.proofs.Locals.{runs_local_kept}
 use Rattle.net_world.proofs.Crashes.{stopped_kept, cut_kept, resumes_kept}
-use Rattle.net_world.proofs.Invariant.{Setting, due, IsOurTask, IsRight, IsRightRecord, IsStored, IsRecorded, IsKept}
+use Rattle.net_world.proofs.Invariant.{Setting, due, IsOurAnswer, IsOurTask, IsRight, IsRightPeer, IsRightPlace, IsRightRecord, IsStored, IsRecorded, IsKept}
 
 true_ne_false : true ≡ false → ⊥
 true_ne_false h = cc
@@ -50,7 +59,7 @@ join_by S w joiner false kept = kept
 
 up_kept : (S : Setting) (O : Options) (w : World) (e : WorldEvent) (outcome : Outcome) → IsValid S.plan → MayAnswer S.gives S.may_fail (job_run S.plan w e) outcome → IsKept S w
     → IsKept S (happens_up S.plan O w e outcome)
-up_kept S O w (events.Join joiner) outcome valid ends kept = join_by S w joiner (is_none (join_refusal O w.moves)) kept
+up_kept S O w (events.Join joiner) outcome valid ends kept = join_by S w joiner (comes_below w joiner || is_none (join_refusal O w.moves)) kept
 up_kept S O w (events.Claim link) outcome valid ends kept = claims_kept S O w link.0 (claimed_rule S.plan O w link.0) refl kept
 up_kept S O w (events.RunLocal attempt) outcome valid ends kept = runs_local_kept S w attempt outcome valid kept ends
 up_kept S O w events.Collect outcome valid ends kept = collects_kept S O.mode w (wanted S.plan O.mode (records_in w)) refl kept
@@ -82,7 +91,7 @@ either_kept S O w e outcome true valid ends kept = up_kept S O w e outcome valid
 either_kept S O w e outcome false valid ends kept = down_kept S O w e outcome ends kept
 
 -- Every event keeps the invariant.
-happens_kept : (S : Setting) (O : Options) (w : World) (e : WorldEvent) (outcome : Outcome) → IsValid S.plan → MayAnswer S.gives S.may_fail (job_run S.plan w e) outcome → IsKept S w
+pub happens_kept : (S : Setting) (O : Options) (w : World) (e : WorldEvent) (outcome : Outcome) → IsValid S.plan → MayAnswer S.gives S.may_fail (job_run S.plan w e) outcome → IsKept S w
     → IsKept S (happens S.plan O w e outcome)
 happens_kept S O w e outcome valid ends kept = either_kept S O w e outcome w.up valid ends kept
 
@@ -142,16 +151,13 @@ first_stored S O valid are = record {
   present = λ f there. first_present S.plan O S.sources f (maker_of S.plan f) are there;
 }
 
-no_peer : (p : ℕ) (machine : Machine) → (let none : List Machine = [] in slice_get none p ≡ Some machine) → ⊥
-no_peer p machine h = cc
-
 -- The first world has the invariant.
 pub first_kept : (S : Setting) (O : Options) (fresh : State) → IsValid S.plan → AreSources S.plan S.sources → IsKept S (first_world S.plan O S.sources fresh)
 first_kept S O fresh valid are = record {
   recorded = first_recorded S.plan O S.sources are;
   stored = first_stored S O valid are;
   sent = every_nil (IsRight S (records_in (first_world S.plan O S.sources fresh)) []);
-  peers = λ p machine at. absurd (no_peer p machine at);
+  peers = λ p to m there. absurd there;
   closed = every_one (IsRightRecord (records_in (first_world S.plan O S.sources fresh)) []) (opening S.plan O S.sources) tt;
 }
 
@@ -168,13 +174,32 @@ one_job S H t u contents ours theirs same =
     let rule : ours.0.rule ≡ theirs.0.rule = cc in
     ap (λ t. task_job t contents) ours.1 ∙ ap (λ rule. job_of S.plan rule contents) rule ∙ sym (ap (λ t. task_job t contents) theirs.1)
 
+-- tasks of one number from one peer are one task
+one_task : (S : Setting) (bag : List Sent) (p q r : ℕ) (t u : Task) (member : Option Member) → IsRightPlace S bag p member → Stands (task_sent (Peer p) (Peer q) t) bag
+    → Stands (task_sent (Peer p) (Peer r) u) bag → t.attempt.0 ≡ u.attempt.0 → t ≡ u
+one_task S bag p q r t u None right here there same = absurd (right (Peer q) (messages.Task t) here)
+one_task S bag p q r t u (Some (Works home machine)) right here there same = absurd (right.reports (Peer q) (messages.Task t) here)
+one_task S bag p q r t u (Some (Leads lead)) right here there same =
+    let first = right.handed q t here in
+    let second = right.handed r u there in
+    let mine = right.right.owned _ first.1 t refl in
+    let other = right.right.owned _ second.1 u refl in
+    let attempt : t.attempt ≡ u.attempt = ap numbered same in
+    mine.1 ∙ ap (λ (n : AttemptNo). renumbered (right.right.owner n.0) n) attempt ∙ sym other.1
+  where
+    numbered : ℕ → AttemptNo
+    numbered n = record { 0 = n }
+
 -- What the invariant says of a world.
-pub kept_true : (S : Setting) (w : World) → IsKept S w → IsTrueWorld S.plan S.gives S.sources w
+pub kept_true : (S : Setting) (w : World) → IsKept S w → IsTrueWorld S.plan S.gives S.may_fail S.sources w
 kept_true S w kept = record {
   legal = kept.recorded.legal;
   contents = λ f there. by f (w.contents f) refl (kept.stored.present f there);
   dones = λ m r attempt outs there. kept.closed _ there;
-  jobs = λ t u from to at by here there same contents. one_job S (records_in w) t u contents (kept.sent _ here) (kept.sent _ there) same;
+  jobs = λ t u p q here there same contents. one_job S (records_in w) t u contents (kept.sent _ here) (kept.sent _ there) same;
+  handed = λ p q t there. kept.sent _ there;
+  single = λ p q r t u here there same. one_task S w.bag p q r t u (slice_get w.peers p) (kept.peers p) here there same;
+  answers = λ p to attempt outcome there. kept.sent _ there;
 }
   where
     by : (f : ℕ) (found : Option (List ℕ)) → w.contents f ≡ found → is_some found ≡ true → (content : List ℕ) × (w.contents f ≡ Some content) × (due S f ≡ Some content)
@@ -183,15 +208,44 @@ kept_true S w kept = record {
 
 pub every_world : (gives : Function) (may_fail : Failures) → EveryWorldIsTrue gives may_fail
 every_world gives may_fail P O sources fresh es w valid are reached =
-    let S : Setting = record { plan = P; gives = gives; may_fail = may_fail; sources = sources } in
+    let S : Setting = record { plan = P; gives = gives; may_fail = may_fail; sources = sources; valid = valid } in
     kept_true S w (reaches_kept S O es (first_world P O sources fresh) w valid (first_kept S O fresh valid are) reached)
 
--- In every world each peer has the jobs of the attempts that its worker runs.
+-- What is told to the master of an attempt is what its job gives.
+pub every_answer : (gives : Function) (may_fail : Failures) → EveryAnswerIsOfItsJob gives may_fail
+every_answer gives may_fail P O sources fresh es w p q t said valid are reached sent told =
+    let S : Setting = record { plan = P; gives = gives; may_fail = may_fail; sources = sources; valid = valid } in
+    let kept : IsKept S w = reaches_kept S O es (first_world P O sources fresh) w valid (first_kept S O fresh valid are) reached in
+    let answer : IsOurAnswer S w.bag Master (Peer p) t.attempt (outcomes.Success said) = kept.sent _ told in
+    let ran = answer.3 tt in
+    let same : task_job answer.0 (due S) ≡ task_job t (due S) =
+    one_job S (records_in w) answer.0 t (due S) (kept.sent _ answer.2) (kept.sent _ sent) (ap (λ (a : AttemptNo). a.0) answer.1) in
+    ran.1 ∙ ap (given_by gives) same
+
+-- In every world each worker has the jobs of the attempts that its machine runs.
 pub every_peer : (gives : Function) (may_fail : Failures) → EveryPeerRunsItsJobs gives may_fail
-every_peer gives may_fail P O sources fresh es w p machine valid are reached at =
-    let S : Setting = record { plan = P; gives = gives; may_fail = may_fail; sources = sources } in
-    let right = (reaches_kept S O es (first_world P O sources fresh) w valid (first_kept S O fresh valid are) reached).peers p machine at in
+every_peer gives may_fail P O sources fresh es w p home machine valid are reached at =
+    let S : Setting = record { plan = P; gives = gives; may_fail = may_fail; sources = sources; valid = valid } in
+    let kept : IsKept S w = reaches_kept S O es (first_world P O sources fresh) w valid (first_kept S O fresh valid are) reached in
+    let right : IsRightPeer S w.bag (party_of home) p machine = place_right S w p (Some (Works home machine)) at kept in
     right.same
+
+-- what a peer tells the master, or a worker its foreman, is a report
+told_report : (S : Setting) (w : World) (p : ℕ) (to : Party) (m : Message) → IsKept S w → Stands (told_to to p m) w.bag → TellsTo w.peers p to → IsReport m
+told_report S w p (Peer f) m kept there (home, (machine, at)) =
+    let right : IsRightPeer S w.bag (party_of home) p machine = place_right S w p (Some (Works home machine)) at kept in
+    right.reports (Peer f) m there
+told_report S w p Master m kept there tells = by (slice_get w.peers p) (kept.peers p)
+  where
+    by : (member : Option Member) → IsRightPlace S w.bag p member → IsReport m
+    by None right = absurd (right Master m there)
+    by (Some (Works home machine)) right = right.reports Master m there
+    by (Some (Leads lead)) right = right.said m there
+
+pub every_report : (gives : Function) (may_fail : Failures) → EveryReportFits gives may_fail
+every_report gives may_fail P O sources fresh es w p to m valid are reached there tells =
+    let S : Setting = record { plan = P; gives = gives; may_fail = may_fail; sources = sources; valid = valid } in
+    told_report S w p to m (reaches_kept S O es (first_world P O sources fresh) w valid (first_kept S O fresh valid are) reached) there tells
 
 not_run : (gives : Function) (may_fail : Failures) (job : Option Job) → MayAnswer gives may_fail job outcomes.NotRun
 not_run gives may_fail None = tt

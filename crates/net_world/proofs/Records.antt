@@ -1,8 +1,9 @@
 -- One more record: legal where it is allowed, with the attempt's rule in its place.
-use Rattle.std.proofs.Common.{◌≡◌, ◌⊎◌, inl, inr, ℕ, Bool, true, false, cond, suc, List, [], ◌∷◌, ◌++◌, length, Option, Some, None, refl, ap, sym, ◌∙◌, subst}
+use Rattle.std.proofs.Common.{◌≡◌, ◌⊎◌, ◌<◌, arith, inl, inr, ℕ, Bool, true, false, cond, suc, List, [], ◌∷◌, ◌++◌, length, Option, Some, None, refl, ap, sym, ◌∙◌, subst}
 use Rattle.std.specs.Prelude.{slice_get, filter, filter_map, unwrap_or, fold, ◌==◌}
 use Rattle.std.specs.List.{cons_option}
 use Rattle.std.specs.Option.{option_map_or}
+use Rattle.std.proofs.lemmas.Option.{slice_get_within}
 use Rattle.std.proofs.lemmas.List.Sums.{length-filter}
 use Rattle.std.proofs.lemmas.List.Elements.{filter_map-append}
 use Rattle.flow_types.specs.declared.plan.Plan.{Plan}
@@ -55,6 +56,13 @@ pub next_at : (H : List Record) (moment : ℕ) (rule : RuleNo) (attempt : Attemp
 next_at H moment rule attempt link is =
     ap (λ xs. slice_get xs attempt.0) (filter_map-append rule_started H (records.Started moment rule attempt link ∷ []))
     ∙ get_last (filter_map rule_started H) rule.0 attempt.0 (is ∙ sym (all_starts H ∙ length-filter is_start H))
+
+-- an attempt that was started is below the next one
+pub next_below : (H : List Record) (a r : ℕ) → rule_at H a ≡ Some r → a < next_attempt H
+next_below H a r at =
+    let inside : a < length (filter_map rule_started H) = slice_get_within (filter_map rule_started H) a r at in
+    let same : length (filter_map rule_started H) ≡ next_attempt H = all_starts H ∙ length-filter is_start H in
+    omega (arith, inside, same)
 
 -- what is said last is said by an item
 said_from : {B : Type 0} (says : Record → Option B) (xs : List Record) (last : Option B) (said : B)

@@ -1,4 +1,5 @@
--- Worked worlds: one rule on one worker, and the chain of three copies on the local place.
+-- Worked worlds: one rule on one worker, or on a foreman's worker, and the chain of three copies on
+-- the local place.
 use Rattle.std.specs.Prelude.{ℕ, Bool, true, false, List, [], ◌∷◌, ◌++◌, Option, Some, None, replicate, codes, map}
 use Rattle.flow_types.specs.declared.plan.Plan.{Plan}
 use Rattle.flow_types.specs.declared.numbers.Amounts.{Amounts}
@@ -73,6 +74,14 @@ join = events.Join (joiners.Worker worker_amounts 1000)
 abbrev pub again : WorldEvent
 again = events.Join (joiners.Again 0)
 
+-- a new foreman
+abbrev pub foreman : WorldEvent
+foreman = events.Join (joiners.Foreman 1000)
+
+-- a new worker of the first peer, which is a foreman
+abbrev pub join_below : WorldEvent
+join_below = events.Join (joiners.WorkerAt 0 worker_amounts 1000)
+
 -- a claim for link k
 abbrev pub claim : ℕ → WorldEvent
 claim k = events.Claim (link_no k)
@@ -118,6 +127,38 @@ claimed_anew = cut_claim ++ events.Resume ∷ again ∷ claim 1 ∷ []
 -- A link is lost while its worker runs; the worker comes again.
 abbrev pub link_lost : List WorldEvent
 link_lost = join ∷ claim 1 ∷ events.LoseLink (link_no 1) ∷ again ∷ claim 2 ∷ []
+
+-- A foreman joins, and then two workers of its own; its totals come to the master.
+abbrev pub staffed : List WorldEvent
+staffed = foreman ∷ join_below ∷ join_below ∷ events.Deliver 1 ∷ []
+
+-- The rule goes to the foreman, which hands it on to its first worker.
+abbrev pub handed_on : List WorldEvent
+handed_on = staffed ++ claim 1 ∷ events.Deliver 2 ∷ events.Deliver 3 ∷ []
+
+-- The worker gets the input and the task, runs it, and tells the foreman, which tells the master.
+abbrev pub ran_below : List WorldEvent
+ran_below =
+    handed_on ++ events.Deliver 4 ∷ events.Deliver 5 ∷ events.Run 1 ∷ events.Deliver 6
+    ∷ events.Deliver 7 ∷ []
+
+-- The first worker is gone before it tells anything, and the second one gets the task.
+abbrev pub placed_anew : List WorldEvent
+placed_anew =
+    handed_on ++ events.Deliver 4 ∷ events.Deliver 5 ∷ events.Evict 1 ∷ events.Run 1
+    ∷ events.Deliver 7 ∷ events.Deliver 8 ∷ events.Run 2 ∷ events.Deliver 9 ∷ events.Deliver 10
+    ∷ []
+
+-- The foreman is gone while its worker runs.
+abbrev pub foreman_gone : List WorldEvent
+foreman_gone =
+    handed_on ++ events.Deliver 4 ∷ events.Deliver 5 ∷ events.Evict 0 ∷ events.Run 1 ∷ []
+
+-- The master crashes while a foreman's worker runs and goes on; the foreman comes again.
+abbrev pub foreman_again : List WorldEvent
+foreman_again =
+    handed_on ++ events.Deliver 4 ∷ events.Deliver 5 ∷ events.Crash cuts.Nothing ∷ events.Run 1
+    ∷ events.Resume ∷ again ∷ claim 1 ∷ events.Deliver 6 ∷ []
 
 -- Two rules of the chain are done on the local place.
 abbrev pub two_done : List WorldEvent

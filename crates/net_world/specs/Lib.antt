@@ -1,6 +1,17 @@
 pub mod Members
+pub mod Peers
+pub mod Company
 pub mod Worlds
 pub mod Reach
 pub mod Runs
+pub mod Doings
+pub mod Plays
+pub mod Holdings
+pub mod Closings
+pub mod Steps
+pub mod Drops
+pub mod Results
+pub mod Hearings
 pub mod Laws
+pub mod Ends
 pub mod Examples

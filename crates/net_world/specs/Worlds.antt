@@ -1,6 +1,5 @@
--- The world of a master and its workers, and what each event makes of it.
-use Rattle.std.specs.Prelude.{ℕ, Bool, true, false, not, ◌&&◌, ◌||◌, ◌-◌, List, [], ◌∷◌, ◌++◌, length, ◌==◌, Option, Some, None, Result, Ok, Err, nat_le, if◌then◌else◌, map, filter, filter_map, find, fold, position, remove, slice_get, slice_set, is_none}
-use Rattle.std.specs.List.{list_all}
+-- The world of a master, its foremen and all workers, and what each event makes of it.
+use Rattle.std.specs.Prelude.{ℕ, Bool, true, false, not, ◌&&◌, ◌||◌, ◌-◌, List, [], ◌∷◌, ◌++◌, length, ◌==◌, Option, Some, None, Result, Ok, Err, nat_lt, if◌then◌else◌, map, filter, filter_map, find, fold, slice_get, slice_set, is_none}
 use Rattle.std.specs.Option.{option_map, option_map_or}
 use Rattle.sha2.specs.Sha256.{sha256}
 use Rattle.flow_types.specs.declared.plan.Plan.{Plan}
@@ -44,6 +43,9 @@ use Rattle.link_session.specs.declared.word.Word.TheVariants as words
 use Rattle.link_session.specs.Keys.{contains_key, forgotten, key_of, lacking}
 use Rattle.link_session.specs.Sessions.{State, Told, greets, started, told}
 use Rattle.worker_core.specs.Workers.{Acted, Worker, hears, reports}
+use Rattle.foreman_core.specs.declared.acts.ForemanActs.{ForemanActs}
+use Rattle.foreman_core.specs.Foremen.{Foreman, each_amount, largest_by, total_by}
+use Rattle.foreman_core.specs.Steps.{Led, hears_down, hears_up, loses as loses_worker}
 use Rattle.net_world.specs.declared.events.Cut.{Cut}
 use Rattle.net_world.specs.declared.events.Cut.TheVariants as cuts
 use Rattle.net_world.specs.declared.events.Joiner.{Joiner}
@@ -51,15 +53,21 @@ use Rattle.net_world.specs.declared.events.Joiner.TheVariants as joiners
 use Rattle.net_world.specs.declared.events.Party.{Party}
 use Rattle.net_world.specs.declared.events.Party.TheVariants.{Master, Peer}
 use Rattle.net_world.specs.declared.events.Sent.{Sent}
+use Rattle.net_world.specs.declared.member.Home.{Home}
+use Rattle.net_world.specs.declared.member.Home.TheVariants.{AtForeman, AtMaster}
+use Rattle.net_world.specs.declared.member.Member.{Member}
+use Rattle.net_world.specs.declared.member.Member.TheVariants.{Leads, Works}
 use Rattle.net_world.specs.declared.events.WorldEvent.{WorldEvent}
 use Rattle.net_world.specs.declared.events.WorldEvent.TheVariants as events
-
--- A peer: its worker, the jobs that it was told to start and that haven't ended, and whether it is
--- gone.
-pub record Machine : Type 0 where
-  pub worker : Worker
-  pub jobs : List Start
-  pub gone : Bool
+pub use Rattle.net_world.specs.Company.{cut_if, left_home}
+pub use Rattle.net_world.specs.Company.{at_next, cut_off, cut_where, is_at, is_below, is_under}
+pub use Rattle.net_world.specs.Company.{led_sends, left_by, link_at, next_job, party_of}
+pub use Rattle.net_world.specs.Company.{sent_down}
+pub use Rattle.net_world.specs.Peers.{Lead, Machine, down_to, gone_lead, gone_worker, hello_of}
+pub use Rattle.net_world.specs.Peers.{is_job_of, is_least, is_open, least_job, most_came}
+pub use Rattle.net_world.specs.Peers.{new_lead, new_machine, new_worker, next_below, nothing}
+pub use Rattle.net_world.specs.Peers.{stepped, stepped_lead, told_to, up_from, with_one_more}
+pub use Rattle.net_world.specs.Peers.{without_job}
 
 -- A link of the master that lives: its number, the peer at its other end, and its session.
 pub record Connection : Type 0 where
@@ -69,12 +77,12 @@ pub record Connection : Type 0 where
 
 -- The master's moves, the contents that it holds and its links, the peers, the bag of all messages
 -- that were ever sent, whether the master runs, and some session to begin with. Peers and messages
--- are numbered by their places.
+-- are numbered by their places, peers in the order in which they first came.
 pub record World : Type 0 where
   pub moves : List Move
   pub contents : Contents
   pub connections : List Connection
-  pub peers : List Machine
+  pub peers : List Member
   pub bag : List Sent
   pub up : Bool
   pub fresh : State
@@ -148,20 +156,16 @@ abbrev pub with_connections : World → List Connection → World
 with_connections w connections = record w { connections = connections }
 
 -- with these peers
-abbrev pub with_peers : World → List Machine → World
+abbrev pub with_peers : World → List Member → World
 with_peers w peers = record w { peers = peers }
+
+-- with this peer at the place of another
+abbrev pub with_member : World → ℕ → Member → World
+with_member w p member = with_peers w (slice_set w.peers p member)
 
 -- with these messages more
 abbrev pub sent_more : World → List Sent → World
 sent_more w more = record w { bag = w.bag ++ more }
-
--- a message to a peer
-abbrev pub down_to : ℕ → Message → Sent
-down_to p message = record { from = Master; to = Peer p; message = message }
-
--- a message of a peer
-abbrev pub up_from : ℕ → Message → Sent
-up_from p message = record { from = Peer p; to = Master; message = message }
 
 -- it is this link
 abbrev pub at_link : ℕ → Connection → Bool
@@ -335,62 +339,76 @@ ends_as w (Some kind) = logged w (records.Ended 0 kind)
 abbrev pub ends : Plan → Options → World → World
 ends P O w = ends_as w (logged_end P O w.moves None)
 
--- ---- peers
+-- ---- workers
 
--- A peer after a step of its worker, with these of its jobs. One that was told Bye is gone.
-abbrev pub stepped : Machine → List Start → Acted → Machine
-stepped machine jobs did = record {
-  worker = did.worker;
-  jobs = jobs ++ did.acts.start;
-  gone = did.acts.bye || machine.gone;
-}
+-- a worker of this home steps, and sends what it has to
+abbrev pub acted : World → ℕ → Home → Machine → List Start → Acted → World
+acted w p home machine jobs did =
+    sent_more (with_member w p (Works home (stepped machine jobs did)))
+    (map (told_to (party_of home) p) did.acts.send)
 
--- a peer steps, and sends what it has to
-abbrev pub acted : World → ℕ → Machine → List Start → Acted → World
-acted w p machine jobs did =
-    sent_more (with_peers w (slice_set w.peers p (stepped machine jobs did)))
-    (map (up_from p) did.acts.send)
+-- a message comes to a worker from its home
+abbrev pub works_on : World → ℕ → Home → Machine → Message → World
+works_on w p home machine message =
+    acted w p home machine machine.jobs (hears machine.worker message)
 
--- a message comes to a peer that has a session
-abbrev pub to_peer : World → ℕ → Message → Option Connection → Option Machine → World
-to_peer w p message None machine = w
-to_peer w p message (Some c) None = w
-to_peer w p message (Some c) (Some machine) =
-    acted w p machine machine.jobs (hears machine.worker message)
-
--- no job has an attempt below this one
-abbrev pub is_least : List Start → Start → Bool
-is_least jobs s = list_all (λ other. nat_le s.attempt.0 other.attempt.0) jobs
-
--- the job of the least attempt
-abbrev pub least_job : List Start → Option Start
-least_job jobs = find (is_least jobs) jobs
-
--- it is the job of an attempt
-abbrev pub is_job_of : AttemptNo → Start → Bool
-is_job_of attempt s = s.attempt.0 == attempt.0
-
--- the jobs without that of an attempt
-abbrev pub without_job : AttemptNo → List Start → List Start
-without_job attempt jobs = option_map_or (remove jobs) (position (is_job_of attempt) jobs) jobs
-
--- a job of a peer ends so, and is reported
-abbrev pub ran : World → ℕ → Machine → Outcome → Option Start → World
-ran w p machine outcome None = w
-ran w p machine outcome (Some s) =
-    acted w p machine (without_job s.attempt machine.jobs)
+-- a job of a worker ends so, and is reported
+abbrev pub ran : World → ℕ → Home → Machine → Outcome → Option Start → World
+ran w p home machine outcome None = w
+ran w p home machine outcome (Some s) =
+    acted w p home machine (without_job s.attempt machine.jobs)
     (reports machine.worker s.attempt outcome)
 
--- the least job of a peer that isn't gone ends so
-abbrev pub ran_on : World → ℕ → Outcome → Option Machine → World
+-- the least job of a worker that isn't gone ends so
+abbrev pub ran_on : World → ℕ → Outcome → Option Member → World
 ran_on w p outcome None = w
-ran_on w p outcome (Some machine) =
-    if machine.gone then w else ran w p machine outcome (least_job machine.jobs)
+ran_on w p outcome (Some (Works home machine)) =
+    if machine.gone then w else ran w p home machine outcome (least_job machine.jobs)
+ran_on w p outcome (Some (Leads lead)) = w
 
--- the job that a peer runs next
-abbrev pub next_job : Option Machine → Option Job
-next_job None = None
-next_job (Some machine) = option_map (λ s. s.job) (least_job machine.jobs)
+-- ---- foremen
+
+-- a foreman sends what it has to, and leaves the link that it is to leave
+abbrev pub carried : World → ℕ → ForemanActs → World
+carried w f acts =
+    sent_more (with_peers w (left_by w.peers f acts.leave)) (led_sends w.peers f acts)
+
+-- a foreman steps, and does what it has to
+abbrev pub led : World → ℕ → Lead → Led → World
+led w f lead did = carried (with_member w f (Leads (stepped_lead lead did))) f did.acts
+
+-- ---- messages to peers
+
+-- A message of the master comes to a peer. A worker of a foreman hears none.
+abbrev pub to_member : World → ℕ → Message → Member → World
+to_member w p message (Works AtMaster machine) = works_on w p AtMaster machine message
+to_member w p message (Works (AtForeman f link) machine) = w
+to_member w p message (Leads lead) = led w p lead (hears_up lead.foreman message)
+
+-- the same, to a peer that has a session
+abbrev pub to_peer : World → ℕ → Message → Option Connection → Option Member → World
+to_peer w p message None member = w
+to_peer w p message (Some c) None = w
+to_peer w p message (Some c) (Some member) = to_member w p message member
+
+-- a message of a foreman comes to a worker, if it is the worker's home and there is a session
+abbrev pub from_foreman : World → ℕ → ℕ → Message → Home → Machine → World
+from_foreman w f p message AtMaster machine = w
+from_foreman w f p message (AtForeman g None) machine = w
+from_foreman w f p message (AtForeman g (Some k)) machine =
+    if g == f then works_on w p (AtForeman g (Some k)) machine message else w
+
+-- a message comes to a foreman over this link, if there is one
+abbrev pub from_worker : World → ℕ → Message → Lead → Option LinkNo → World
+from_worker w f message lead None = w
+from_worker w f message lead (Some k) = led w f lead (hears_down lead.foreman k message)
+
+-- a message of one peer comes to another
+abbrev pub to_other : World → ℕ → ℕ → Message → Option Member → World
+to_other w p q message None = w
+to_other w p q message (Some (Works home machine)) = from_foreman w p q message home machine
+to_other w p q message (Some (Leads lead)) =
+    from_worker w q message lead (link_at q (slice_get w.peers p))
 
 -- ---- messages to the master
 
@@ -465,7 +483,7 @@ comes P w Master (Peer p) message =
     to_peer w p message (find (at_peer p) w.connections) (slice_get w.peers p)
 comes P w (Peer p) Master message = to_master P w message (find (at_peer p) w.connections)
 comes P w Master Master message = w
-comes P w (Peer p) (Peer q) message = w
+comes P w (Peer p) (Peer q) message = to_other w p q message (slice_get w.peers q)
 
 -- a message of the bag, which stays there, is delivered
 abbrev pub delivered : Plan → World → Option Sent → World
@@ -513,10 +531,27 @@ leaves w k (Some c) =
 abbrev pub loses_link : Plan → World → ℕ → World
 loses_link P w k = leaves (loses P w k) k (find (at_link k) w.connections)
 
--- a peer is gone
-abbrev pub goes : World → ℕ → Option Machine → World
+-- a foreman loses a link
+abbrev pub loses_below : World → ℕ → LinkNo → Option Member → World
+loses_below w f k None = w
+loses_below w f k (Some (Works home machine)) = w
+loses_below w f k (Some (Leads lead)) = led w f lead (loses_worker lead.foreman k)
+
+-- A worker is gone. A foreman where it had a link loses that link.
+abbrev pub goes_from : World → ℕ → Home → Machine → World
+goes_from w p AtMaster machine = with_member w p (Works AtMaster (gone_worker machine))
+goes_from w p (AtForeman f None) machine =
+    with_member w p (Works (AtForeman f None) (gone_worker machine))
+goes_from w p (AtForeman f (Some k)) machine =
+    let gone : World = with_member w p (Works (AtForeman f None) (gone_worker machine)) in
+    loses_below gone f k (slice_get gone.peers f)
+
+-- A peer is gone. With a foreman its workers' links there end.
+abbrev pub goes : World → ℕ → Option Member → World
 goes w p None = w
-goes w p (Some machine) = with_peers w (slice_set w.peers p (record machine { gone = true }))
+goes w p (Some (Works home machine)) = goes_from w p home machine
+goes w p (Some (Leads lead)) =
+    with_peers w (cut_where (is_under p) (slice_set w.peers p (Leads (gone_lead lead))))
 
 -- the link of a peer is lost, where it has one
 abbrev pub parts : Plan → World → Option Connection → World
@@ -529,47 +564,103 @@ evicts P w p =
     let parted : World = parts P w (find (at_peer p) w.connections) in
     goes parted p (slice_get parted.peers p)
 
--- a worker's first message
-abbrev pub hello_of : Worker → Message
-hello_of worker = messages.Hello worker.total worker.total worker.cache.cap
-
 -- The session of a run in which the first message is heard and nothing was sent. Of the session to
 -- begin with nothing is left.
 abbrev pub greeted : State → ℕ → Message → State
 greeted fresh run message =
     (greets (record fresh { run = run; known = []; attempts = [] }) message).state
 
--- a peer's session begins, and its hello is heard at once
-abbrev pub connected : World → ℕ → Worker → World
-connected w p worker =
+-- a peer's session at the master begins, and its hello with these amounts is heard at once
+abbrev pub linked : World → ℕ → Amounts → Amounts → ℕ → World
+linked w p total largest cache =
     let k : ℕ = next_link w.moves in
-    let session : State = greeted w.fresh (run_of (records_in w)) (hello_of worker) in
-    with_connections
-    (moved w (moves.Joined (link_no k) worker.total worker.total worker.cache.cap))
+    let session : State =
+    greeted w.fresh (run_of (records_in w)) (messages.Hello total largest cache) in
+    with_connections (moved w (moves.Joined (link_no k) total largest cache))
     (w.connections ++ record { link = k; peer = p; session = session } ∷ [])
 
--- a worker that holds and runs nothing
-abbrev pub new_worker : Amounts → ℕ → Worker
-new_worker total cap =
-    record { total = total; cache = record { cap = cap; rows = [] }; running = [] }
+-- the same of a worker
+abbrev pub connected : World → ℕ → Worker → World
+connected w p worker = linked w p worker.total worker.total worker.cache.cap
 
--- a peer that runs nothing
-abbrev pub new_machine : Worker → Machine
-new_machine worker = record { worker = worker; jobs = []; gone = false }
+-- the same of a foreman, which states what its workers have together
+abbrev pub connected_lead : World → ℕ → Foreman → World
+connected_lead w p f =
+    linked w p (each_amount (λ amount. total_by amount f.links))
+    (each_amount (λ amount. largest_by amount f.links)) f.cache.cap
+
+-- a worker's session at a foreman begins, and its hello is heard at once
+abbrev pub welcomed : World → ℕ → Lead → Worker → World
+welcomed w f lead worker =
+    led w f (with_one_more lead) (hears_down lead.foreman (next_below lead) (hello_of worker))
+
+-- with one more peer
+abbrev pub with_more : World → Member → World
+with_more w member = with_peers w (w.peers ++ member ∷ [])
+
+-- the most peers that are numbered
+abbrev pub most_peers : ℕ
+most_peers = 4294967296
+
+-- a further peer gets a number
+abbrev pub has_number : World → Bool
+has_number w = nat_lt (length w.peers) most_peers
+
+-- a new worker comes to a foreman
+abbrev pub comes_to : World → ℕ → Worker → Option Member → World
+comes_to w f worker None = w
+comes_to w f worker (Some (Works home machine)) = w
+comes_to w f worker (Some (Leads lead)) =
+    if is_open lead && has_number w
+    then welcomed (with_more w (at_next f lead (new_machine worker))) f lead worker else w
+
+-- an earlier worker comes to its foreman again
+abbrev pub back_to : World → ℕ → ℕ → Machine → Option Member → World
+back_to w p f machine None = w
+back_to w p f machine (Some (Works home other)) = w
+back_to w p f machine (Some (Leads lead)) =
+    if is_open lead
+    then welcomed (with_member w p (at_next f lead machine)) f lead machine.worker else w
+
+-- an earlier worker comes again to where it was, if it has no session there
+abbrev pub back_home : World → ℕ → Home → Machine → World
+back_home w p AtMaster machine = connected w p machine.worker
+back_home w p (AtForeman f (Some k)) machine = w
+back_home w p (AtForeman f None) machine = back_to w p f machine (slice_get w.peers f)
+
+-- an earlier peer that isn't gone comes again to where it was
+abbrev pub back : World → ℕ → Member → World
+back w p (Works home machine) = if machine.gone then w else back_home w p home machine
+back w p (Leads lead) = if lead.gone then w else connected_lead w p lead.foreman
 
 -- an earlier peer comes again, if it isn't gone and has no session
-abbrev pub comes_again : World → ℕ → Option Connection → Option Machine → World
-comes_again w p (Some c) machine = w
+abbrev pub comes_again : World → ℕ → Option Connection → Option Member → World
+comes_again w p (Some c) member = w
 comes_again w p None None = w
-comes_again w p None (Some machine) = if machine.gone then w else connected w p machine.worker
+comes_again w p None (Some member) = back w p member
 
 -- who joins
 abbrev pub joins : World → Joiner → World
 joins w (joiners.Worker total cache) =
     let worker : Worker = new_worker total cache in
-    connected (with_peers w (w.peers ++ new_machine worker ∷ [])) (length w.peers) worker
+    if has_number w
+    then connected (with_more w (Works AtMaster (new_machine worker))) (length w.peers) worker
+    else w
+joins w (joiners.Foreman cache) =
+    if has_number w
+    then linked (with_more w (Leads (new_lead cache))) (length w.peers) nothing nothing 0
+    else w
+joins w (joiners.WorkerAt f total cache) =
+    comes_to w f (new_worker total cache) (slice_get w.peers f)
 joins w (joiners.Again p) =
     comes_again w p (find (at_peer p) w.connections) (slice_get w.peers p)
+
+-- who joins comes to a foreman, of which the desk isn't told
+abbrev pub comes_below : World → Joiner → Bool
+comes_below w (joiners.Worker total cache) = false
+comes_below w (joiners.Foreman cache) = false
+comes_below w (joiners.WorkerAt f total cache) = true
+comes_below w (joiners.Again p) = is_below (slice_get w.peers p)
 
 -- ---- crashes and resumes
 
@@ -588,8 +679,8 @@ cut_short P O w (cuts.Lose attempt) outcome = closes P w attempt outcomes.NotRun
 abbrev pub present_only : Plan → List Record → Contents → Contents
 present_only P H contents f = if is_present P H f then contents f else None
 
--- The master as its log leaves it: all sessions end, links are numbered anew, and contents that
--- aren't present are forgotten.
+-- The master as its log leaves it: all its sessions end, links are numbered anew, and contents that
+-- aren't present are forgotten. The sessions of foremen and their workers stay.
 abbrev pub stopped : Plan → World → World
 stopped P w = record {
   moves = map moves.Logged (records_in w);
@@ -622,7 +713,7 @@ resumes P O w =
 -- event that isn't enabled changes nothing.
 abbrev pub happens_up : Plan → Options → World → WorldEvent → Outcome → World
 happens_up P O w (events.Join joiner) outcome =
-    if is_none (join_refusal O w.moves) then joins w joiner else w
+    if comes_below w joiner || is_none (join_refusal O w.moves) then joins w joiner else w
 happens_up P O w (events.Claim link) outcome = claims P w link.0 (claimed_rule P O w link.0)
 happens_up P O w (events.RunLocal attempt) outcome = runs_local P w attempt outcome
 happens_up P O w events.Collect outcome = collects P w (wanted P O.mode (records_in w))

@@ -20,10 +20,25 @@ pub struct Sent {
 /// Who joins.
 #[derive(Clone, Copy, Debug, PartialEq, Eq)]
 pub enum Joiner {
-    /// A new worker, by what it has and the bytes that it may keep.
-    Worker { total: Amounts, cache: u64 },
-    /// An earlier peer that has no session and isn't gone.
-    Again { peer: u32 },
+    /// A new worker at the master, by what it has and the bytes that it may keep.
+    Worker {
+        total: Amounts,
+        cache: u64,
+    },
+    /// A new foreman at the master, by the bytes that it may keep.
+    Foreman {
+        cache: u64,
+    },
+    /// A new worker at a foreman.
+    WorkerAt {
+        foreman: u32,
+        total: Amounts,
+        cache: u64,
+    },
+    /// An earlier peer that has no session and isn't gone, where it was before.
+    Again {
+        peer: u32,
+    },
 }
 
 /// What a crash of the master cuts short: of the event the one record that it logs is kept, with
@@ -52,9 +67,9 @@ pub enum WorldEvent {
     /// A message, by its place in the order of sending, is heard by its receiver.
     Deliver(usize),
     LoseLink(LinkNo),
-    /// A peer's link is lost, and the peer is gone.
+    /// A peer's link is lost, and the peer is gone; with a foreman all its links end.
     Evict(u32),
-    /// A peer's least attempt is run and reported.
+    /// A worker's least attempt is run and reported.
     Run(u32),
     Crash(Cut),
     Resume,

@@ -4,8 +4,9 @@ ghost use Rattle.flow_types.specs.Examples.{chain};
 ghost use Rattle.link_session.specs.Sessions.{State};
 ghost use Rattle.net_world.specs.declared.events.WorldEvent.TheVariants as events;
 ghost use Rattle.net_world.specs.Examples.{begun, claim, claimed_anew, collecting, cut_claim};
-ghost use Rattle.net_world.specs.Examples.{delivered, delivered_twice, done, drops, history};
-ghost use Rattle.net_world.specs.Examples.{link_lost, lost, one_rule, put_again, remote, resumed};
+ghost use Rattle.net_world.specs.Examples.{delivered, delivered_twice, done, drops, foreman_again};
+ghost use Rattle.net_world.specs.Examples.{foreman_gone, history, link_lost, lost, one_rule};
+ghost use Rattle.net_world.specs.Examples.{placed_anew, put_again, ran_below, remote, resumed};
 ghost use Rattle.net_world.specs.Examples.{run_once, starts, two_done, two_logged};
 
 /// One rule on one worker: its Done is delivered twice, and the second time changes nothing.
@@ -44,6 +45,36 @@ pub fn start_that_was_not_sent()
 pub fn lost_link_runs_again()
     ensures { (fresh : State) → history (begun fresh one_rule remote link_lost)
         ≡ codes "opened" ∷ starts 0 1 ∷ lost 0 ∷ starts 1 2 ∷ [] }
+{}
+
+/// A rule goes to a foreman, from there to a worker, and its Done comes back the same way.
+pub fn done_goes_through_a_foreman()
+    ensures { (fresh : State) → history (begun fresh one_rule remote ran_below)
+        ≡ codes "opened" ∷ starts 0 1 ∷ done 0 ∷ [] }
+{}
+
+/// A foreman's worker is gone while it runs: the foreman hands the task to another one, and the
+/// master's attempt goes on.
+pub fn worker_of_a_foreman_is_gone()
+    ensures { (fresh : State) → history (begun fresh one_rule remote placed_anew)
+        ≡ codes "opened" ∷ starts 0 1 ∷ done 0 ∷ [] }
+{}
+
+/// A foreman is gone: what it had is lost, and what its worker tells it then is heard by nobody.
+pub fn foreman_is_gone()
+    ensures gone { (fresh : State) → history (begun fresh one_rule remote foreman_gone)
+        ≡ codes "opened" ∷ starts 0 1 ∷ lost 0 ∷ [] }
+    ensures unheard { (fresh : State)
+        → length (begun fresh one_rule remote (foreman_gone ++ events.Deliver 6 ∷ [])).bag ≡ 7 }
+{}
+
+/// A crash while a foreman's worker runs: the foreman comes again, and what it tells of the old
+/// attempt closes nothing.
+pub fn old_done_of_a_foreman_is_stale()
+    ensures told { (fresh : State) → length (begun fresh one_rule remote foreman_again).bag ≡ 10 }
+    ensures stale { (fresh : State)
+        → history (begun fresh one_rule remote (foreman_again ++ events.Deliver 9 ∷ []))
+        ≡ codes "opened" ∷ starts 0 1 ∷ codes "resumed" ∷ starts 1 1 ∷ [] }
 {}
 
 /// Where files are collected as soon as nothing needs them, the third claim changes nothing until

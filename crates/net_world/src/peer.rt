@@ -1,18 +1,16 @@
-//! A peer of a world, as it runs.
+//! A worker of a world, as it runs.
 ghost use Rattle.std.specs.Prelude.{◌≡◌, ◌<◌, ◌||◌, ◌++◌, length, nat_le, position};
-ghost use Rattle.std.specs.Prelude.{slice_get, IfOk, IfSome, IsErrOf, OnOk};
+ghost use Rattle.std.specs.Prelude.{slice_get, true, IfOk, IfSome, OnOk};
 ghost use Rattle.std.specs.List.{list_all};
 ghost use Rattle.worker_core.specs.Workers.{hears, reports};
-ghost use Rattle.net_world.specs.Worlds.{is_job_of, is_least, least_job, new_machine};
-ghost use Rattle.net_world.specs.Worlds.{new_worker, stepped, without_job};
-ghost use Rattle.net_world.specs.Reach.{EndsSo};
-ghost use Rattle.net_world.specs.Runs.{RunsNext};
-ghost use Rattle.flow_types.specs.declared.job.Job.{Job as JobValue};
+ghost use Rattle.net_world.specs.Peers.{is_job_of, is_least, least_job, new_machine};
+ghost use Rattle.net_world.specs.Peers.{new_worker, stepped, without_job};
 ghost use Rattle.std.specs.Option.{option_copied};
 
-use crate::WorldFault;
-use flow_types::{Amounts, AttemptNo, Job, Memory, Message, Outcome, Rows, Start};
-use outside::{Commands, Fault, Runner};
+mod running;
+
+use flow_types::{Amounts, AttemptNo, Memory, Message, Outcome, Rows, Start};
+pub(crate) use running::run_job;
 use std::alloc::Global;
 use std::marker::Model;
 use worker_core::{Acts, WorkerCore};
@@ -28,7 +26,7 @@ pub struct Peer {
 }
 
 impl Model for Peer {
-    ghost use Rattle.net_world.specs.Worlds.{Machine};
+    ghost use Rattle.net_world.specs.Peers.{Machine};
 
     ghost Value = { Machine };
 
@@ -46,6 +44,42 @@ impl Peer {
             jobs: Vec::new(alloc),
             gone: false,
         }
+    }
+
+    // Whether it is gone.
+    pub(crate) fn is_gone(&self) -> bool
+        ensures { result ≡ self.now.gone }
+    {
+        self.gone
+    }
+
+    // What it has, and the bytes that it may keep.
+    pub(crate) fn offer(&self) -> (Amounts, u64)
+        ensures total { result.0 ≡ self.now.worker.total }
+        ensures cache { result.1 ≡ self.now.worker.cache.cap }
+    {
+        match self.core.hello() {
+            Message::Hello {
+                total,
+                largest: _,
+                cache,
+            } => (total, cache),
+            _ => (
+                Amounts {
+                    cores: 0,
+                    memory: 0,
+                    disk: 0,
+                },
+                0,
+            ),
+        }
+    }
+
+    // It is gone from now on.
+    pub(crate) fn leave(&mut self)
+        ensures { self.new ≡ record self.old { gone = true } }
+    {
+        self.gone = true;
     }
 
     /// A message comes; answers what is to be sent. Where there is no memory, some of it may be
@@ -76,29 +110,6 @@ impl Peer {
         }
         let acts = self.core.on_report(attempt, outcome)?;
         self.takes(acts)
-    }
-
-    /// Runs the job of the least attempt, where there is one, and reports how it ended; answers
-    /// what is to be sent.
-    pub fn run<F: Commands, R: Runner<F>>(
-        &mut self,
-        runner: &mut R,
-    ) -> Result<Rows<Message>, WorldFault>
-        ensures ran { IfOk result (λ sent. ((job : JobValue) → R.tells runner.old job)
-            → RunsNext (EndsSo F.gives F.may_fail) self.old (least_job self.old.jobs) sent
-            self.new) }
-        ensures cause { IsErrOf result WorldFault.Runner
-            → R.count runner.old < R.count runner.new }
-    {
-        let Some(start) = next(self.jobs.as_slice()) else {
-            return Ok(Rows::new(self.alloc));
-        };
-        let attempt = start.attempt;
-        let outcome = run_job(self.alloc, &start.job, runner)?;
-        match self.report(attempt, outcome) {
-            Ok(sent) => Ok(sent),
-            Err(_) => Err(WorldFault::Memory),
-        }
     }
 
     // What a step of the worker starts is a job from now on; answers what it sends.
@@ -166,21 +177,4 @@ fn at_place(jobs: &[Start], at: usize) -> Option<&Start>
     ensures { option_copied result ≡ slice_get jobs.now at }
 {
     jobs.get(at)
-}
-
-// Runs a job.
-fn run_job<F: Commands, R: Runner<F>>(
-    alloc: Global,
-    job: &Job,
-    runner: &mut R,
-) -> Result<Outcome, WorldFault>
-    ensures end { IfOk result (λ outcome. R.tells runner.old job.now
-        → EndsSo F.gives F.may_fail job.now outcome) }
-    ensures cause { IsErrOf result WorldFault.Runner → R.count runner.old < R.count runner.new }
-{
-    match runner.run(alloc, job) {
-        Ok(outcome) => Ok(outcome),
-        Err(Fault::Failed) => Err(WorldFault::Runner),
-        Err(Fault::Memory) => Err(WorldFault::Memory),
-    }
 }
