@@ -1,3 +1,4 @@
 pub mod Stops
 pub mod Losses
 pub mod Placed
+mod Reliance

@@ -17,6 +17,7 @@ ghost use Rattle.local_run.specs.Ends.{BeganOver, FitsHere, HasFailed, IsApart, 
 ghost use Rattle.local_run.specs.Ends.{IsFresh, IsRunEnd, IsSureEnd, IsWholeRun, LogsFailures};
 ghost use Rattle.local_run.specs.Ends.{RunDamage, records_due};
 ghost use Rattle.local_run.specs.Runs.{IsClosedRun, IsCutRun, IsHallEnd, LosesNone, ended_by};
+ghost use Rattle.wq_run.specs.Trusted.{IsOf};
 ghost use Rattle.wq_run.specs.Ends.{AreBack, EndsHere, IsSparedRunners, LosesOnLinks, StopsBy};
 
 use desk::{Desk, Terms};
@@ -28,7 +29,7 @@ use std::alloc::Global;
 use std::sync::Wait;
 use std::thread::Threads;
 use worker_pool::Gate;
-use wq_run::Workers;
+use wq_run::{Trust, Workers};
 
 fn ended_by(done: Result<Check, Halt>) -> Result<Check, Stopped>
     ensures { result ≡ ended_by done }
@@ -49,7 +50,7 @@ pub fn work<
     H: Hall<F>,
     R: Runner<F>,
     C: Clock,
-    T: Terms,
+    T: Terms + Trust,
 >(
     rt: &W,
     alloc: Global,
@@ -71,7 +72,10 @@ pub fn work<
     requires base { T.trust → S.tells × T.kept
         × TellsJobs desk.old.plan (AllTell R.tells runners.old)
         (serial desk.old.plan F.gives T.sources) }
-    requires here { T.trust → desk.old.options.wq ≡ false }
+    requires of { IsOf T.trust F.gives T.sources S.tells T.kept T.holds T.plan T.run T.due
+        desk.old.plan (records_of desk.old.moves) }
+    requires told { T.trust → TellsJobs T.plan (AllTell R.tells runners.old) T.due }
+    requires honest { T.trust → desk.old.options.wq ≡ true → H.honest hall.old }
     requires keen { (k : ℕ) → 0 < k → T.keen k → ⊥ }
     ensures goes { (links : List Move) × GoesOn T.trust F.gives F.may_fail T.sources S.tells
         S.files S.may_leave S.moment S.images_since links desk.old desk.new }

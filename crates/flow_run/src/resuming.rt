@@ -91,7 +91,8 @@ pub fn resume<
         → Spells H (S.files site «name») → IsRefusedRun ended.how → ended.records ≡ H) }
     ensures quiet { IfOk result (λ ended. S.tells → IsEarlyRun ended.how
         → (m : List ℕ) → S.files ended.site m ≡ S.files site m) }
-    ensures honest { IfOk result (λ ended. options.wq ≡ false → S.tells → (H : List RecordValue)
+    ensures honest { IfOk result (λ ended. (options.wq ≡ true → H.honest hall.old)
+        → S.tells → (H : List RecordValue)
         → Spells H (S.files site «name»)
         → let sources = read_sources plan (S.files site) in
         IsResumable (SerialFits F.gives sources) plan «name» H (S.may_leave site)
@@ -132,7 +133,8 @@ pub fn resume<
         → KeepsSome Held plan «name» image)
         → (image : Files) → S.images_since ended.site B.born image
         → S.images_since site B.born image ⊎ KeepsSome Held plan «name» image) }
-    ensures contents { IfOk result (λ ended. options.wq ≡ false → S.tells → (H : List RecordValue)
+    ensures contents { IfOk result (λ ended. (options.wq ≡ true → H.honest hall.old)
+        → S.tells → (H : List RecordValue)
         → Spells H (S.files site «name»)
         → let sources = read_sources plan (S.files site) in
         IsResumable (SerialFits F.gives sources) plan «name» H (S.may_leave site)

@@ -30,7 +30,9 @@ ghost use Rattle.local_run.specs.Runs.{IsEarlyRun, IsRefusedRun};
 ghost use Rattle.local_run.specs.Runs.{IsCutRun, IsHallEnd, IsKeeping, IsSparedName, IsStanding};
 ghost use Rattle.local_run.specs.Runs.{LosesNone, SerialFits, read_sources};
 ghost use Rattle.wq_run.specs.Ends.{AreBack, EndsWaiting, IsSparedRunners, LosesOnLinks};
+ghost use Rattle.wq_run.specs.Trusted.{IsOf};
 ghost use Rattle.flow_run.specs.Places.{PlacedBy};
+ghost use Rattle.flow_run.specs.Relied.{IsRelied};
 
 use crate::course::work;
 use desk::{Desk, StartRefused, Terms};
@@ -45,7 +47,7 @@ use std::sync::Wait;
 use std::thread::Threads;
 use txn_log::Log;
 use worker_pool::Gate;
-use wq_run::Workers;
+use wq_run::{Trust, Workers};
 
 /// The run of a desk that was just started.
 fn run_desk<
@@ -56,7 +58,7 @@ fn run_desk<
     H: Hall<F>,
     R: Runner<F>,
     C: Clock,
-    T: Terms,
+    T: Terms + Trust,
 >(
     rt: &W,
     alloc: Global,
@@ -77,7 +79,10 @@ fn run_desk<
     requires idle { length (running_rules desk.plan (records_of desk.moves)) ≤ 0 }
     requires base { T.trust → S.tells × T.kept
         × TellsJobs desk.plan (AllTell R.tells runners.old) (serial desk.plan F.gives T.sources) }
-    requires here { T.trust → desk.options.wq ≡ false }
+    requires of { IsOf T.trust F.gives T.sources S.tells T.kept T.holds T.plan T.run T.due
+        desk.plan (records_of desk.moves) }
+    requires told { T.trust → TellsJobs T.plan (AllTell R.tells runners.old) T.due }
+    requires honest { T.trust → desk.options.wq ≡ true → H.honest hall.old }
     requires keen { (k : ℕ) → 0 < k → T.keen k → ⊥ }
     ensures more { Adds T.trust F.gives F.may_fail T.sources desk.plan (records_of desk.moves)
         result.records }
@@ -159,7 +164,7 @@ fn run_by<
     H: Hall<F>,
     R: Runner<F>,
     C: Clock,
-    T: Terms,
+    T: Terms + Trust,
 >(
     rt: &W,
     alloc: Global,
@@ -188,7 +193,8 @@ fn run_by<
         → (f : ℕ) → is_source plan f ≡ true → S.files site (file_name plan f) ≡ T.sources f }
     requires base { T.trust → S.tells × T.kept
         × TellsJobs plan (AllTell R.tells runners.old) (serial plan F.gives T.sources) }
-    requires here { T.trust → options.wq ≡ false }
+    requires relied { IsRelied T.trust F.gives T.sources T.holds T.plan T.run T.due plan history }
+    requires honest { T.trust → options.wq ≡ true → H.honest hall.old }
     requires keen { (k : ℕ) → 0 < k → T.keen k → ⊥ }
     ensures more { Adds T.trust F.gives F.may_fail T.sources plan history result.records }
     ensures causes { HasCauses (S.count site) (S.count result.site) (sum_by R.count runners.old)
@@ -269,8 +275,8 @@ fn run_by<
 ///
 /// At any moment of the call a crash leaves the records of the log, or these and some that the run
 /// added, each present file with what was logged, and where the commands are functions of their
-/// inputs, what the serial run makes. Where neither the site failed nor memory was wanting, a
-/// refusal leaves the history.
+/// inputs and the links of workers are honest, what the serial run makes. Where neither the site
+/// failed nor memory was wanting, a refusal leaves the history.
 pub fn run<
     W: Threads + Wait + Sync,
     G: Gate,
@@ -324,14 +330,14 @@ pub fn run<
     ensures now { S.tells → IsKeeping plan log.name history (S.may_leave site)
         → (IsCutRun result.how → ⊥) → (image : Files) → IsImage (S.may_leave result.site) image
         → Keeps Held plan log.name result.records image }
-    ensures serial { options.wq ≡ false → S.tells
+    ensures serial { (options.wq ≡ true → H.honest hall.old) → S.tells
         → let sources = read_sources plan (S.files site) in
         IsStanding F.gives sources plan log.name history (S.may_leave site)
         → TellsJobs plan (AllTell R.tells runners.old) (serial plan F.gives sources)
         → (image : Files) → S.images_since result.site B.born image
         → S.images_since site B.born image ⊎ WasKept (SerialFits F.gives sources) plan log.name
         (length history) result.records (IsCutRun result.how) image }
-    ensures more { options.wq ≡ false → S.tells
+    ensures more { (options.wq ≡ true → H.honest hall.old) → S.tells
         → let sources = read_sources plan (S.files site) in
         IsStanding F.gives sources plan log.name history (S.may_leave site)
         → TellsJobs plan (AllTell R.tells runners.old) (serial plan F.gives sources)

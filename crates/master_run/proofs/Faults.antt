@@ -115,7 +115,7 @@ undamaged : (cause : Cause) (at : ℕ) → is_cut (kind_of cause) ≡ true → c
 undamaged cause at cut is = true≢false (sym cut ∙ ap (λ (c : Cause). is_cut (kind_of c)) is)
 
 module _ {S : Type 0} (tells : Type 0) (files : S → Files) (may_leave : S → Outcomes) (moment : S → ℕ) (images_since : S → ℕ → Files → Type 0) (born : ℕ)
-    (gives : Function) (may_fail : Job → Failure → Type 0) (told : Job → Type 0) (sure : Type 0) (before after : Counts) (ask : Ask) (old new : S) (records : List Record) (cause : Cause) where
+    (gives : Function) (may_fail : Job → Failure → Type 0) (told : Job → Type 0) (sure honest_links : Type 0) (before after : Counts) (ask : Ask) (old new : S) (records : List Record) (cause : Cause) where
   -- What is shown of a call that a fault ended.
   pub record Faulted : Type 0 where
     pub cut : is_cut (kind_of cause) ≡ true
@@ -136,7 +136,7 @@ module _ {S : Type 0} (tells : Type 0) (files : S → Files) (may_leave : S → 
     pub places : tells → (H : List Record) → Spells H (files old ask.log) → BeginsWith H records → PlacedBy ask.plan ask.options H records
     pub none_rose : NoneRose before after → is_completion (kind_of cause) ≡ true
 
-  pub fault_serves : Faulted → Serves tells files may_leave moment images_since born gives may_fail told sure before after ask old new records cause
+  pub fault_serves : Faulted → Serves tells files may_leave moment images_since born gives may_fail told sure honest_links before after ask old new records cause
   fault_serves f = record {
     ends = λ t. record {
       damaged = λ at is. absurd (undamaged cause at f.cut is);
@@ -157,8 +157,8 @@ module _ {S : Type 0} (tells : Type 0) (files : S → Files) (may_leave : S → 
     now = λ t H spelled resumable whole. absurd (whole f.cut);
     untouched = λ t refused. absurd (true≢false (sym refused ∙ (fault_kind (kind_of cause) f.cut).no_refusal));
     others = f.others;
-    contents = λ t H spelled alone. f.contents t H spelled;
-    honest = λ t H spelled alone. f.honest t H spelled;
+    contents = λ t H spelled met. f.contents t H spelled;
+    honest = λ t H spelled met. f.honest t H spelled;
     sure_end = λ alone is_sure. (fault_kind (kind_of cause) f.cut).sure;
     never = λ is_sure. (fault_kind (kind_of cause) f.cut).runs;
     completes = λ t H spelled alone work resumable free there fit room is_sure jobs none. fault_completes ask.options.limit cause (f.none_rose none);

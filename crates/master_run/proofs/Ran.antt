@@ -523,7 +523,7 @@ failed_run s r h P f0 f1 (Err (stopped.Halted halts.Memory)) failed = record { l
 failed_run s r h P f0 f1 (Err stopped.Hall) failed = record { later = failed; rose = λ wrong. absurd (cc) }
 
 module _ {S : Type 0} (tells : Type 0) (files : S → Files) (may_leave : S → Outcomes) (moment : S → ℕ) (images_since : S → ℕ → Files → Type 0) (count : S → ℕ) (born : ℕ)
-    (gives : Function) (may_fail : Job → Failure → Type 0) (told : Job → Type 0) (sure : Type 0) (b a : Counts) (r : Rise) (ask : Ask) (old new : S) (records : List Record) (how : Result Check Stopped) where
+    (gives : Function) (may_fail : Job → Failure → Type 0) (told : Job → Type 0) (sure honest_links : Type 0) (b a : Counts) (r : Rise) (ask : Ask) (old new : S) (records : List Record) (how : Result Check Stopped) where
   -- What is known of a run.
   pub record Ran : Type 0 where
     pub work : ask.work ≡ works.Run
@@ -551,11 +551,11 @@ module _ {S : Type 0} (tells : Type 0) (files : S → Files) (may_leave : S → 
         → (image : Files) → images_since new born image → images_since old born image ⊎ IsMoment Held ask.plan ask.log (files old) (may_leave old) H records (IsCutRun how) image
     pub resumable : tells → (H : List Record) → Spells H (files old ask.log) → ((image : Files) → IsImage (may_leave old) image → KeepsSome Held ask.plan ask.log image)
         → (image : Files) → images_since new born image → images_since old born image ⊎ KeepsSome Held ask.plan ask.log image
-    pub contents : ask.options.wq ≡ false → tells → (H : List Record) → Spells H (files old ask.log)
+    pub contents : (ask.options.wq ≡ true → honest_links) → tells → (H : List Record) → Spells H (files old ask.log)
         → IsResumable (SerialFits gives (read_sources ask.plan (files old))) ask.plan ask.log H (may_leave old)
         → TellsJobs ask.plan told (serial ask.plan gives (read_sources ask.plan (files old)))
         → (image : Files) → images_since new born image → images_since old born image ⊎ IsMoment (SerialFits gives (read_sources ask.plan (files old))) ask.plan ask.log (files old) (may_leave old) H records (IsCutRun how) image
-    pub honest : ask.options.wq ≡ false → tells → (H : List Record) → Spells H (files old ask.log)
+    pub honest : (ask.options.wq ≡ true → honest_links) → tells → (H : List Record) → Spells H (files old ask.log)
         → IsResumable (SerialFits gives (read_sources ask.plan (files old))) ask.plan ask.log H (may_leave old)
         → TellsJobs ask.plan told (serial ask.plan gives (read_sources ask.plan (files old)))
         → Adds (Unit {0}) gives may_fail (read_sources ask.plan (files old)) ask.plan H records
@@ -578,7 +578,7 @@ module _ {S : Type 0} (tells : Type 0) (files : S → Files) (may_leave : S → 
       by_how (Err why) lost = tt
 
   -- what the call does
-  pub ran_serves : Ran → Serves tells files may_leave moment images_since born gives may_fail told sure b a ask old new records (run_cause (site_rise b a) r (hall_rise b a) ask.plan how)
+  pub ran_serves : Ran → Serves tells files may_leave moment images_since born gives may_fail told sure honest_links b a ask old new records (run_cause (site_rise b a) r (hall_rise b a) ask.plan how)
   ran_serves k = record {
     ends = λ t. record {
       damaged = λ at is. absurd (true≢false (ap tells_damage (sym is) ∙ run_whole (site_rise b a) r (hall_rise b a) ask.plan how));
@@ -605,12 +605,12 @@ module _ {S : Type 0} (tells : Type 0) (files : S → Files) (may_leave : S → 
     now = λ t H spelled resumable whole. k.at_end t H spelled resumable (λ cut. whole (cut_run (site_rise b a) r (hall_rise b a) ask.plan how cut));
     untouched = λ t refused. λ i m. k.quiet t (early_run (site_rise b a) r (hall_rise b a) ask.plan how refused) m i;
     others = k.others;
-    contents = λ t H spelled alone jobs resumable image left.
+    contents = λ t H spelled met jobs resumable image left.
         ⊎_elim (λ was. inl was)
         (λ (m : IsMoment (SerialFits gives (read_sources ask.plan (files old))) ask.plan ask.log (files old) (may_leave old) H records (IsCutRun how) image).
         inr (moment_after (SerialFits gives (read_sources ask.plan (files old))) ask.plan ask.log (files old) (may_leave old) H records (IsCutRun how) (IsCut (run_cause (site_rise b a) r (hall_rise b a) ask.plan how)) image (cut_run (site_rise b a) r (hall_rise b a) ask.plan how) m))
-        (k.contents alone t H spelled resumable jobs image left);
-    honest = λ t H spelled alone resumable jobs begins. k.honest alone t H spelled resumable jobs;
+        (k.contents met t H spelled resumable jobs image left);
+    honest = λ t H spelled met resumable jobs begins. k.honest met t H spelled resumable jobs;
     modes = λ t H spelled begins. k.modes t H spelled;
     places = λ t H spelled begins. k.places t H spelled;
     gone = λ t H spelled whole. k.gone t (λ cut. whole (cut_run (site_rise b a) r (hall_rise b a) ask.plan how cut)) H spelled;

@@ -46,7 +46,7 @@ pub record WasLooked {S : Type 0} (files : S → Files) (may_leave : S → Outco
   pub only : LeavesOnly moment images_since old new (IsImage (may_leave old))
 
 module _ {S : Type 0} (tells : Type 0) (files : S → Files) (may_leave : S → Outcomes) (moment : S → ℕ) (images_since : S → ℕ → Files → Type 0) (born : ℕ)
-    (gives : Function) (may_fail : Job → Failure → Type 0) (told : Job → Type 0) (sure : Type 0) (before after : Counts) (ask : Ask) (old mid new : S) (records : List Record) (cause : Cause)
+    (gives : Function) (may_fail : Job → Failure → Type 0) (told : Job → Type 0) (sure honest_links : Type 0) (before after : Counts) (ask : Ask) (old mid new : S) (records : List Record) (cause : Cause)
     (later : tells → born ≤ moment old) (looked : tells → WasLooked files may_leave moment images_since old mid) where
   all_from : (fits : Fit) (H : List Record) → tells → AllMoments files may_leave images_since fits born ask H mid new records cause → AllMoments files may_leave images_since fits born ask H old new records cause
   all_from fits H t all resumable image left =
@@ -60,8 +60,8 @@ module _ {S : Type 0} (tells : Type 0) (files : S → Files) (may_leave : S → 
       (all (resumable_from fits ask.plan ask.log H (may_leave old) (may_leave mid) (looked t).within resumable) image left)
 
   -- from the entry on
-  pub serves_from : Serves tells files may_leave moment images_since born gives may_fail told sure before after ask mid new records cause
-      → Serves tells files may_leave moment images_since born gives may_fail told sure before after ask old new records cause
+  pub serves_from : Serves tells files may_leave moment images_since born gives may_fail told sure honest_links before after ask mid new records cause
+      → Serves tells files may_leave moment images_since born gives may_fail told sure honest_links before after ask old new records cause
   serves_from s = record {
     ends = λ t. subst (λ (fs : Files). LogEnds ask (idle_rise before after) fs (files new) records cause) (looked t).same (s.ends t);
     late = s.late;
@@ -86,12 +86,12 @@ module _ {S : Type 0} (tells : Type 0) (files : S → Files) (may_leave : S → 
           now = λ m file beside left. (looked t).within m file left;
           any_moment = weakened moment images_since old mid (IsImage (may_leave old)) (λ image. (m : List ℕ) → IsUnmade ask.plan ask.log m → may_leave old m (image m)) (looked t).only (λ image is m beside. is m);
         }) (s.others t);
-    contents = λ t H spelled alone jobs. all_from (SerialFits gives (read_sources ask.plan (files old))) H t
+    contents = λ t H spelled met jobs. all_from (SerialFits gives (read_sources ask.plan (files old))) H t
         (subst (λ (fs : Files). AllMoments files may_leave images_since (SerialFits gives (read_sources ask.plan fs)) born ask H mid new records cause) (looked t).same
-        (s.contents t H (at_mid t H spelled) alone (subst (λ (fs : Files). TellsJobs ask.plan told (serial ask.plan gives (read_sources ask.plan fs))) (sym (looked t).same) jobs)));
-    honest = λ t H spelled alone resumable jobs begins.
+        (s.contents t H (at_mid t H spelled) met (subst (λ (fs : Files). TellsJobs ask.plan told (serial ask.plan gives (read_sources ask.plan fs))) (sym (looked t).same) jobs)));
+    honest = λ t H spelled met resumable jobs begins.
         subst (λ (fs : Files). Adds (Unit {0}) gives may_fail (read_sources ask.plan fs) ask.plan H records) (looked t).same
-        (s.honest t H (at_mid t H spelled) alone
+        (s.honest t H (at_mid t H spelled) met
         (subst (λ (fs : Files). IsResumable (SerialFits gives (read_sources ask.plan fs)) ask.plan ask.log H (may_leave mid)) (sym (looked t).same)
         (resumable_from (SerialFits gives (read_sources ask.plan (files old))) ask.plan ask.log H (may_leave old) (may_leave mid) (looked t).within resumable))
         (subst (λ (fs : Files). TellsJobs ask.plan told (serial ask.plan gives (read_sources ask.plan fs))) (sym (looked t).same) jobs) begins);

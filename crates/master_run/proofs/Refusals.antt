@@ -121,20 +121,20 @@ late_words (Ok options) (causes.FlowRefused flow fault) ok late = absurd (true�
 late_words (Ok options) _ ok late = refl
 
 module _ {S : Type 0} (tells : Type 0) (files : S → Files) (may_leave : S → Outcomes) (moment : S → ℕ) (images_since : S → ℕ → Files → Type 0) (born : ℕ)
-    (gives : Function) (may_fail : Job → Failure → Type 0) (told : Job → Type 0) (sure : Type 0) (b a : Counts) (ask : Ask) (old new : S)
+    (gives : Function) (may_fail : Job → Failure → Type 0) (told : Job → Type 0) (sure honest_links : Type 0) (b a : Counts) (ask : Ask) (old new : S)
     (later : tells → born ≤ moment old) (looked : tells → WasLooked files may_leave moment images_since old new) where
   pub by_fault : (cause : Cause) → is_cut (kind_of cause) ≡ true → may_replace (kind_of cause) ≡ true → was_read (kind_of cause) ≡ false → FaultEnd b a cause → (NoneRose b a → is_completion (kind_of cause) ≡ true)
-      → Serves tells files may_leave moment images_since born gives may_fail told sure b a ask old new [] cause
+      → Serves tells files may_leave moment images_since born gives may_fail told sure honest_links b a ask old new [] cause
   by_fault cause cut replaces unread fault completes =
-      fault_serves tells files may_leave moment images_since born gives may_fail told sure b a ask old new [] cause (record {
+      fault_serves tells files may_leave moment images_since born gives may_fail told sure honest_links b a ask old new [] cause (record {
         cut = cut;
         faults = fault;
         has_log = λ t H spelled. inr (refl, replaces);
         logged = λ t H spelled. inr (inr refl, unread);
-        moments = λ t H spelled. before_all tells files may_leave moment images_since born gives may_fail told sure b a ask old new [] cause Held H (later t) (only t);
+        moments = λ t H spelled. before_all tells files may_leave moment images_since born gives may_fail told sure honest_links b a ask old new [] cause Held H (later t) (only t);
         resumable = λ t some image left. ⊎_elim (λ was. inl was) (λ (is : IsImage (may_leave old) image). inr (some image is)) ((looked t).only.before born image (later t) left);
-        others = λ t. before_beside tells files may_leave moment images_since born gives may_fail told sure b a ask old new [] cause (only t) (λ m file other left. (looked t).within m file left);
-        contents = λ t H spelled jobs. before_all tells files may_leave moment images_since born gives may_fail told sure b a ask old new [] cause (SerialFits gives (read_sources ask.plan (files old))) H (later t) (only t);
+        others = λ t. before_beside tells files may_leave moment images_since born gives may_fail told sure honest_links b a ask old new [] cause (only t) (λ m file other left. (looked t).within m file left);
+        contents = λ t H spelled jobs. before_all tells files may_leave moment images_since born gives may_fail told sure honest_links b a ask old new [] cause (SerialFits gives (read_sources ask.plan (files old))) H (later t) (only t);
         honest = λ t H spelled resumable jobs begins. adds_none gives may_fail ask.plan (files old) H begins;
         modes = λ t H spelled begins. unread_collects ask.plan ask.options.mode H begins;
         places = λ t H spelled begins. unread_placed ask.plan ask.options H begins;
@@ -146,7 +146,7 @@ module _ {S : Type 0} (tells : Type 0) (files : S → Files) (may_leave : S → 
 
   -- what the call does, whatever was asked
   pub refused_serves : (refusal : Refusal) (asked : Result Ask Cause) → Stage {T = Ask} asked (Err refusal) → asked ≡ Ok ask → (refusal ≡ refusals.Site → b.site < a.site)
-      → Serves tells files may_leave moment images_since born gives may_fail told sure b a ask old new [] (refusal_cause (site_rise b a) refusal)
+      → Serves tells files may_leave moment images_since born gives may_fail told sure honest_links b a ask old new [] (refusal_cause (site_rise b a) refusal)
   refused_serves (refusals.Said cause) asked stage is rose = no_ask cause ask (sym stage ∙ is)
   refused_serves refusals.Site asked stage is rose =
       by_fault (causes.SiteFault b.site a.site) refl refl refl (refl, refl, rose refl) (λ none. absurd (let wrong : ⊥ = omega (arith, rose refl, none.site) in wrong))

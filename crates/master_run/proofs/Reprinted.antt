@@ -237,13 +237,13 @@ legal_after : (P : Plan) (H all : List Record) (kind now : Kind) → (was_read k
 legal_after P H all kind now unread legal = ⊎_elim (λ is. inl is) (λ (other : ((all ≡ H) ⊎ (all ≡ [])) × (was_read kind ≡ false)). inr (other.0, unread other.1)) legal
 
 module _ {S : Type 0} (tells : Type 0) (files : S → Files) (may_leave : S → Outcomes) (moment : S → ℕ) (images_since : S → ℕ → Files → Type 0) (born : ℕ)
-    (gives : Function) (may_fail : Job → Failure → Type 0) (told : Job → Type 0) (sure : Type 0) (sb : ℕ) (rb : List ℕ) (hb ib b sa : ℕ) (ra : List ℕ) (ha ia a : ℕ) (ask : Ask) (old new : S) (records : List Record) where
+    (gives : Function) (may_fail : Job → Failure → Type 0) (told : Job → Type 0) (sure honest_links : Type 0) (sb : ℕ) (rb : List ℕ) (hb ib b sa : ℕ) (ra : List ℕ) (ha ia a : ℕ) (ask : Ask) (old new : S) (records : List Record) where
   -- what holds once the text was printed
   pub printed_serves : (cause now : Cause) → Stands b a cause now
-      → Serves tells files may_leave moment images_since born gives may_fail told sure (counts sb rb hb ib 0) (counts sa ra ha ia 0) ask old new records cause
-      → Serves tells files may_leave moment images_since born gives may_fail told sure (counts sb rb hb ib b) (counts sa ra ha ia a) ask old new records now
+      → Serves tells files may_leave moment images_since born gives may_fail told sure honest_links (counts sb rb hb ib 0) (counts sa ra ha ia 0) ask old new records cause
+      → Serves tells files may_leave moment images_since born gives may_fail told sure honest_links (counts sb rb hb ib b) (counts sa ra ha ia a) ask old new records now
   printed_serves cause now stood s =
-      of_each (λ (c : Cause). Serves tells files may_leave moment images_since born gives may_fail told sure (counts sb rb hb ib b) (counts sa ra ha ia a) ask old new records c) b a cause now stood
+      of_each (λ (c : Cause). Serves tells files may_leave moment images_since born gives may_fail told sure honest_links (counts sb rb hb ib b) (counts sa ra ha ia a) ask old new records c) b a cause now stood
       (record {
         ends = s.ends;
         late = s.late;
@@ -287,7 +287,7 @@ module _ {S : Type 0} (tells : Type 0) (files : S → Files) (may_leave : S → 
         now = λ t H spelled resumable whole. s.now t H spelled resumable (end_whole (kind_of cause) is);
         untouched = λ t wrong. absurd (true≢false (sym wrong));
         others = s.others;
-        contents = λ t H spelled alone jobs. all_after files may_leave images_since born ask old new records (SerialFits gives (read_sources ask.plan (files old))) H cause (causes.SinkFault b a) (λ cut. absurd (end_whole (kind_of cause) is cut)) (s.contents t H spelled alone jobs);
+        contents = λ t H spelled met jobs. all_after files may_leave images_since born ask old new records (SerialFits gives (read_sources ask.plan (files old))) H cause (causes.SinkFault b a) (λ cut. absurd (end_whole (kind_of cause) is cut)) (s.contents t H spelled met jobs);
         honest = s.honest;
         modes = s.modes;
         places = s.places;
@@ -313,7 +313,7 @@ module _ {S : Type 0} (tells : Type 0) (files : S → Files) (may_leave : S → 
         now = λ t H spelled resumable whole. absurd (whole refl);
         untouched = λ t wrong. absurd (true≢false (sym wrong));
         others = s.others;
-        contents = λ t H spelled alone jobs. all_after files may_leave images_since born ask old new records (SerialFits gives (read_sources ask.plan (files old))) H cause causes.Memory (λ cut. refl) (s.contents t H spelled alone jobs);
+        contents = λ t H spelled met jobs. all_after files may_leave images_since born ask old new records (SerialFits gives (read_sources ask.plan (files old))) H cause causes.Memory (λ cut. refl) (s.contents t H spelled met jobs);
         honest = s.honest;
         modes = s.modes;
         places = s.places;

@@ -60,7 +60,7 @@ at_of x y is = ap at is
     at _ = 0
 
 module _ {S : Type 0} (tells : Type 0) (files : S → Files) (may_leave : S → Outcomes) (moment : S → ℕ) (images_since : S → ℕ → Files → Type 0) (born : ℕ)
-    (gives : Function) (may_fail : Job → Failure → Type 0) (told : Job → Type 0) (sure : Type 0) (b a : Counts) (ask : Ask) (old new : S)
+    (gives : Function) (may_fail : Job → Failure → Type 0) (told : Job → Type 0) (sure honest_links : Type 0) (b a : Counts) (ask : Ask) (old new : S)
     (later : tells → born ≤ moment old) (only : tells → LeavesOnly moment images_since old new (IsBefore ask.log (files old ask.log) (may_leave old)))
     (crash : tells → (m : List ℕ) (file : Option (List ℕ)) → m ≢ ask.log → may_leave new m file → may_leave old m file) where
   goes_on : tells → ((image : Files) → IsImage (may_leave old) image → KeepsSome Held ask.plan ask.log image) → (image : Files) → images_since new born image
@@ -71,17 +71,17 @@ module _ {S : Type 0} (tells : Type 0) (files : S → Files) (may_leave : S → 
       ((only t).before born image (later t) left)
 
   cut_serves : (cause : Cause) → is_cut (kind_of cause) ≡ true → may_replace (kind_of cause) ≡ true → was_read (kind_of cause) ≡ false → FaultEnd b a cause → (NoneRose b a → is_completion (kind_of cause) ≡ true)
-      → Serves tells files may_leave moment images_since born gives may_fail told sure b a ask old new [] cause
+      → Serves tells files may_leave moment images_since born gives may_fail told sure honest_links b a ask old new [] cause
   cut_serves cause cut replaces unread fault completes =
-      fault_serves tells files may_leave moment images_since born gives may_fail told sure b a ask old new [] cause (record {
+      fault_serves tells files may_leave moment images_since born gives may_fail told sure honest_links b a ask old new [] cause (record {
         cut = cut;
         faults = fault;
         has_log = λ t H spelled. inr (refl, replaces);
         logged = λ t H spelled. inr (inr refl, unread);
-        moments = λ t H spelled. before_all tells files may_leave moment images_since born gives may_fail told sure b a ask old new [] cause Held H (later t) (only t);
+        moments = λ t H spelled. before_all tells files may_leave moment images_since born gives may_fail told sure honest_links b a ask old new [] cause Held H (later t) (only t);
         resumable = goes_on;
-        others = λ t. before_beside tells files may_leave moment images_since born gives may_fail told sure b a ask old new [] cause (only t) (crash t);
-        contents = λ t H spelled jobs. before_all tells files may_leave moment images_since born gives may_fail told sure b a ask old new [] cause (SerialFits gives (read_sources ask.plan (files old))) H (later t) (only t);
+        others = λ t. before_beside tells files may_leave moment images_since born gives may_fail told sure honest_links b a ask old new [] cause (only t) (crash t);
+        contents = λ t H spelled jobs. before_all tells files may_leave moment images_since born gives may_fail told sure honest_links b a ask old new [] cause (SerialFits gives (read_sources ask.plan (files old))) H (later t) (only t);
         honest = λ t H spelled resumable jobs begins. adds_none gives may_fail ask.plan (files old) H begins;
         modes = λ t H spelled begins. unread_collects ask.plan ask.options.mode H begins;
         places = λ t H spelled begins. unread_placed ask.plan ask.options H begins;
@@ -89,7 +89,7 @@ module _ {S : Type 0} (tells : Type 0) (files : S → Files) (may_leave : S → 
       })
 
   damaged_serves : (at : ℕ) → (tells → IsDamagedAt (files old ask.log) at) → (tells → (H : List Record) → Spells H (files old ask.log) → ⊥) → (tells → (m : List ℕ) → files new m ≡ files old m)
-      → Serves tells files may_leave moment images_since born gives may_fail told sure b a ask old new [] (causes.LogDamaged at)
+      → Serves tells files may_leave moment images_since born gives may_fail told sure honest_links b a ask old new [] (causes.LogDamaged at)
   damaged_serves at is none same = record {
     ends = λ t. record {
       damaged = λ place told_at. subst (IsDamagedAt (files old ask.log)) (at_of at place told_at) (is t);
@@ -109,9 +109,9 @@ module _ {S : Type 0} (tells : Type 0) (files : S → Files) (may_leave : S → 
     resumable = goes_on;
     now = λ t H spelled. absurd (none t H spelled);
     untouched = λ t refused. λ i m. same t m i;
-    others = λ t. before_beside tells files may_leave moment images_since born gives may_fail told sure b a ask old new [] (causes.LogDamaged at) (only t) (crash t);
-    contents = λ t H spelled alone jobs. absurd (none t H spelled);
-    honest = λ t H spelled alone resumable jobs begins. absurd (none t H spelled);
+    others = λ t. before_beside tells files may_leave moment images_since born gives may_fail told sure honest_links b a ask old new [] (causes.LogDamaged at) (only t) (crash t);
+    contents = λ t H spelled met jobs. absurd (none t H spelled);
+    honest = λ t H spelled met resumable jobs begins. absurd (none t H spelled);
     sure_end = λ alone is_sure. refl;
     never = λ is_sure. refl;
     completes = λ t H spelled. absurd (none t H spelled);
@@ -124,7 +124,7 @@ module _ {S : Type 0} (tells : Type 0) (files : S → Files) (may_leave : S → 
   -- what the call does
   pub unread_serves : (header : HasAHeader) (whole : IsWhole) (why : RecoverFault) → (why ≡ recovery.Site → b.site < a.site) → (tells → IsUnread (files old ask.log) why)
       → (tells → IsDamageFault why → (m : List ℕ) → files new m ≡ files old m)
-      → Serves tells files may_leave moment images_since born gives may_fail told sure b a ask old new [] (unread_cause (site_rise b a) why)
+      → Serves tells files may_leave moment images_since born gives may_fail told sure honest_links b a ask old new [] (unread_cause (site_rise b a) why)
   unread_serves header whole recovery.Site rose is same =
       cut_serves (causes.SiteFault b.site a.site) refl refl refl (refl, refl, rose refl) (λ none. absurd (let wrong : ⊥ = omega (arith, rose refl, none.site) in wrong))
   unread_serves header whole recovery.BadHeader rose is same =

@@ -57,11 +57,11 @@ pub logged_of_all : (H all : List Record) (some0 some1 rest all0 all1 : ℕ) →
 logged_of_all H all some0 some1 rest all0 all1 was is logs = omega (arith, was, is, logs)
 
 module _ {S : Type 0} (tells : Type 0) (files : S → Files) (may_leave : S → Outcomes) (moment : S → ℕ) (images_since : S → ℕ → Files → Type 0) (born : ℕ)
-    (gives : Function) (may_fail : Job → Failure → Type 0) (told wide_told : Job → Type 0) (sure wide_sure : Type 0) (b a wb wa : Counts) (ask : Ask) (old new : S) (records : List Record) (cause : Cause) where
-  pub widened : ((job : Job) → wide_told job → told job) → (wide_sure → sure) → (FaultEnd b a cause → FaultEnd wb wa cause) → (NoneRose wb wa → NoneRose b a) → idle_rise b a ≡ idle_rise wb wa
-      → Serves tells files may_leave moment images_since born gives may_fail told sure b a ask old new records cause
-      → Serves tells files may_leave moment images_since born gives may_fail wide_told wide_sure wb wa ask old new records cause
-  widened each is fault none same s = record {
+    (gives : Function) (may_fail : Job → Failure → Type 0) (told wide_told : Job → Type 0) (sure wide_sure links wide_links : Type 0) (b a wb wa : Counts) (ask : Ask) (old new : S) (records : List Record) (cause : Cause) where
+  pub widened : ((job : Job) → wide_told job → told job) → (wide_sure → sure) → (wide_links → links) → (FaultEnd b a cause → FaultEnd wb wa cause) → (NoneRose wb wa → NoneRose b a) → idle_rise b a ≡ idle_rise wb wa
+      → Serves tells files may_leave moment images_since born gives may_fail told sure links b a ask old new records cause
+      → Serves tells files may_leave moment images_since born gives may_fail wide_told wide_sure wide_links wb wa ask old new records cause
+  widened each is links_are fault none same s = record {
     ends = λ t. subst (λ (n : ℕ). LogEnds ask n (files old) (files new) records cause) same (s.ends t);
     late = s.late;
     faults = fault s.faults;
@@ -77,8 +77,8 @@ module _ {S : Type 0} (tells : Type 0) (files : S → Files) (may_leave : S → 
     now = s.now;
     untouched = s.untouched;
     others = s.others;
-    contents = λ t H spelled alone jobs. s.contents t H spelled alone (fewer jobs);
-    honest = λ t H spelled alone resumable jobs. s.honest t H spelled alone resumable (fewer jobs);
+    contents = λ t H spelled met jobs. s.contents t H spelled (λ wq. links_are (met wq)) (fewer jobs);
+    honest = λ t H spelled met resumable jobs. s.honest t H spelled (λ wq. links_are (met wq)) resumable (fewer jobs);
     modes = s.modes;
     places = s.places;
     gone = s.gone;

@@ -31,7 +31,7 @@ use Rattle.master_run.proofs.Cared.{adds_nothing, collects_nothing, drops_nothin
 use Rattle.master_run.proofs.Faults.{adds_none, unread_collects, unread_placed}
 
 module _ {S : Type 0} (tells : Type 0) (files : S → Files) (may_leave : S → Outcomes) (moment : S → ℕ) (images_since : S → ℕ → Files → Type 0) (born : ℕ)
-    (gives : Function) (may_fail : Job → Failure → Type 0) (told : Job → Type 0) (sure : Type 0) (before after : Counts) (ask : Ask) (old new : S) (records : List Record) (cause : Cause) (time : ℕ) (cut : Type 0) where
+    (gives : Function) (may_fail : Job → Failure → Type 0) (told : Job → Type 0) (sure honest_links : Type 0) (before after : Counts) (ask : Ask) (old new : S) (records : List Record) (cause : Cause) (time : ℕ) (cut : Type 0) where
   -- What is known of work that runs nothing.
   pub record Cared : Type 0 where
     pub work : ask.work ≡ Run → ⊥
@@ -76,7 +76,7 @@ module _ {S : Type 0} (tells : Type 0) (files : S → Files) (may_leave : S → 
       inr (moment_after fits ask.plan ask.log (files old) (may_leave old) H records cut (IsCut cause) image c.cuts m))
       ((only resumable).before born image (c.later t) left)
 
-  pub cared_serves : Cared → Serves tells files may_leave moment images_since born gives may_fail told sure before after ask old new records cause
+  pub cared_serves : Cared → Serves tells files may_leave moment images_since born gives may_fail told sure honest_links before after ask old new records cause
   cared_serves c = record {
     ends = λ t. record { damaged = c.damaged t; read = c.read t; whole = c.goes t };
     late = c.late;
@@ -93,8 +93,8 @@ module _ {S : Type 0} (tells : Type 0) (files : S → Files) (may_leave : S → 
     now = λ t H spelled resumable whole. c.at_end t H spelled resumable whole;
     untouched = λ t refused. λ i m. c.untouched t refused m i;
     others = c.others;
-    contents = λ t H spelled alone jobs. all_by (SerialFits gives (read_sources ask.plan (files old))) H c t (c.contents t H spelled);
-    honest = λ t H spelled alone resumable jobs begins.
+    contents = λ t H spelled met jobs. all_by (SerialFits gives (read_sources ask.plan (files old))) H c t (c.contents t H spelled);
+    honest = λ t H spelled met resumable jobs begins.
         ⊎_elim (λ (either : AreEither H time records). adds_nothing gives may_fail (read_sources ask.plan (files old)) ask.plan H records time either)
         (λ (none : records ≡ []). subst (λ (xs : List Record). Adds (Unit {0}) gives may_fail (read_sources ask.plan (files old)) ask.plan H xs) (sym none)
         (adds_none gives may_fail ask.plan (files old) H (subst (BeginsWith H) none begins))) (c.begun t H spelled begins);

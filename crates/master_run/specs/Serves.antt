@@ -1,5 +1,5 @@
 -- What a call does of which a plan and some work were asked.
-use Rattle.std.specs.Prelude.{◌≡◌, ◌⊎◌, ℕ, false, List, Option, Some, None, IsTrue, IsFalse}
+use Rattle.std.specs.Prelude.{◌≡◌, ◌⊎◌, ℕ, false, true, List, Option, Some, None, IsTrue, IsFalse}
 use Rattle.flow_types.specs.declared.plan.Plan.{Plan}
 use Rattle.flow_types.specs.declared.numbers.Content.{Content}
 use Rattle.flow_types.specs.declared.job.Job.{Job}
@@ -73,7 +73,7 @@ CanComplete gives told sure ask files outcomes H before after cause =
 
 -- What a call does of which this is asked, from the site that it finds to the one that it leaves.
 pub record Serves {S : Type 0} (tells : Type 0) (files : S → Files) (may_leave : S → Outcomes) (moment : S → ℕ) (images_since : S → ℕ → Files → Type 0) (born : ℕ)
-    (gives : Function) (may_fail : Job → Failure → Type 0) (told : Job → Type 0) (sure : Type 0) (before after : Counts) (ask : Ask) (old new : S) (records : List Record) (cause : Cause) : Type 0 where
+    (gives : Function) (may_fail : Job → Failure → Type 0) (told : Job → Type 0) (sure honest_links : Type 0) (before after : Counts) (ask : Ask) (old new : S) (records : List Record) (cause : Cause) : Type 0 where
   pub ends : tells → LogEnds ask (idle_rise before after) (files old) (files new) records cause
   pub late : IsFalse (is_early (kind_of cause))
   pub faults : FaultEnd before after cause
@@ -89,10 +89,10 @@ pub record Serves {S : Type 0} (tells : Type 0) (files : S → Files) (may_leave
   pub now : tells → (H : List Record) → Spells H (files old ask.log) → KeepsAtEnd may_leave ask H old new records cause
   pub untouched : tells → IsTrue (is_refusal (kind_of cause)) → files new ≡ files old
   pub others : tells → StaysBeside may_leave moment images_since (IsUnmade ask.plan ask.log) old new
-  pub contents : tells → (H : List Record) → Spells H (files old ask.log) → ask.options.wq ≡ false
+  pub contents : tells → (H : List Record) → Spells H (files old ask.log) → (ask.options.wq ≡ true → honest_links)
       → TellsJobs ask.plan told (serial ask.plan gives (read_sources ask.plan (files old)))
       → AllMoments files may_leave images_since (SerialFits gives (read_sources ask.plan (files old))) born ask H old new records cause
-  pub honest : tells → (H : List Record) → Spells H (files old ask.log) → ask.options.wq ≡ false
+  pub honest : tells → (H : List Record) → Spells H (files old ask.log) → (ask.options.wq ≡ true → honest_links)
       → IsResumable (SerialFits gives (read_sources ask.plan (files old))) ask.plan ask.log H (may_leave old)
       → TellsJobs ask.plan told (serial ask.plan gives (read_sources ask.plan (files old)))
       → BeginsWith H records → Adds (Unit {0}) gives may_fail (read_sources ask.plan (files old)) ask.plan H records

@@ -39,7 +39,7 @@ pub fn clean_flow<F: Commands, S: Site, B: Born>(
     requires work { ask.work ≡ Clean }
     requires counted { before ≤ S.count site }
     ensures serves { Serves S.tells S.files S.may_leave S.moment S.images_since B.born
-        F.gives F.may_fail (λ job. Unit {0}) (Unit {0})
+        F.gives F.may_fail (λ job. Unit {0}) (Unit {0}) (Unit {0})
         (counts before [] 0 0 0) (counts (S.count result.site) [] 0 0 0)
         ask site result.site result.records result.cause }
     ensures fails_none { S.tells → (H : List RecordValue) → Spells H (S.files site ask.log)
@@ -83,7 +83,7 @@ pub fn read_log<F: Commands, S: Site, B: Born>(
     requires work { ask.work ≡ PrintLog }
     requires counted { before ≤ S.count site }
     ensures serves { Serves S.tells S.files S.may_leave S.moment S.images_since B.born
-        F.gives F.may_fail (λ job. Unit {0}) (Unit {0})
+        F.gives F.may_fail (λ job. Unit {0}) (Unit {0}) (Unit {0})
         (counts before [] 0 0 0) (counts (S.count result.site) [] 0 0 0)
         ask site result.site result.records result.cause }
     ensures fails_none { S.tells → (H : List RecordValue) → Spells H (S.files site ask.log)

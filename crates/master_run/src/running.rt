@@ -75,6 +75,7 @@ fn run_by_all<
     requires counted { before ≤ S.count site }
     ensures serves { Serves S.tells S.files S.may_leave S.moment S.images_since B.born
         F.gives F.may_fail (AllTell R.tells runners.old) (AllSure R.sure runners.old)
+        (H.honest hall.old)
         (counts before (map R.count runners.old) (H.count hall.old) (H.idle_count hall.old) 0)
         (counts (S.count result.site) (map R.count runners.new) (H.count hall.new)
         (H.idle_count hall.new) 0)
@@ -176,6 +177,7 @@ pub fn run_flow<
     requires counted { before ≤ S.count site }
     ensures serves { Serves S.tells S.files S.may_leave S.moment S.images_since B.born
         F.gives F.may_fail (AllTell R.tells runners.old) (AllSure R.sure runners.old)
+        (H.honest hall.old)
         (counts before (map R.count runners.old) (H.count hall.old) (H.idle_count hall.old) 0)
         (counts (S.count result.site) (map R.count runners.new) (H.count hall.new)
         (H.idle_count hall.new) 0)

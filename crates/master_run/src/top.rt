@@ -1,6 +1,6 @@
 //! The top call.
 ghost use Rattle.std.specs.Prelude.{◌≡◌, ◌≢◌, ◌≤◌, ◌<◌, ◌-◌, ℕ, List, [], Ok, IsTrue, IsFalse};
-ghost use Rattle.std.specs.Prelude.{drop, false, length, map, sum_by};
+ghost use Rattle.std.specs.Prelude.{drop, false, length, map, sum_by, true};
 ghost use Rattle.flow_types.specs.declared.records.Record.{Record as RecordValue};
 ghost use Rattle.flow_types.specs.Plans.{IsValid};
 ghost use Rattle.flow_types.specs.Serial.{serial};
@@ -106,6 +106,7 @@ fn serve<
     requires counted { before ≤ S.count site }
     ensures serves { Serves S.tells S.files S.may_leave S.moment S.images_since B.born
         F.gives F.may_fail (AllTell R.tells runners.old) (AllSure R.sure runners.old)
+        (H.honest hall.old)
         (counts before (map R.count runners.old) (H.count hall.old) (H.idle_count hall.old) 0)
         (counts (S.count result.site) (map R.count runners.new) (H.count hall.new)
         (H.idle_count hall.new) 0)
@@ -167,6 +168,7 @@ fn follow<
         → request words.now env.now (S.files site) ≡ Ok ask
         → Serves S.tells S.files S.may_leave S.moment S.images_since B.born
         F.gives F.may_fail (AllTell R.tells runners.old) (AllSure R.sure runners.old)
+        (H.honest hall.old)
         (counts (S.count site) (map R.count runners.old) (H.count hall.old)
         (H.idle_count hall.old) 0)
         (counts (S.count result.site) (map R.count runners.new) (H.count hall.new)
@@ -373,24 +375,25 @@ pub fn makeflow_top<
         → StaysBeside S.may_leave S.moment S.images_since (IsUnmade ask.plan ask.log)
         site result.site }
 
-    // Where the commands are functions of their inputs and no worker is asked for, every present
-    // file has the content of the serial run at every moment, and each failure is one that its
-    // rule's job may have.
+    // Where the commands are functions of their inputs, the runners tell what those say of each
+    // rule's job, and with workers each of their links is honest, every present file has the
+    // content of the serial run at every moment, and each failure is one that its rule's job may
+    // have.
     ensures contents { S.tells → OfLog (request words.now env.now (S.files site)) (S.files site)
-        (λ ask H. let sources = read_sources ask.plan (S.files site) in
-        ask.options.wq ≡ false
-        → IsResumable (SerialFits F.gives sources) ask.plan ask.log H (S.may_leave site)
+        (λ ask past. let sources = read_sources ask.plan (S.files site) in
+        (ask.options.wq ≡ true → H.honest hall.old)
+        → IsResumable (SerialFits F.gives sources) ask.plan ask.log past (S.may_leave site)
         → TellsJobs ask.plan (AllTell R.tells runners.old) (serial ask.plan F.gives sources)
         → (image : Files) → S.images_since result.site (S.moment site) image
         → IsMoment (SerialFits F.gives sources) ask.plan ask.log (S.files site)
-        (S.may_leave site) H result.records (IsCut result.cause) image) }
+        (S.may_leave site) past result.records (IsCut result.cause) image) }
     ensures honest { S.tells → OfLog (request words.now env.now (S.files site)) (S.files site)
-        (λ ask H. let sources = read_sources ask.plan (S.files site) in
-        ask.options.wq ≡ false
-        → IsResumable (SerialFits F.gives sources) ask.plan ask.log H (S.may_leave site)
+        (λ ask past. let sources = read_sources ask.plan (S.files site) in
+        (ask.options.wq ≡ true → H.honest hall.old)
+        → IsResumable (SerialFits F.gives sources) ask.plan ask.log past (S.may_leave site)
         → TellsJobs ask.plan (AllTell R.tells runners.old) (serial ask.plan F.gives sources)
-        → BeginsWith H result.records
-        → Adds (Unit {0}) F.gives F.may_fail sources ask.plan H result.records) }
+        → BeginsWith past result.records
+        → Adds (Unit {0}) F.gives F.may_fail sources ask.plan past result.records) }
 
     // Where the sink tells its bytes, they grew by the text of the cause, whole unless the sink's
     // count rose or memory was wanting, and then by a first part of a text. The end of what was

@@ -21,7 +21,7 @@ use Rattle.desk.specs.declared.attempt.Attempt.{Attempt}
 use Rattle.desk.specs.Links.{Joins, Leaves}
 use Rattle.desk.specs.State.{DeskState}
 use Rattle.peers.specs.declared.leave.Leave.{Leave}
-use Rattle.peers.specs.States.{PeerState, new_peer}
+use Rattle.peers.specs.States.{PeerState}
 use Rattle.local_run.specs.declared.halt.Halt.{Halt}
 use Rattle.local_run.specs.Beyond.{joined_by, left_by}
 use Rattle.local_run.specs.Underway.{AwayState, HeldState, NoneOn, Underway}
@@ -77,6 +77,15 @@ module _ {L : Type 0} where
     numbers = numbers;
   }
 
+-- The same of equal links, failures and losses before.
+pub met_moved : {L : Type 0} {count count_now : ℕ} {got got_now : List (Option LinkNo × L)} {given given_now idles idles_now : ℕ} {inside other inside_now : Inside} {failed failed_then failed_now lost lost_then lost_now : Bool}
+    → Meets count count_now got got_now given given_now idles idles_now inside inside_now failed failed_now lost lost_now → inside ≡ other → failed ≡ failed_then → lost ≡ lost_then
+    → Meets count count_now got got_now given given_now idles idles_now other inside_now failed_then failed_now lost_then lost_now
+met_moved {L} {count} {count_now} {got} {got_now} {given} {given_now} {idles} {idles_now} {inside} {other} {inside_now} {failed} {failed_then} {failed_now} {lost} {lost_then} {lost_now} met same fails loses =
+    subst (λ (n : Inside). Meets count count_now got got_now given given_now idles idles_now n inside_now failed_then failed_now lost_then lost_now) same
+    (subst (λ (b : Bool). Meets count count_now got got_now given given_now idles idles_now inside inside_now b failed_now lost_then lost_now) fails
+    (subst (λ (b : Bool). Meets count count_now got got_now given given_now idles idles_now inside inside_now failed failed_now b lost_now) loses met))
+
 -- A link was handed back.
 pub back_met : {L : Type 0} {count count_now : ℕ} {got got_now : List (Option LinkNo × L)} {given given_now idles idles_now : ℕ} {inside : Inside} {failed lost : Bool} (x : Option LinkNo × L) → count_now ≡ count → got_now ≡ got ++ (x ∷ []) → given_now ≡ given → idles_now ≡ idles
     → Meets count count_now got got_now given given_now idles idles_now (with_hand x.0 inside) inside failed failed lost lost
@@ -112,23 +121,20 @@ met_same {L} {count} {got} {given} {idles} {c} {c_now} same =
 
 -- ---- guests and seats
 
-pub guests_more : {L : Type 0} (guests : List (PeerState L)) (p : PeerState L) → AreGuests guests → IsGuest p → AreGuests (guests ++ (p ∷ []))
+pub guests_more : {L : Type 0} {fact : PeerState L → Type 0} (guests : List (PeerState L)) (p : PeerState L) → AreGuests fact guests → IsGuest fact p → AreGuests fact (guests ++ (p ∷ []))
 guests_more [] p are guest = (guest, tt)
 guests_more (x ∷ guests) p are guest = (are.0, guests_more guests p are.1 guest)
 
-pub guests_less : {L : Type 0} (guests : List (PeerState L)) (p : PeerState L) → AreGuests (guests ++ (p ∷ [])) → AreGuests guests × IsGuest p
+pub guests_less : {L : Type 0} {fact : PeerState L → Type 0} (guests : List (PeerState L)) (p : PeerState L) → AreGuests fact (guests ++ (p ∷ [])) → AreGuests fact guests × IsGuest fact p
 guests_less [] p are = (tt, are.0)
 guests_less (x ∷ guests) p are = let rest = guests_less guests p are.1 in ((are.0, rest.0), rest.1)
 
 -- the first and the others
-pub guests_first : {L : Type 0} (guests : List (PeerState L)) (p : PeerState L) → slice_get guests 0 ≡ Some p → AreGuests guests → AreGuests (remove guests 0) × IsGuest p
+pub guests_first : {L : Type 0} {fact : PeerState L → Type 0} (guests : List (PeerState L)) (p : PeerState L) → slice_get guests 0 ≡ Some p → AreGuests fact guests → AreGuests fact (remove guests 0) × IsGuest fact p
 guests_first [] p is are = absurd (true≢false (sym (ap is_some is)))
-guests_first {L} (x ∷ guests) p is are =
+guests_first {L} {fact} (x ∷ guests) p is are =
     let same : x ≡ p = ap (λ (o : Option (PeerState L)). unwrap_or o p) is in
-    (are.1, subst IsGuest same are.0)
-
-pub new_guest : {L : Type 0} (way : L) (run : ℕ) → IsGuest (new_peer way run)
-new_guest way run = record { opens = tt; going = refl }
+    (are.1, subst (IsGuest fact) same are.0)
 
 unseated_by : {L : Type 0} (k : ℕ) (s : SeatState L) (b c : Bool) → (s.link.0 == k) ≡ b → (b || c) ≡ false → (s.link.0 ≢ k) × (c ≡ false)
 unseated_by k s true c is none = absurd (true≢false none)
@@ -280,10 +286,10 @@ module _ {S : Type 0} {trust : Type 0} {gives : Function} {may_fail : Job → Fa
     }
 
     -- a guest gets its seat, or its link is handed back
-    pub seated : (d after : DeskState S) (total largest : Amounts) (cache : ℕ) (link : LinkNo) (seats seats_now : List (SeatState L)) (s : SeatState L) → (let r : Result LinkNo JoinRefused = Ok link in Joins d total largest cache r after)
+    pub seated : {fact : PeerState L → Type 0} (d after : DeskState S) (total largest : Amounts) (cache : ℕ) (link : LinkNo) (seats seats_now : List (SeatState L)) (s : SeatState L) → (let r : Result LinkNo JoinRefused = Ok link in Joins d total largest cache r after)
         → ((held : List Attempt) (halt : Option Halt) (away : AwayState) (first : DeskState S) (waiting : List Start) (heard : Tally) → Underway trust gives may_fail sources tells kept sure files may_leave moment images_since away first d held waiting None heard halt
         → Underway trust gives may_fail sources tells kept sure files may_leave moment images_since (joined_by total largest cache (Ok link) away) first after held waiting None heard halt)
-        → s.link ≡ link → s.attempts ≡ [] → IsGuest s.peer → (seats_now ≡ seats) ⊎ (IsUnseated s.link.0 seats × (seats_now ≡ seats ++ (s ∷ []))) → (held : HeldState)
+        → s.link ≡ link → s.attempts ≡ [] → IsGuest fact s.peer → (seats_now ≡ seats) ⊎ (IsUnseated s.link.0 seats × (seats_now ≡ seats ++ (s ∷ []))) → (held : HeldState)
         → KeepsManned trust gives may_fail sources tells kept sure files may_leave moment images_since d after held held seats seats_now
     seated d after total largest cache link seats seats_now s h under on none guest now held first waiting heard m =
         ⊎_elim
@@ -366,3 +372,25 @@ pub set_seated : {L : Type 0} (xs : List (SeatState L)) (at : ℕ) (x y : SeatSt
 set_seated xs at x y is same k =
     let split = split_at xs at x is in
     ap (seats_under k) (split.set y) ∙ seated_as k split.before split.behind x y same ∙ sym (ap (seats_under k) split.are)
+
+-- The hall failed.
+pub failed_met : {L : Type 0} {count count_now : ℕ} {got got_now : List (Option LinkNo × L)} {given given_now idles idles_now : ℕ} {inside inside_now : Inside} {failed failed_now lost lost_now : Bool} → count < count_now → got_now ≡ got → given_now ≡ given → idles ≤ idles_now → IsLike inside inside_now → lost_now ≡ lost
+    → Meets count count_now got got_now given given_now idles idles_now inside inside_now failed failed_now lost lost_now
+failed_met {L} {count} {count_now} {got} {got_now} {given} {given_now} {idles} {idles_now} {inside} {inside_now} {failed} {failed_now} {lost} {lost_now} more gots givens idle like loses = record {
+  later = omega (arith, more);
+  idles_later = idle;
+  fails = λ is. inr more;
+  counted = λ is. (sym loses ∙ is, record { more = []; are = gots ∙ sym (append-nil got); many = (let same = like.links in omega (arith, same, givens)) });
+  numbers = subst (λ (xs : List (Option LinkNo × L)). KeepsNumbers got xs inside inside_now) (sym gots) (numbers_like got inside inside_now like);
+}
+
+-- There was no memory for a link.
+pub lacking_met : {L : Type 0} {count count_now : ℕ} {got got_now : List (Option LinkNo × L)} {given given_now idles idles_now : ℕ} {inside inside_now : Inside} {failed failed_now lost lost_now : Bool} → count ≤ count_now → got_now ≡ got → idles ≤ idles_now → IsLike inside inside_now → failed_now ≡ failed → lost_now ≡ true
+    → Meets count count_now got got_now given given_now idles idles_now inside inside_now failed failed_now lost lost_now
+lacking_met {L} {count} {count_now} {got} {got_now} {given} {given_now} {idles} {idles_now} {inside} {inside_now} {failed} {failed_now} {lost} {lost_now} later gots idle like fails loses = record {
+  later = later;
+  idles_later = idle;
+  fails = λ is. inl (sym fails ∙ is);
+  counted = λ none. absurd (true≢false (sym loses ∙ none));
+  numbers = subst (λ (xs : List (Option LinkNo × L)). KeepsNumbers got xs inside inside_now) (sym gots) (numbers_like got inside inside_now like);
+}

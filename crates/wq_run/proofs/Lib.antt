@@ -13,3 +13,6 @@ pub mod Companies
 pub mod Ending
 pub mod Services
 pub mod Working
+pub mod Trusts
+pub mod Called
+pub mod Turns

@@ -26,6 +26,7 @@ use Rattle.desk.specs.declared.attempt.Attempt.{Attempt}
 use Rattle.desk.specs.Links.{Changes, Joins, Leaves}
 use Rattle.desk.specs.State.{DeskState}
 use Rattle.link_session.specs.declared.open.Open.{Open}
+use Rattle.peers.specs.States.{PeerState}
 use Rattle.peers.proofs.Opens.{all_map}
 use Rattle.local_run.specs.declared.halt.Halt.{Halt}
 use Rattle.local_run.specs.Beyond.{changed_by, joined_by, left_by}
@@ -213,9 +214,9 @@ module _ {S : Type 0} (trust : Type 0) (gives : Function) (may_fail : Job → Fa
         same_attempts (Err why) = refl
 
     -- a new seat behind the others
-    pub joins_one : (d after : DeskState S) (held : HeldState) (total largest : Amounts) (cache : ℕ) (link : LinkNo) (seats : List (SeatState L)) (s : SeatState L) → (let r : Result LinkNo JoinRefused = Ok link in Joins d total largest cache r after)
+    pub joins_one : {fact : PeerState L → Type 0} (d after : DeskState S) (held : HeldState) (total largest : Amounts) (cache : ℕ) (link : LinkNo) (seats : List (SeatState L)) (s : SeatState L) → (let r : Result LinkNo JoinRefused = Ok link in Joins d total largest cache r after)
         → ((away : AwayState) (first : DeskState S) (waiting : List Start) (heard : Tally) → UnderBy away first d held.attempts waiting heard held.halt → UnderBy (joined_by total largest cache (Ok link) away) first after held.attempts waiting heard held.halt)
-        → s.link ≡ link → s.attempts ≡ [] → IsGuest s.peer → IsUnseated s.link.0 seats → KeepsManned trust gives may_fail sources tells kept sure files may_leave moment images_since d after held held seats (seats ++ (s ∷ []))
+        → s.link ≡ link → s.attempts ≡ [] → IsGuest fact s.peer → IsUnseated s.link.0 seats → KeepsManned trust gives may_fail sources tells kept sure files may_leave moment images_since d after held held seats (seats ++ (s ∷ []))
     joins_one d after held total largest cache link seats s h under on none guest apart first waiting heard m = record {
       away = joined_by total largest cache (Ok link) m.away;
       are = m.are ∙ sym (append-nil (gathered seats)) ∙ sym (ap (λ (xs : List Attempt). gathered seats ++ (xs ++ [])) none) ∙ sym (gathered_append seats (s ∷ []));

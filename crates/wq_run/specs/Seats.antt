@@ -27,11 +27,12 @@ use Rattle.peers.specs.declared.leave.Leave.{Leave}
 use Rattle.peers.specs.States.{PeerState}
 use Rattle.local_run.specs.Underway.{AwayState, HeldState, IsHeld, Underway}
 
--- A peer that joined, the number of its link, and the attempts that run there.
+-- A peer that joined, the number of its link, the attempts that run there, and the number of the newest that was opened there.
 pub record SeatState (L : Type 0) : Type 0 where
   pub peer : PeerState L
   pub link : LinkNo
   pub attempts : List Attempt
+  pub newest : Option AttemptNo
 
 -- the same seat with other attempts
 abbrev pub seat_with : {L : Type 0} → SeatState L → List Attempt → SeatState L
@@ -226,14 +227,15 @@ inside_of c = record { links = links_in c; numbered = λ k. seats_under k c.seat
 abbrev pub with_hand : Option LinkNo → Inside → Inside
 with_hand link i = record { links = i.links + 1; numbered = λ k. i.numbered k + one_under k link; newest = i.newest }
 
--- Nothing is open at a peer that hasn't joined, and it can be heard.
-pub record IsGuest {L : Type 0} (p : PeerState L) : Type 0 where
+-- Nothing is open at a peer that hasn't joined, it can be heard, and this is so of it.
+pub record IsGuest {L : Type 0} (fact : PeerState L → Type 0) (p : PeerState L) : Type 0 where
   pub opens : AllByRecursion (λ (o : Open). ⊥) p.session.attempts
   pub going : p.feed.stop ≡ None
+  pub so : fact p
 
 -- Each is a guest.
-abbrev pub AreGuests : {L : Type 0} → List (PeerState L) → Type 0
-AreGuests guests = AllByRecursion IsGuest guests
+abbrev pub AreGuests : {L : Type 0} → (PeerState L → Type 0) → List (PeerState L) → Type 0
+AreGuests fact guests = AllByRecursion (IsGuest fact) guests
 
 -- More links were handed back, and with those that the run has they are as many as were given.
 pub record KeepsCount {X : Type 0} (got got_now : List X) (given given_now inside inside_now : ℕ) : Type 0 where

@@ -8,6 +8,7 @@ mod parting;
 mod rounds;
 mod visits;
 
+use crate::reliance::Trust;
 use crate::seat::Seat;
 use flow_types::LinkNo;
 use links::Link;
@@ -19,8 +20,8 @@ use std::marker::Model;
 pub(crate) use visits::ask_all;
 
 /// The workers that joined, and the peers that came and haven't joined yet.
-pub(crate) struct Company<F: Commands, L: Link<F>> {
-    seats: Vec<Seat<F, L>>,
+pub(crate) struct Company<F: Commands, L: Link<F>, T: Trust> {
+    seats: Vec<Seat<F, L, T>>,
     guests: Vec<Peer<F, L>>,
     // The place where peers come failed.
     failed: bool,
@@ -38,8 +39,9 @@ pub(crate) struct Company<F: Commands, L: Link<F>> {
     newest: u32,
 }
 
-impl<F: Commands, L: Link<F>> Model for Company<F, L> {
+impl<F: Commands, L: Link<F>, T: Trust> Model for Company<F, L, T> {
     ghost use Rattle.wq_run.specs.Seats.{AreGuests, CompanyState};
+    ghost use Rattle.wq_run.specs.Trusted.{IsMeant};
 
     ghost Value = { CompanyState L };
 
@@ -51,12 +53,13 @@ impl<F: Commands, L: Link<F>> Model for Company<F, L> {
       newest = c.newest;
     } };
 
-    ghost invariant = { λ c. AreGuests c.guests.items };
+    ghost invariant = { λ c. AreGuests (IsMeant T.holds F.gives F.may_fail L.history L.honest)
+        c.guests.items };
 }
 
-impl<F: Commands, L: Link<F>> Company<F, L> {
+impl<F: Commands, L: Link<F>, T: Trust> Company<F, L, T> {
     /// Nobody has come.
-    pub fn new(alloc: Global) -> Company<F, L>
+    pub fn new(alloc: Global) -> Company<F, L, T>
         ensures { result ≡ record {
           seats = [];
           guests = [];

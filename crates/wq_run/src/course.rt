@@ -6,14 +6,16 @@ ghost use Rattle.run_history.specs.declared.moves.Move.{Move};
 ghost use Rattle.run_history.specs.Answers.{has_ended};
 ghost use Rattle.run_history.specs.Links.{records_of};
 ghost use Rattle.run_history.specs.Storage.{running_rules};
-ghost use Rattle.worker_pool.specs.Crews.{AllSure};
+ghost use Rattle.worker_pool.specs.Crews.{AllSure, AllTell};
 ghost use Rattle.desk.specs.State.{IsFine};
-ghost use Rattle.local_run.specs.Course.{GoesOn};
+ghost use Rattle.local_run.specs.Course.{GoesOn, TellsJobs};
 ghost use Rattle.local_run.specs.Ends.{IsApart, IsWholeRun, RunDamage};
 ghost use Rattle.local_run.specs.Runs.{IsCutRun};
 ghost use Rattle.wq_run.specs.Ends.{AreBack, EndsHere, IsSparedRunners, LosesOnLinks, StopsBy};
+ghost use Rattle.wq_run.specs.Trusted.{IsOf};
 
 use crate::company::{Company, disband};
+use crate::reliance::Trust;
 use crate::rounds::run_all;
 use crate::workers::Workers;
 use desk::{Desk, Terms};
@@ -26,7 +28,8 @@ use std::sync::Wait;
 use std::thread::Threads;
 use worker_pool::Gate;
 
-/// Runs the rules that the desk hands out, here and at the workers that come, and ends the run.
+/// Runs the rules that the desk hands out, here and at the workers that come, and ends the run. What
+/// is relied on of the workers is stated by the desk's own terms.
 pub fn work<
     W: Threads + Wait + Sync,
     G: Gate,
@@ -35,7 +38,7 @@ pub fn work<
     H: Hall<F>,
     R: Runner<F>,
     C: Clock,
-    T: Terms,
+    T: Terms + Trust,
 >(
     rt: &W,
     alloc: Global,
@@ -52,7 +55,10 @@ pub fn work<
     requires unset { desk.old.stop ≡ None }
     requires unended { has_ended (records_of desk.old.moves) ≡ false }
     requires idle { length (running_rules desk.old.plan (records_of desk.old.moves)) ≤ 0 }
-    requires apart { T.trust → ⊥ }
+    requires of { IsOf T.trust F.gives T.sources S.tells T.kept T.holds T.plan T.run T.due
+        desk.old.plan (records_of desk.old.moves) }
+    requires told { T.trust → TellsJobs T.plan (AllTell R.tells runners.old) T.due }
+    requires honest { T.holds → H.honest hall.old }
     requires keen { (k : ℕ) → 0 < k → T.keen k → ⊥ }
     ensures goes { (links : List Move) × GoesOn T.trust F.gives F.may_fail T.sources S.tells
         S.files S.may_leave S.moment S.images_since links desk.old desk.new }
@@ -79,7 +85,7 @@ pub fn work<
         Err(Fault::Failed) => return Err(Stopped::Hall),
         Err(Fault::Memory) => return Err(Stopped::Halted(Halt::Memory)),
     }
-    let mut company = Company::new(alloc);
+    let mut company = Company::<F, H::Way, T>::new(alloc);
     let done = run_all(
         rt,
         alloc,
@@ -91,7 +97,7 @@ pub fn work<
         gate,
         clock,
     );
-    disband::<F, H>(&mut company, alloc, hall);
+    disband::<F, H, T>(&mut company, alloc, hall);
     let has_lost = company.has_lost();
     company.end();
     if has_lost {

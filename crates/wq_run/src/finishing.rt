@@ -7,8 +7,10 @@ ghost use Rattle.desk.specs.State.{DeskState};
 ghost use Rattle.local_run.specs.Underway.{IsSurePool};
 ghost use Rattle.wq_run.specs.Comes.{Finished};
 ghost use Rattle.wq_run.specs.Seats.{IsManned, Manned, Meets, inside_of};
+ghost use Rattle.wq_run.specs.Trusted.{StaysOpen};
 
 use crate::company::{Company, dismiss};
+use crate::reliance::Trust;
 use desk::{Desk, Terms};
 use links::Hall;
 use local_run::{Halt, Held, settle};
@@ -18,11 +20,11 @@ use worker_pool::Terms as PoolTerms;
 
 /// Gives up what is still held, here or at a worker, which is something only where memory was
 /// wanting, and tells why the run stopped.
-pub(crate) fn finish<B: PoolTerms, F: Commands, S: Site, H: Hall<F>, T: Terms, C: Clock>(
+pub(crate) fn finish<B: PoolTerms, F: Commands, S: Site, H: Hall<F>, T: Terms + Trust, C: Clock>(
     alloc: Global,
     desk: &mut Desk<F, S, T>,
     held: Held,
-    company: &mut Company<F, H::Way>,
+    company: &mut Company<F, H::Way, T>,
     hall: &mut H,
     clock: &C,
 ) -> Result<(), Halt>
@@ -37,7 +39,8 @@ pub(crate) fn finish<B: PoolTerms, F: Commands, S: Site, H: Hall<F>, T: Terms, C
         → Finished T.trust F.gives F.may_fail T.sources S.tells T.kept (IsSurePool B.fits)
         S.files S.may_leave S.moment S.images_since first desk.new heard
         company.new.seats result }
-    ensures listens { H.listens hall.old → H.listens hall.new }
+    ensures listens { StaysOpen T.holds (H.listens hall.old) (H.honest hall.old)
+        (H.listens hall.new) (H.honest hall.new) }
     ensures met { Meets (H.count hall.old) (H.count hall.new) (H.got hall.old)
         (H.got hall.new) (H.given hall.old) (H.given hall.new) (H.idle_count hall.old)
         (H.idle_count hall.new) (inside_of company.old) (inside_of company.new)

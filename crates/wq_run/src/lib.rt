@@ -4,9 +4,11 @@
 //! their attempts, claims for each of them, and lets in who comes.
 #![tactic(auto)]
 
+mod beside;
 mod company;
 mod course;
 mod finishing;
+mod reliance;
 mod rounds;
 mod seat;
 mod serving;
@@ -14,4 +16,5 @@ mod waiting;
 mod workers;
 
 pub use course::work;
+pub use reliance::Trust;
 pub use workers::Workers;

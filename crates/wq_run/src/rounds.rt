@@ -1,17 +1,21 @@
 //! The rounds of a run with workers, until it ends.
 ghost use Rattle.std.specs.Prelude.{◌≡◌, ◌≤◌, ◌<◌, [], ℕ, length, sum_by, Some, false, true};
+ghost use Rattle.flow_types.specs.declared.job.Job.{Job};
 ghost use Rattle.flow_types.specs.Plans.{IsValid};
 ghost use Rattle.run_history.specs.declared.answers.Stop.TheVariants as stops;
 ghost use Rattle.run_history.specs.Answers.{has_ended, is_in_vain};
 ghost use Rattle.run_history.specs.Links.{records_of};
 ghost use Rattle.run_history.specs.Storage.{running_rules};
-ghost use Rattle.worker_pool.specs.Crews.{AllSure};
+ghost use Rattle.worker_pool.specs.Crews.{AllSure, AllTell};
 ghost use Rattle.desk.specs.State.{IsFine};
+ghost use Rattle.local_run.specs.Course.{TellsJobs};
 ghost use Rattle.wq_run.specs.Ends.{IsOver};
 ghost use Rattle.wq_run.specs.Seats.{AreSeats, Meets, gathered, inside_of};
+ghost use Rattle.wq_run.specs.Trusted.{IsOf, IsOpen};
 ghost use Rattle.wq_run.specs.Works.{EndsNow, IsOn, Rounds, Works, with_check};
 
 use crate::company::Company;
+use crate::reliance::Trust;
 use crate::serving::serve_all;
 use crate::waiting::wait;
 use desk::{Desk, EndRefused, Terms};
@@ -77,11 +81,11 @@ fn end<F: Commands, S: Site, T: Terms, C: Clock>(
 }
 
 /// Waits for workers, and tells how often nobody came if that was too often.
-fn wait_round<W: Wait, F: Commands, S: Site, H: Hall<F>, C: Clock, T: Terms>(
+fn wait_round<W: Wait, F: Commands, S: Site, H: Hall<F>, C: Clock, T: Terms + Trust>(
     rt: &W,
     alloc: Global,
     desk: &mut Desk<F, S, T>,
-    company: &mut Company<F, H::Way>,
+    company: &mut Company<F, H::Way, T>,
     hall: &mut H,
     limit: u32,
     clock: &C,
@@ -89,16 +93,17 @@ fn wait_round<W: Wait, F: Commands, S: Site, H: Hall<F>, C: Clock, T: Terms>(
     requires valid { IsValid desk.old.plan }
     requires on { IsOn desk.old }
     requires idle { length (running_rules desk.old.plan (records_of desk.old.moves)) ≤ 0 }
-    requires apart { T.trust → ⊥ }
+    requires of { IsOf T.trust F.gives T.sources S.tells T.kept T.holds T.plan T.run T.due
+        desk.old.plan (records_of desk.old.moves) }
     requires keen { (k : ℕ) → 0 < k → T.keen k → ⊥ }
-    requires listens { H.listens hall.old }
+    requires listens { IsOpen T.holds (H.listens hall.old) (H.honest hall.old) }
     requires seats { AreSeats desk.old.plan desk.old.options desk.old.moves company.old.seats }
     requires none { gathered company.old.seats ≡ [] }
     ensures rounds { (n m : ℕ) → Rounds T.trust F.gives F.may_fail T.sources
         S.tells T.kept (Unit {0}) S.files S.may_leave S.moment S.images_since limit desk.old desk.new
         n n m m (H.count hall.old) (H.count hall.new) (H.idle_count hall.old)
         (H.idle_count hall.new) result }
-    ensures listens { H.listens hall.new }
+    ensures listens { IsOpen T.holds (H.listens hall.new) (H.honest hall.new) }
     ensures seats { AreSeats desk.new.plan desk.new.options desk.new.moves company.new.seats }
     ensures none { gathered company.new.seats ≡ [] }
     ensures met { Meets (H.count hall.old) (H.count hall.new) (H.got hall.old)
@@ -127,12 +132,12 @@ fn go_round<
     H: Hall<F>,
     R: Runner<F>,
     C: Clock,
-    T: Terms,
+    T: Terms + Trust,
 >(
     rt: &W,
     alloc: Global,
     desk: &mut Desk<F, S, T>,
-    company: &mut Company<F, H::Way>,
+    company: &mut Company<F, H::Way, T>,
     hall: &mut H,
     limit: u32,
     runners: &mut [R],
@@ -143,9 +148,11 @@ fn go_round<
     requires valid { IsValid desk.old.plan }
     requires on { IsOn desk.old }
     requires idle { length (running_rules desk.old.plan (records_of desk.old.moves)) ≤ 0 }
-    requires apart { T.trust → ⊥ }
+    requires of { IsOf T.trust F.gives T.sources S.tells T.kept T.holds T.plan T.run T.due
+        desk.old.plan (records_of desk.old.moves) }
+    requires told { T.trust → TellsJobs T.plan (AllTell R.tells runners.old) T.due }
     requires keen { (k : ℕ) → 0 < k → T.keen k → ⊥ }
-    requires listens { H.listens hall.old }
+    requires listens { IsOpen T.holds (H.listens hall.old) (H.honest hall.old) }
     requires seats { AreSeats desk.old.plan desk.old.options desk.old.moves company.old.seats }
     requires none { gathered company.old.seats ≡ [] }
     ensures rounds { (n : ℕ) → n ≤ H.count hall.old → (company.old.failed ≡ true
@@ -155,13 +162,14 @@ fn go_round<
         (sum_by R.failures runners.old) (sum_by R.failures runners.new)
         n (H.count hall.new) (H.idle_count hall.old) (H.idle_count hall.new) result }
     ensures sure { AllSure R.sure runners.old → AllSure R.sure runners.new }
+    ensures tells { (job : Job) → AllTell R.tells runners.old job → AllTell R.tells runners.new job }
     ensures seats { AreSeats desk.new.plan desk.new.options desk.new.moves company.new.seats }
     ensures none { gathered company.new.seats ≡ [] }
     ensures met { Meets (H.count hall.old) (H.count hall.new) (H.got hall.old)
         (H.got hall.new) (H.given hall.old) (H.given hall.new) (H.idle_count hall.old)
         (H.idle_count hall.new) (inside_of company.old) (inside_of company.new)
         company.old.failed company.new.failed company.old.lost company.new.lost }
-    ensures listens { H.listens hall.new }
+    ensures listens { IsOpen T.holds (H.listens hall.new) (H.honest hall.new) }
 {
     match serve_all(rt, alloc, desk, company, hall, limit, runners, gate, clock) {
         Ok(()) => {}
@@ -210,12 +218,12 @@ pub(crate) fn run_all<
     H: Hall<F>,
     R: Runner<F>,
     C: Clock,
-    T: Terms,
+    T: Terms + Trust,
 >(
     rt: &W,
     alloc: Global,
     desk: &mut Desk<F, S, T>,
-    company: &mut Company<F, H::Way>,
+    company: &mut Company<F, H::Way, T>,
     hall: &mut H,
     limit: u32,
     runners: &mut [R],
@@ -226,9 +234,11 @@ pub(crate) fn run_all<
     requires valid { IsValid desk.old.plan }
     requires on { IsOn desk.old }
     requires idle { length (running_rules desk.old.plan (records_of desk.old.moves)) ≤ 0 }
-    requires apart { T.trust → ⊥ }
+    requires of { IsOf T.trust F.gives T.sources S.tells T.kept T.holds T.plan T.run T.due
+        desk.old.plan (records_of desk.old.moves) }
+    requires told { T.trust → TellsJobs T.plan (AllTell R.tells runners.old) T.due }
     requires keen { (k : ℕ) → 0 < k → T.keen k → ⊥ }
-    requires listens { H.listens hall.old }
+    requires listens { IsOpen T.holds (H.listens hall.old) (H.honest hall.old) }
     requires seats { AreSeats desk.old.plan desk.old.options desk.old.moves company.old.seats }
     requires none { gathered company.old.seats ≡ [] }
     requires going { company.old.failed ≡ false }

@@ -1,36 +1,62 @@
 //! A worker that joined, and the attempts that run there.
 ghost use Rattle.std.specs.Prelude.{◌≡◌, ◌==◌, ◌∷◌, ◌++◌, [], IfErr, IfOk, IfSome, List, None};
+ghost use Rattle.std.specs.Prelude.{true};
 ghost use Rattle.std.specs.List.{position};
 ghost use Rattle.flow_types.specs.Plans.{is_empty};
 ghost use Rattle.desk.specs.declared.attempt.Attempt.{Attempt as AttemptValue};
 ghost use Rattle.local_run.specs.Underway.{IsHeld};
 ghost use Rattle.wq_run.specs.Seats.{seat_with};
+ghost use Rattle.wq_run.specs.Trusted.{IsMeant, IsTrusted, MayOpen};
 
 mod asking;
 mod closing;
 mod hearing;
 
+use crate::reliance::Trust;
 use desk::Attempt;
 use flow_types::{AttemptNo, LinkNo};
 use links::Link;
 use outside::Commands;
 use peers::Peer;
 use std::alloc::Global;
-use std::marker::Model;
+use std::marker::{Model, PhantomData};
 
 /// A peer that joined, at its link, with the attempts that run there.
-pub(crate) struct Seat<F: Commands, L: Link<F>> {
+///
+/// Where links are honest and nothing is in the way, each content that was put at the peer is that
+/// of the serial run, and each task that was asked of it is that of its attempt.
+pub(crate) struct Seat<F: Commands, L: Link<F>, T: Trust> {
     peer: Peer<F, L>,
     link: LinkNo,
     attempts: Vec<Attempt>,
+    // The number of the newest attempt that was opened there.
+    newest: Option<AttemptNo>,
+    // Its link is to be kept, and no attempt waits to be asked for there.
+    is_ready: bool,
+    of: PhantomData<T>,
 }
 
-impl<F: Commands, L: Link<F>> Model for Seat<F, L> {
+impl<F: Commands, L: Link<F>, T: Trust> Model for Seat<F, L, T> {
+    ghost use Rattle.std.specs.Prelude.{◌≡◌, true};
     ghost use Rattle.wq_run.specs.Seats.{SeatState};
+    ghost use Rattle.wq_run.specs.Trusted.{IsTrusted};
 
     ghost Value = { SeatState L };
 
-    ghost view = { λ s. record { peer = s.peer; link = s.link; attempts = s.attempts.items } };
+    ghost view = { λ s. record {
+      peer = s.peer;
+      link = s.link;
+      attempts = s.attempts.items;
+      newest = s.newest;
+    } };
+
+    ghost invariant = { λ s. s.is_ready ≡ true → T.holds
+        → IsTrusted F.gives F.may_fail L.history L.honest T.plan T.run T.due (record {
+          peer = s.peer;
+          link = s.link;
+          attempts = s.attempts.items;
+          newest = s.newest;
+        }) };
 }
 
 // Where the attempt of this number stands among these, if it does.
@@ -42,15 +68,19 @@ fn place(attempts: &[Attempt], number: AttemptNo) -> Option<usize>
         .position(|attempt| attempt.number().0 == number.0)
 }
 
-impl<F: Commands, L: Link<F>> Seat<F, L> {
+impl<F: Commands, L: Link<F>, T: Trust> Seat<F, L, T> {
     /// A seat on which nothing runs.
-    pub fn new(alloc: Global, peer: Peer<F, L>, link: LinkNo) -> Seat<F, L>
-        ensures { result ≡ record { peer = peer; link = link; attempts = [] } }
+    pub fn new(alloc: Global, peer: Peer<F, L>, link: LinkNo) -> Seat<F, L, T>
+        requires meant { IsMeant T.holds F.gives F.may_fail L.history L.honest peer }
+        ensures { result ≡ record { peer = peer; link = link; attempts = []; newest = None } }
     {
         Seat {
             peer,
             link,
             attempts: Vec::new(alloc),
+            newest: None,
+            is_ready: true,
+            of: PhantomData,
         }
     }
 
@@ -68,6 +98,28 @@ impl<F: Commands, L: Link<F>> Seat<F, L> {
         self.link
     }
 
+    // Whether what the peer tells may be taken.
+    fn is_ready(&self) -> bool
+        ensures { result ≡ true → T.holds → IsTrusted F.gives F.may_fail L.history L.honest T.plan
+            T.run T.due self.now }
+    {
+        self.is_ready
+    }
+
+    // Whether no attempt of this number, nor of a later one, was opened there.
+    fn is_new(&self, number: AttemptNo) -> bool
+        ensures { result ≡ true → T.holds → MayOpen F.gives F.may_fail L.history L.honest T.plan
+            T.run T.due self.now number }
+    {
+        if !self.is_ready {
+            return false;
+        }
+        match self.newest {
+            Some(newest) => newest.0 < number.0,
+            None => true,
+        }
+    }
+
     // Takes the attempt of this number out, which runs there.
     fn take(&mut self, number: AttemptNo) -> Attempt
         requires held { IsHeld number self.old.attempts }
@@ -82,14 +134,18 @@ impl<F: Commands, L: Link<F>> Seat<F, L> {
         self.attempts.remove(at)
     }
 
-    // One attempt more runs there. Where memory is wanting it is given back.
+    // One attempt more runs there, and waits to be asked for. Where memory is wanting it is given
+    // back.
     fn hold(&mut self, attempt: Attempt) -> Result<(), Attempt>
         ensures held { IfOk result (λ _. self.new
             ≡ seat_with self.old (self.old.attempts ++ attempt ∷ [])) }
         ensures back { IfErr result (λ back. (back ≡ attempt) × (self.new ≡ self.old)) }
     {
         match self.attempts.push(attempt) {
-            Ok(()) => Ok(()),
+            Ok(()) => {
+                self.is_ready = false;
+                Ok(())
+            }
             Err(failed) => Err(failed.value),
         }
     }
@@ -112,6 +168,9 @@ impl<F: Commands, L: Link<F>> Seat<F, L> {
             peer,
             link: _,
             attempts,
+            newest: _,
+            is_ready: _,
+            of: _,
         } = self;
         attempts.destroy_empty();
         peer

@@ -1,50 +1,58 @@
 //! The caller's thread of a run with workers, beside those of its runners.
 ghost use Rattle.std.specs.Prelude.{◌≡◌, ◌≤◌, ◌<◌, [], ℕ, List, length, sum_by, true};
 ghost use Rattle.crossbeam_queue.specs.Passes.{view, IsPassOf, IsSamePass};
+ghost use Rattle.flow_types.specs.declared.job.Job.{Job};
 ghost use Rattle.flow_types.specs.Plans.{IsValid};
 ghost use Rattle.run_history.specs.Links.{records_of};
 ghost use Rattle.run_history.specs.Storage.{running_rules};
 ghost use Rattle.worker_pool.specs.Courses.{MayReport};
-ghost use Rattle.worker_pool.specs.Crews.{AllSure};
+ghost use Rattle.worker_pool.specs.Crews.{AllSure, AllTell};
 ghost use Rattle.worker_pool.specs.Hands.{Crew};
 ghost use Rattle.worker_pool.specs.Tallies.{GrowsWith};
 ghost use Rattle.worker_pool.specs.Tickets.{fresh};
 ghost use Rattle.desk.specs.State.{IsFine};
-ghost use Rattle.local_run.specs.Underway.{IsShapedPool, IsSurePool, IsWantHalt};
+ghost use Rattle.local_run.specs.Course.{TellsJobs};
+ghost use Rattle.local_run.specs.Underway.{IsShapedPool, IsSurePool, IsWantHalt, ToldOf};
 ghost use Rattle.wq_run.specs.Comes.{ComesOn};
 ghost use Rattle.wq_run.specs.Seats.{AreSeats, IsServed, KeepsServed, Meets};
 ghost use Rattle.wq_run.specs.Seats.{gathered, inside_of};
+ghost use Rattle.wq_run.specs.Trusted.{IsOf, IsOpen};
+ghost use Rattle.wq_run.specs.Turns.{MayServe, ServedOn};
 
+use crate::beside::call_with_beside;
 use crate::company::{Company, ask_all, dismiss, round};
 use crate::finishing::finish;
+use crate::reliance::Trust;
 use desk::{Desk, Terms};
 use links::Hall;
-use local_run::{Halt, Held, call_beside, go_on, hear};
+use local_run::{Halt, Held, go_on, hear};
 use outside::{Clock, Commands, Runner, Site};
 use std::alloc::Global;
 use std::marker::Brand;
+use std::mem::replace;
 use std::sync::Wait;
 use std::thread::Threads;
 use worker_pool::{Gate, Line, Pool, Terms as PoolTerms, Ticket, Tickets, Token, new_tickets};
 
 /// Starts what claims give, here and at workers, if the desk has news since none did. It answers
 /// whether it did anything.
-fn start_more<B: PoolTerms, W: Wait, F: Commands, S: Site, H: Hall<F>, T: Terms, C: Clock>(
+fn start_more<B: PoolTerms, W: Wait, F: Commands, S: Site, H: Hall<F>, T: Terms + Trust, C: Clock>(
     rt: &W,
     alloc: Global,
     desk: &mut Desk<F, S, T>,
     held: &mut Held,
     pool: &mut Pool<B>,
-    company: &mut Company<F, H::Way>,
+    company: &mut Company<F, H::Way, T>,
     hall: &mut H,
     most: usize,
     clock: &C,
 ) -> bool
     requires valid { IsValid desk.old.plan }
-    requires apart { T.trust → ⊥ }
+    requires of { IsOf T.trust F.gives T.sources S.tells T.kept T.holds T.plan T.run T.due
+        desk.old.plan (records_of desk.old.moves) }
     requires keen { (k : ℕ) → 0 < k → T.keen k → ⊥ }
     requires shaped { IsShapedPool B.fits }
-    requires listens { H.listens hall.old }
+    requires listens { IsOpen T.holds (H.listens hall.old) (H.honest hall.old) }
     requires most { (0 < most) × (most ≤ 64) }
     requires served { IsServed T.trust F.gives F.may_fail T.sources S.tells T.kept (IsSurePool B.fits)
         S.files S.may_leave S.moment S.images_since desk.old held.old
@@ -54,7 +62,7 @@ fn start_more<B: PoolTerms, W: Wait, F: Commands, S: Site, H: Hall<F>, T: Terms,
         held.old held.new pool.old.waiting pool.new.waiting pool.old.heard pool.new.heard
         company.old.seats company.new.seats }
     ensures line { pool.new.line ≡ pool.old.line }
-    ensures listens { H.listens hall.new }
+    ensures listens { IsOpen T.holds (H.listens hall.new) (H.honest hall.new) }
     ensures met { Meets (H.count hall.old) (H.count hall.new) (H.got hall.old)
         (H.got hall.new) (H.given hall.old) (H.given hall.new) (H.idle_count hall.old)
         (H.idle_count hall.new) (inside_of company.old) (inside_of company.new)
@@ -75,23 +83,25 @@ fn start_more<B: PoolTerms, W: Wait, F: Commands, S: Site, H: Hall<F>, T: Terms,
 
 /// Starts what can be, or hears what ended, here or at workers, or lets in who has come. It answers
 /// whether there was anything to do.
-fn turn<B: PoolTerms, W: Wait, F: Commands, S: Site, H: Hall<F>, T: Terms, C: Clock>(
+fn turn<B: PoolTerms, W: Wait, F: Commands, S: Site, H: Hall<F>, T: Terms + Trust, C: Clock>(
     rt: &W,
     alloc: Global,
     desk: &mut Desk<F, S, T>,
     held: &mut Held,
     pool: &mut Pool<B>,
-    company: &mut Company<F, H::Way>,
+    company: &mut Company<F, H::Way, T>,
     hall: &mut H,
     most: usize,
     limit: u32,
     clock: &C,
 ) -> bool
     requires valid { IsValid desk.old.plan }
-    requires apart { T.trust → ⊥ }
+    requires of { IsOf T.trust F.gives T.sources S.tells T.kept T.holds T.plan T.run T.due
+        desk.old.plan (records_of desk.old.moves) }
+    requires told { T.trust → TellsJobs T.plan (ToldOf F.gives F.may_fail B.fits) T.due }
     requires keen { (k : ℕ) → 0 < k → T.keen k → ⊥ }
     requires shaped { IsShapedPool B.fits }
-    requires listens { H.listens hall.old }
+    requires listens { IsOpen T.holds (H.listens hall.old) (H.honest hall.old) }
     requires most { (0 < most) × (most ≤ 64) }
     requires served { IsServed T.trust F.gives F.may_fail T.sources S.tells T.kept (IsSurePool B.fits)
         S.files S.may_leave S.moment S.images_since desk.old held.old
@@ -101,7 +111,7 @@ fn turn<B: PoolTerms, W: Wait, F: Commands, S: Site, H: Hall<F>, T: Terms, C: Cl
         held.old held.new pool.old.waiting pool.new.waiting pool.old.heard pool.new.heard
         company.old.seats company.new.seats }
     ensures line { pool.new.line ≡ pool.old.line }
-    ensures listens { H.listens hall.new }
+    ensures listens { IsOpen T.holds (H.listens hall.new) (H.honest hall.new) }
     ensures met { Meets (H.count hall.old) (H.count hall.new) (H.got hall.old)
         (H.got hall.new) (H.given hall.old) (H.given hall.new) (H.idle_count hall.old)
         (H.idle_count hall.new) (inside_of company.old) (inside_of company.new)
@@ -118,23 +128,25 @@ fn turn<B: PoolTerms, W: Wait, F: Commands, S: Site, H: Hall<F>, T: Terms, C: Cl
 
 /// Once the run has stopped, lets the workers go and hears what runs here. It answers whether
 /// nothing does.
-fn wind_down<B: PoolTerms, W: Wait, F: Commands, S: Site, H: Hall<F>, T: Terms, C: Clock>(
+fn wind_down<B: PoolTerms, W: Wait, F: Commands, S: Site, H: Hall<F>, T: Terms + Trust, C: Clock>(
     rt: &W,
     alloc: Global,
     desk: &mut Desk<F, S, T>,
     held: &mut Held,
     pool: &mut Pool<B>,
-    company: &mut Company<F, H::Way>,
+    company: &mut Company<F, H::Way, T>,
     hall: &mut H,
     most: usize,
     seen: u64,
     clock: &C,
 ) -> bool
     requires valid { IsValid desk.old.plan }
-    requires apart { T.trust → ⊥ }
+    requires of { IsOf T.trust F.gives T.sources S.tells T.kept T.holds T.plan T.run T.due
+        desk.old.plan (records_of desk.old.moves) }
+    requires told { T.trust → TellsJobs T.plan (ToldOf F.gives F.may_fail B.fits) T.due }
     requires keen { (k : ℕ) → 0 < k → T.keen k → ⊥ }
     requires shaped { IsShapedPool B.fits }
-    requires listens { H.listens hall.old }
+    requires listens { IsOpen T.holds (H.listens hall.old) (H.honest hall.old) }
     requires most { (0 < most) × (most ≤ 64) }
     requires served { IsServed T.trust F.gives F.may_fail T.sources S.tells T.kept (IsSurePool B.fits)
         S.files S.may_leave S.moment S.images_since desk.old held.old
@@ -144,7 +156,7 @@ fn wind_down<B: PoolTerms, W: Wait, F: Commands, S: Site, H: Hall<F>, T: Terms, 
         held.old held.new pool.old.waiting pool.new.waiting pool.old.heard pool.new.heard
         company.old.seats company.new.seats }
     ensures line { pool.new.line ≡ pool.old.line }
-    ensures listens { H.listens hall.new }
+    ensures listens { IsOpen T.holds (H.listens hall.new) (H.honest hall.new) }
     ensures met { Meets (H.count hall.old) (H.count hall.new) (H.got hall.old)
         (H.got hall.new) (H.given hall.old) (H.given hall.new) (H.idle_count hall.old)
         (H.idle_count hall.new) (inside_of company.old) (inside_of company.new)
@@ -164,23 +176,25 @@ fn wind_down<B: PoolTerms, W: Wait, F: Commands, S: Site, H: Hall<F>, T: Terms, 
 /// Starts rules here and at workers, and hears how they ended, until nothing runs and a claim gives
 /// no rule. Once the run stopped nothing more is started, what runs at workers is given up, and
 /// what runs here is heard out.
-fn serve<B: PoolTerms, W: Wait, F: Commands, S: Site, H: Hall<F>, T: Terms, C: Clock>(
+fn serve<B: PoolTerms, W: Wait, F: Commands, S: Site, H: Hall<F>, T: Terms + Trust, C: Clock>(
     rt: &W,
     alloc: Global,
     desk: &mut Desk<F, S, T>,
     held: &mut Held,
     pool: &mut Pool<B>,
-    company: &mut Company<F, H::Way>,
+    company: &mut Company<F, H::Way, T>,
     hall: &mut H,
     most: usize,
     limit: u32,
     clock: &C,
 )
     requires valid { IsValid desk.old.plan }
-    requires apart { T.trust → ⊥ }
+    requires of { IsOf T.trust F.gives T.sources S.tells T.kept T.holds T.plan T.run T.due
+        desk.old.plan (records_of desk.old.moves) }
+    requires told { T.trust → TellsJobs T.plan (ToldOf F.gives F.may_fail B.fits) T.due }
     requires keen { (k : ℕ) → 0 < k → T.keen k → ⊥ }
     requires shaped { IsShapedPool B.fits }
-    requires listens { H.listens hall.old }
+    requires listens { IsOpen T.holds (H.listens hall.old) (H.honest hall.old) }
     requires most { (0 < most) × (most ≤ 64) }
     requires served { IsServed T.trust F.gives F.may_fail T.sources S.tells T.kept (IsSurePool B.fits)
         S.files S.may_leave S.moment S.images_since desk.old held.old
@@ -190,7 +204,7 @@ fn serve<B: PoolTerms, W: Wait, F: Commands, S: Site, H: Hall<F>, T: Terms, C: C
         held.old held.new pool.old.waiting pool.new.waiting pool.old.heard pool.new.heard
         company.old.seats company.new.seats }
     ensures line { pool.new.line ≡ pool.old.line }
-    ensures listens { H.listens hall.new }
+    ensures listens { IsOpen T.holds (H.listens hall.new) (H.honest hall.new) }
     ensures met { Meets (H.count hall.old) (H.count hall.new) (H.got hall.old)
         (H.got hall.new) (H.given hall.old) (H.given hall.new) (H.idle_count hall.old)
         (H.idle_count hall.new) (inside_of company.old) (inside_of company.new)
@@ -222,66 +236,76 @@ fn serve<B: PoolTerms, W: Wait, F: Commands, S: Site, H: Hall<F>, T: Terms, C: C
     unreachable!()
 }
 
-/// As `serve`, and then ends the waits of the runners.
-fn serve_and_close<B: PoolTerms, W: Wait, F: Commands, S: Site, H: Hall<F>, T: Terms, C: Clock>(
+/// As `serve`, with the company as a value, and then ends the waits of the runners.
+fn serve_and_close<
+    B: PoolTerms,
+    W: Wait,
+    F: Commands,
+    S: Site,
+    H: Hall<F>,
+    T: Terms + Trust,
+    C: Clock,
+>(
     rt: &W,
     alloc: Global,
     desk: &mut Desk<F, S, T>,
     held: &mut Held,
     pool: &mut Pool<B>,
-    company: &mut Company<F, H::Way>,
+    mut company: Company<F, H::Way, T>,
     hall: &mut H,
     most: usize,
     limit: u32,
     clock: &C,
-)
-    requires valid { IsValid desk.old.plan }
-    requires apart { T.trust → ⊥ }
-    requires keen { (k : ℕ) → 0 < k → T.keen k → ⊥ }
-    requires shaped { IsShapedPool B.fits }
-    requires listens { H.listens hall.old }
-    requires most { (0 < most) × (most ≤ 64) }
-    requires served { IsServed T.trust F.gives F.may_fail T.sources S.tells T.kept (IsSurePool B.fits)
-        S.files S.may_leave S.moment S.images_since desk.old held.old
-        pool.old.waiting pool.old.heard company.old.seats }
-    ensures served { KeepsServed T.trust F.gives F.may_fail T.sources S.tells T.kept (IsSurePool B.fits)
-        S.files S.may_leave S.moment S.images_since desk.old desk.new
-        held.old held.new pool.old.waiting pool.new.waiting pool.old.heard pool.new.heard
-        company.old.seats company.new.seats }
-    ensures line { pool.new.line ≡ pool.old.line }
-    ensures listens { H.listens hall.new }
-    ensures met { Meets (H.count hall.old) (H.count hall.new) (H.got hall.old)
-        (H.got hall.new) (H.given hall.old) (H.given hall.new) (H.idle_count hall.old)
-        (H.idle_count hall.new) (inside_of company.old) (inside_of company.new)
-        company.old.failed company.new.failed company.old.lost company.new.lost }
-    ensures heard { (IsWantHalt held.new.halt → ⊥) → pool.new.waiting ≡ [] }
+) -> Company<F, H::Way, T>
+    requires may { MayServe T.trust F.gives F.may_fail T.sources S.tells T.kept S.files S.may_leave
+        S.moment S.images_since B.fits T.keen T.holds T.plan T.run T.due (H.listens hall.old)
+        (H.honest hall.old) most desk.old held.old pool.old company.seats }
+    ensures served { ServedOn T.trust F.gives F.may_fail T.sources S.tells T.kept S.files S.may_leave
+        S.moment S.images_since B.fits T.holds (H.listens hall.new) (H.honest hall.new)
+        (H.count hall.old) (H.count hall.new) (H.got hall.old) (H.got hall.new)
+        (H.given hall.old) (H.given hall.new) (H.idle_count hall.old) (H.idle_count hall.new)
+        desk.old desk.new held.old held.new pool.old pool.new company result }
 {
     serve::<B, W, F, S, H, T, C>(
-        rt, alloc, desk, held, pool, company, hall, most, limit, clock,
+        rt,
+        alloc,
+        desk,
+        held,
+        pool,
+        &mut company,
+        hall,
+        most,
+        limit,
+        clock,
     );
     pool.close();
+    company
 }
 
-/// The caller's thread beside those of the runners, until all have ended.
+/// The caller's thread beside those of the runners, until all have ended. The runners have the line
+/// and the threads, and what is served here has the pool and the waits, each with terms of its own.
 fn serve_beside<
-    B: PoolTerms + Send + Sync,
+    N: PoolTerms + Send + Sync,
+    B: PoolTerms,
     W: Threads + Wait + Sync,
+    V: Wait,
     G: Gate,
     F: Commands,
     S: Site,
     H: Hall<F>,
     R: Runner<F>,
     C: Clock,
-    T: Terms,
+    T: Terms + Trust,
 >(
     rt: &W,
+    waits: &V,
     alloc: Global,
-    line: &Line<B>,
+    line: &Line<N>,
     token: &mut Token,
     desk: &mut Desk<F, S, T>,
     held: &mut Held,
     pool: &mut Pool<B>,
-    company: &mut Company<F, H::Way>,
+    company: &mut Company<F, H::Way, T>,
     hall: &mut H,
     limit: u32,
     runners: &mut [R],
@@ -291,12 +315,14 @@ fn serve_beside<
     requires some { 0 < length runners.old }
     requires token { IsPassOf line.now.reports token.old
         × (length runners.old ≤ (view token.old).parts) }
-    requires runners { Crew (MayReport F.gives F.may_fail R.tells R.sure B.fits) runners.old }
+    requires runners { Crew (MayReport F.gives F.may_fail R.tells R.sure N.fits) runners.old }
     requires valid { IsValid desk.old.plan }
-    requires apart { T.trust → ⊥ }
+    requires of { IsOf T.trust F.gives T.sources S.tells T.kept T.holds T.plan T.run T.due
+        desk.old.plan (records_of desk.old.moves) }
+    requires told { T.trust → TellsJobs T.plan (ToldOf F.gives F.may_fail B.fits) T.due }
     requires keen { (k : ℕ) → 0 < k → T.keen k → ⊥ }
     requires shaped { IsShapedPool B.fits }
-    requires listens { H.listens hall.old }
+    requires listens { IsOpen T.holds (H.listens hall.old) (H.honest hall.old) }
     requires served { IsServed T.trust F.gives F.may_fail T.sources S.tells T.kept (IsSurePool B.fits)
         S.files S.may_leave S.moment S.images_since desk.old held.old
         pool.old.waiting pool.old.heard company.old.seats }
@@ -307,12 +333,13 @@ fn serve_beside<
         (sum_by R.count runners.old) (sum_by R.count runners.new)
         (sum_by R.failures runners.old) (sum_by R.failures runners.new) }
     ensures sure { AllSure R.sure runners.old → AllSure R.sure runners.new }
+    ensures tells { (job : Job) → AllTell R.tells runners.old job → AllTell R.tells runners.new job }
     ensures served { KeepsServed T.trust F.gives F.may_fail T.sources S.tells T.kept (IsSurePool B.fits)
         S.files S.may_leave S.moment S.images_since desk.old desk.new
         held.old held.new pool.old.waiting pool.new.waiting pool.old.heard pool.new.heard
         company.old.seats company.new.seats }
     ensures line { pool.new.line ≡ pool.old.line }
-    ensures listens { H.listens hall.new }
+    ensures listens { IsOpen T.holds (H.listens hall.new) (H.honest hall.new) }
     ensures met { Meets (H.count hall.old) (H.count hall.new) (H.got hall.old)
         (H.got hall.new) (H.given hall.old) (H.given hall.new) (H.idle_count hall.old)
         (H.idle_count hall.new) (inside_of company.old) (inside_of company.new)
@@ -320,44 +347,34 @@ fn serve_beside<
     ensures heard { (IsWantHalt held.new.halt → ⊥) → pool.new.waiting ≡ [] }
 {
     let most = runners.len().min(64);
-    call_beside::<B, W, G, F, R, Desk<F, S, T>, _>(
+    let taken = replace(company, Company::new(alloc));
+    let back = call_with_beside::<N, W, G, F, R, Desk<F, S, T>, Company<F, H::Way, T>, _>(
         rt,
         line,
         token,
         runners,
         gate,
         desk,
-        &mut |desk: &mut Desk<F, S, T>|
-            requires valid { IsValid desk.old.plan }
-            requires apart { T.trust → ⊥ }
-            requires keen { (k : ℕ) → 0 < k → T.keen k → ⊥ }
-            requires shaped { IsShapedPool B.fits }
-            requires listens { H.listens hall.now }
-            requires most { (0 < most) × (most ≤ 64) }
-            requires served { IsServed T.trust F.gives F.may_fail T.sources S.tells T.kept
-                (IsSurePool B.fits) S.files S.may_leave S.moment S.images_since desk.old held.now
-                pool.now.waiting pool.now.heard company.now.seats }
-            ensures served { KeepsServed T.trust F.gives F.may_fail T.sources S.tells T.kept
-                (IsSurePool B.fits) S.files S.may_leave S.moment S.images_since desk.old desk.new
-                held.entry.now held.exit.now pool.entry.now.waiting pool.exit.now.waiting
-                pool.entry.now.heard pool.exit.now.heard company.entry.now.seats
-                company.exit.now.seats }
-            ensures line { pool.exit.now.line ≡ pool.entry.now.line }
-            ensures listens { H.listens hall.exit.now }
-            ensures met { Meets (H.count hall.entry.now) (H.count hall.exit.now)
+        taken,
+        &mut |company: Company<F, H::Way, T>, desk: &mut Desk<F, S, T>|
+            requires may { MayServe T.trust F.gives F.may_fail T.sources S.tells T.kept S.files
+                S.may_leave S.moment S.images_since B.fits T.keen T.holds T.plan T.run T.due
+                (H.listens hall.now) (H.honest hall.now) most desk.old held.now pool.now
+                company.seats }
+            ensures served { ServedOn T.trust F.gives F.may_fail T.sources S.tells T.kept S.files
+                S.may_leave S.moment S.images_since B.fits T.holds (H.listens hall.exit.now)
+                (H.honest hall.exit.now) (H.count hall.entry.now) (H.count hall.exit.now)
                 (H.got hall.entry.now) (H.got hall.exit.now) (H.given hall.entry.now)
                 (H.given hall.exit.now) (H.idle_count hall.entry.now)
-                (H.idle_count hall.exit.now) (inside_of company.entry.now)
-                (inside_of company.exit.now) company.entry.now.failed company.exit.now.failed
-                company.entry.now.lost company.exit.now.lost }
-            ensures heard { (IsWantHalt held.exit.now.halt → ⊥)
-                → pool.exit.now.waiting ≡ [] }
+                (H.idle_count hall.exit.now) desk.old desk.new held.entry.now held.exit.now
+                pool.entry.now pool.exit.now company result }
         {
-            serve_and_close::<B, W, F, S, H, T, C>(
-                rt, alloc, desk, held, pool, company, hall, most, limit, clock,
+            serve_and_close::<B, V, F, S, H, T, C>(
+                waits, alloc, desk, held, pool, company, hall, most, limit, clock,
             )
         },
     );
+    replace(company, back).end();
 }
 
 /// A run over a pool of these tickets.
@@ -370,14 +387,14 @@ fn serve_in<
     H: Hall<F>,
     R: Runner<F>,
     C: Clock,
-    T: Terms,
+    T: Terms + Trust,
 >(
     rt: &W,
     alloc: Global,
     tickets: Tickets,
     pass: Ticket,
     desk: &mut Desk<F, S, T>,
-    company: &mut Company<F, H::Way>,
+    company: &mut Company<F, H::Way, T>,
     hall: &mut H,
     limit: u32,
     runners: &mut [R],
@@ -390,10 +407,12 @@ fn serve_in<
     requires valid { IsValid desk.old.plan }
     requires fine { IsFine desk.old.trouble }
     requires idle { length (running_rules desk.old.plan (records_of desk.old.moves)) ≤ 0 }
-    requires apart { T.trust → ⊥ }
+    requires of { IsOf T.trust F.gives T.sources S.tells T.kept T.holds T.plan T.run T.due
+        desk.old.plan (records_of desk.old.moves) }
+    requires told { T.trust → TellsJobs T.plan (ToldOf F.gives F.may_fail B.fits) T.due }
     requires keen { (k : ℕ) → 0 < k → T.keen k → ⊥ }
     requires shaped { IsShapedPool B.fits }
-    requires listens { H.listens hall.old }
+    requires listens { IsOpen T.holds (H.listens hall.old) (H.honest hall.old) }
     requires seats { AreSeats desk.old.plan desk.old.options desk.old.moves company.old.seats }
     requires none { gathered company.old.seats ≡ [] }
     ensures came { ComesOn T.trust F.gives F.may_fail T.sources S.tells T.kept (IsSurePool B.fits)
@@ -401,9 +420,10 @@ fn serve_in<
         (sum_by R.count runners.old) (sum_by R.count runners.new)
         (sum_by R.failures runners.old) (sum_by R.failures runners.new) result }
     ensures sure { AllSure R.sure runners.old → AllSure R.sure runners.new }
+    ensures tells { (job : Job) → AllTell R.tells runners.old job → AllTell R.tells runners.new job }
     ensures seats { AreSeats desk.new.plan desk.new.options desk.new.moves company.new.seats }
     ensures none { gathered company.new.seats ≡ [] }
-    ensures listens { H.listens hall.new }
+    ensures listens { IsOpen T.holds (H.listens hall.new) (H.honest hall.new) }
     ensures met { Meets (H.count hall.old) (H.count hall.new) (H.got hall.old)
         (H.got hall.new) (H.given hall.old) (H.given hall.new) (H.idle_count hall.old)
         (H.idle_count hall.new) (inside_of company.old) (inside_of company.new)
@@ -414,9 +434,9 @@ fn serve_in<
     };
     let (mut pool, mut other) = Pool::new(&line, tickets, pass, token);
     let mut held = Held::new(alloc);
-    serve_beside::<B, W, G, F, S, H, R, C, T>(
-        rt, alloc, &line, &mut other, desk, &mut held, &mut pool, company, hall, limit, runners,
-        gate, clock,
+    serve_beside::<B, B, W, W, G, F, S, H, R, C, T>(
+        rt, rt, alloc, &line, &mut other, desk, &mut held, &mut pool, company, hall, limit,
+        runners, gate, clock,
     );
     pool.end(rt, other);
     finish::<B, F, S, H, T, C>(alloc, desk, held, company, hall, clock)
@@ -432,12 +452,12 @@ pub(crate) fn serve_all<
     H: Hall<F>,
     R: Runner<F>,
     C: Clock,
-    T: Terms,
+    T: Terms + Trust,
 >(
     rt: &W,
     alloc: Global,
     desk: &mut Desk<F, S, T>,
-    company: &mut Company<F, H::Way>,
+    company: &mut Company<F, H::Way, T>,
     hall: &mut H,
     limit: u32,
     runners: &mut [R],
@@ -448,9 +468,11 @@ pub(crate) fn serve_all<
     requires valid { IsValid desk.old.plan }
     requires fine { IsFine desk.old.trouble }
     requires idle { length (running_rules desk.old.plan (records_of desk.old.moves)) ≤ 0 }
-    requires apart { T.trust → ⊥ }
+    requires of { IsOf T.trust F.gives T.sources S.tells T.kept T.holds T.plan T.run T.due
+        desk.old.plan (records_of desk.old.moves) }
+    requires told { T.trust → TellsJobs T.plan (AllTell R.tells runners.old) T.due }
     requires keen { (k : ℕ) → 0 < k → T.keen k → ⊥ }
-    requires listens { H.listens hall.old }
+    requires listens { IsOpen T.holds (H.listens hall.old) (H.honest hall.old) }
     requires seats { AreSeats desk.old.plan desk.old.options desk.old.moves company.old.seats }
     requires none { gathered company.old.seats ≡ [] }
     ensures came { ComesOn T.trust F.gives F.may_fail T.sources S.tells T.kept
@@ -458,9 +480,10 @@ pub(crate) fn serve_all<
         (sum_by R.count runners.old) (sum_by R.count runners.new)
         (sum_by R.failures runners.old) (sum_by R.failures runners.new) result }
     ensures sure { AllSure R.sure runners.old → AllSure R.sure runners.new }
+    ensures tells { (job : Job) → AllTell R.tells runners.old job → AllTell R.tells runners.new job }
     ensures seats { AreSeats desk.new.plan desk.new.options desk.new.moves company.new.seats }
     ensures none { gathered company.new.seats ≡ [] }
-    ensures listens { H.listens hall.new }
+    ensures listens { IsOpen T.holds (H.listens hall.new) (H.honest hall.new) }
     ensures met { Meets (H.count hall.old) (H.count hall.new) (H.got hall.old)
         (H.got hall.new) (H.given hall.old) (H.given hall.new) (H.idle_count hall.old)
         (H.idle_count hall.new) (inside_of company.old) (inside_of company.new)

@@ -7,9 +7,11 @@ ghost use Rattle.desk.specs.State.{IsFine};
 ghost use Rattle.local_run.specs.Underway.{IsSurePool};
 ghost use Rattle.wq_run.specs.Comes.{ComesOn};
 ghost use Rattle.wq_run.specs.Seats.{AreSeats, IsManned, KeepsManned, Meets, gathered, inside_of};
+ghost use Rattle.wq_run.specs.Trusted.{IsOf, IsOpen};
 
 use crate::company::{Company, round};
 use crate::finishing::finish;
+use crate::reliance::Trust;
 use desk::{Desk, Terms};
 use links::Hall;
 use local_run::{Halt, Held};
@@ -19,26 +21,27 @@ use std::sync::Wait;
 use worker_pool::Terms as PoolTerms;
 
 /// Looks for workers until one joins or states other amounts, or nobody came so often.
-fn look<B: PoolTerms, W: Wait, F: Commands, S: Site, H: Hall<F>, T: Terms, C: Clock>(
+fn look<B: PoolTerms, W: Wait, F: Commands, S: Site, H: Hall<F>, T: Terms + Trust, C: Clock>(
     rt: &W,
     alloc: Global,
     desk: &mut Desk<F, S, T>,
     held: &mut Held,
-    company: &mut Company<F, H::Way>,
+    company: &mut Company<F, H::Way, T>,
     hall: &mut H,
     limit: u32,
     clock: &C,
 )
     requires valid { IsValid desk.old.plan }
-    requires apart { T.trust → ⊥ }
+    requires of { IsOf T.trust F.gives T.sources S.tells T.kept T.holds T.plan T.run T.due
+        desk.old.plan (records_of desk.old.moves) }
     requires keen { (k : ℕ) → 0 < k → T.keen k → ⊥ }
-    requires listens { H.listens hall.old }
+    requires listens { IsOpen T.holds (H.listens hall.old) (H.honest hall.old) }
     requires manned { IsManned T.trust F.gives F.may_fail T.sources S.tells T.kept (IsSurePool B.fits)
         S.files S.may_leave S.moment S.images_since desk.old held.old company.old.seats }
     ensures manned { KeepsManned T.trust F.gives F.may_fail T.sources S.tells T.kept (IsSurePool B.fits)
         S.files S.may_leave S.moment S.images_since desk.old desk.new
         held.old held.new company.old.seats company.new.seats }
-    ensures listens { H.listens hall.new }
+    ensures listens { IsOpen T.holds (H.listens hall.new) (H.honest hall.new) }
     ensures met { Meets (H.count hall.old) (H.count hall.new) (H.got hall.old)
         (H.got hall.new) (H.given hall.old) (H.given hall.new) (H.idle_count hall.old)
         (H.idle_count hall.new) (inside_of company.old) (inside_of company.new)
@@ -59,11 +62,19 @@ fn look<B: PoolTerms, W: Wait, F: Commands, S: Site, H: Hall<F>, T: Terms, C: Cl
 }
 
 /// Waits until a worker joins or states other amounts, or nobody came so often.
-pub(crate) fn wait<B: PoolTerms, W: Wait, F: Commands, S: Site, H: Hall<F>, T: Terms, C: Clock>(
+pub(crate) fn wait<
+    B: PoolTerms,
+    W: Wait,
+    F: Commands,
+    S: Site,
+    H: Hall<F>,
+    T: Terms + Trust,
+    C: Clock,
+>(
     rt: &W,
     alloc: Global,
     desk: &mut Desk<F, S, T>,
-    company: &mut Company<F, H::Way>,
+    company: &mut Company<F, H::Way, T>,
     hall: &mut H,
     limit: u32,
     clock: &C,
@@ -71,16 +82,17 @@ pub(crate) fn wait<B: PoolTerms, W: Wait, F: Commands, S: Site, H: Hall<F>, T: T
     requires valid { IsValid desk.old.plan }
     requires fine { IsFine desk.old.trouble }
     requires idle { length (running_rules desk.old.plan (records_of desk.old.moves)) ≤ 0 }
-    requires apart { T.trust → ⊥ }
+    requires of { IsOf T.trust F.gives T.sources S.tells T.kept T.holds T.plan T.run T.due
+        desk.old.plan (records_of desk.old.moves) }
     requires keen { (k : ℕ) → 0 < k → T.keen k → ⊥ }
-    requires listens { H.listens hall.old }
+    requires listens { IsOpen T.holds (H.listens hall.old) (H.honest hall.old) }
     requires seats { AreSeats desk.old.plan desk.old.options desk.old.moves company.old.seats }
     requires none { gathered company.old.seats ≡ [] }
     ensures came { (n m : ℕ) → ComesOn T.trust F.gives F.may_fail T.sources S.tells T.kept (IsSurePool B.fits)
         S.files S.may_leave S.moment S.images_since desk.old desk.new n n m m result }
     ensures seats { AreSeats desk.new.plan desk.new.options desk.new.moves company.new.seats }
     ensures none { gathered company.new.seats ≡ [] }
-    ensures listens { H.listens hall.new }
+    ensures listens { IsOpen T.holds (H.listens hall.new) (H.honest hall.new) }
     ensures met { Meets (H.count hall.old) (H.count hall.new) (H.got hall.old)
         (H.got hall.new) (H.given hall.old) (H.given hall.new) (H.idle_count hall.old)
         (H.idle_count hall.new) (inside_of company.old) (inside_of company.new)

@@ -2,16 +2,18 @@
 ghost use Rattle.std.specs.Prelude.{◌≡◌, ◌⊎◌, ◌++◌, ◌∷◌, [], None, OnOk};
 ghost use Rattle.local_run.specs.Underway.{HeldState, IsSurePool};
 ghost use Rattle.wq_run.specs.Seats.{IsGuest, IsUnseated, KeepsManned, Meets, inside_of, with_hand};
+ghost use Rattle.wq_run.specs.Trusted.{IsHonestGuest, IsMeant, StaysOpen};
 
 use super::Company;
 use super::hall::hand_back;
+use crate::reliance::Trust;
 use crate::seat::Seat;
 use desk::{Desk, Terms};
 use flow_types::Amounts;
 use links::{Hall, Link};
 use local_run::join;
 use outside::{Commands, Site};
-use peers::{Leave, Listened, Peer, Told};
+use peers::{Leave, Listened, Peer, Told, honest_links_were_honest};
 use std::alloc::Global;
 use worker_pool::Terms as PoolTerms;
 
@@ -34,7 +36,10 @@ fn listen<F: Commands, L: Link<F>>(
 ) -> Result<(), Leave>
     ensures session { peer.new.session ≡ peer.old.session }
     ensures going { peer.old.feed.stop ≡ None → peer.new.feed.stop ≡ None }
+    ensures honest { IsHonestGuest F.gives F.may_fail L.history L.honest peer.old
+        → OnOk result (IsHonestGuest F.gives F.may_fail L.history L.honest peer.new) }
 {
+    honest_links_were_honest::<F, L>();
     if !peer.ready() && !is_turn {
         return Ok(());
     }
@@ -51,14 +56,15 @@ fn listen<F: Commands, L: Link<F>>(
 }
 
 // What a guest offers, once its hello has come.
-fn greet<F: Commands, L: Link<F>>(
+fn greet<F: Commands, L: Link<F>, T: Trust>(
     peer: &mut Peer<F, L>,
     alloc: Global,
     is_turn: bool,
 ) -> Result<Option<Offer>, Leave>
-    requires guest { IsGuest peer.old }
-    ensures guest { OnOk result (IsGuest peer.new) }
+    requires guest { IsGuest (IsMeant T.holds F.gives F.may_fail L.history L.honest) peer.old }
+    ensures guest { OnOk result (IsGuest (IsMeant T.holds F.gives F.may_fail L.history L.honest) peer.new) }
 {
+    honest_links_were_honest::<F, L>();
     match listen(peer, alloc, is_turn) {
         Ok(()) => {}
         Err(leave) => return Err(leave),
@@ -82,15 +88,16 @@ fn greet<F: Commands, L: Link<F>>(
 }
 
 /// A guest stays one.
-fn stay<F: Commands, H: Hall<F>>(
-    company: &mut Company<F, H::Way>,
+fn stay<F: Commands, H: Hall<F>, T: Trust>(
+    company: &mut Company<F, H::Way, T>,
     alloc: Global,
     hall: &mut H,
     peer: Peer<F, H::Way>,
 )
-    requires guest { IsGuest peer }
+    requires guest { IsGuest (IsMeant T.holds F.gives F.may_fail H.Way.history H.Way.honest) peer }
     ensures seats { company.new.seats ≡ company.old.seats }
-    ensures listens { H.listens hall.old → H.listens hall.new }
+    ensures listens { StaysOpen T.holds (H.listens hall.old) (H.honest hall.old)
+        (H.listens hall.new) (H.honest hall.new) }
     ensures met { Meets (H.count hall.old) (H.count hall.new) (H.got hall.old)
         (H.got hall.new) (H.given hall.old) (H.given hall.new) (H.idle_count hall.old)
         (H.idle_count hall.new) (with_hand None (inside_of company.old))
@@ -98,23 +105,24 @@ fn stay<F: Commands, H: Hall<F>>(
         company.old.failed company.new.failed company.old.lost company.new.lost }
 {
     if let Err(failed) = company.guests.push(peer) {
-        hand_back::<F, H>(company, alloc, hall, None, failed.value.into_way());
+        hand_back::<F, H, T>(company, alloc, hall, None, failed.value.into_way());
     }
 }
 
 /// A guest that joined gets its seat. Where there is no memory for it the run can't go on. The desk
 /// gives each link a number above all before it.
-fn take_seat<F: Commands, H: Hall<F>>(
-    company: &mut Company<F, H::Way>,
+fn take_seat<F: Commands, H: Hall<F>, T: Trust>(
+    company: &mut Company<F, H::Way, T>,
     alloc: Global,
     hall: &mut H,
-    seat: Seat<F, H::Way>,
+    seat: Seat<F, H::Way, T>,
 )
     requires idle { seat.attempts ≡ [] }
     ensures seats { (company.new.seats ≡ company.old.seats)
         ⊎ (IsUnseated seat.link.0 company.old.seats
         × (company.new.seats ≡ company.old.seats ++ seat ∷ [])) }
-    ensures listens { H.listens hall.old → H.listens hall.new }
+    ensures listens { StaysOpen T.holds (H.listens hall.old) (H.honest hall.old)
+        (H.listens hall.new) (H.honest hall.new) }
     ensures met { Meets (H.count hall.old) (H.count hall.new) (H.got hall.old)
         (H.got hall.new) (H.given hall.old) (H.given hall.new) (H.idle_count hall.old)
         (H.idle_count hall.new) (with_hand None (inside_of company.old))
@@ -123,32 +131,33 @@ fn take_seat<F: Commands, H: Hall<F>>(
 {
     let link = seat.link();
     if !company.takes(link) {
-        hand_back::<F, H>(company, alloc, hall, None, seat.into_peer().into_way());
+        hand_back::<F, H, T>(company, alloc, hall, None, seat.into_peer().into_way());
         company.lost = true;
         return;
     }
     company.newest = link.0;
     if let Err(failed) = company.seats.push(seat) {
         let way = failed.value.into_peer().into_way();
-        hand_back::<F, H>(company, alloc, hall, Some(link), way);
+        hand_back::<F, H, T>(company, alloc, hall, Some(link), way);
         company.lost = true;
     }
 }
 
 /// A guest joins with what it offers. Where the desk refuses it its link is handed back.
-fn seat_guest<B: PoolTerms, F: Commands, S: Site, H: Hall<F>, T: Terms>(
-    company: &mut Company<F, H::Way>,
+fn seat_guest<B: PoolTerms, F: Commands, S: Site, H: Hall<F>, T: Terms + Trust>(
+    company: &mut Company<F, H::Way, T>,
     alloc: Global,
     desk: &mut Desk<F, S, T>,
     hall: &mut H,
     peer: Peer<F, H::Way>,
     offer: Offer,
 )
-    requires guest { IsGuest peer }
+    requires guest { IsGuest (IsMeant T.holds F.gives F.may_fail H.Way.history H.Way.honest) peer }
     ensures manned { (held : HeldState) → KeepsManned T.trust F.gives F.may_fail T.sources S.tells T.kept (IsSurePool B.fits)
         S.files S.may_leave S.moment S.images_since desk.old desk.new
         held held company.old.seats company.new.seats }
-    ensures listens { H.listens hall.old → H.listens hall.new }
+    ensures listens { StaysOpen T.holds (H.listens hall.old) (H.honest hall.old)
+        (H.listens hall.new) (H.honest hall.new) }
     ensures met { Meets (H.count hall.old) (H.count hall.new) (H.got hall.old)
         (H.got hall.new) (H.given hall.old) (H.given hall.new) (H.idle_count hall.old)
         (H.idle_count hall.new) (with_hand None (inside_of company.old))
@@ -156,15 +165,15 @@ fn seat_guest<B: PoolTerms, F: Commands, S: Site, H: Hall<F>, T: Terms>(
         company.old.failed company.new.failed company.old.lost company.new.lost }
 {
     match join::<B, F, S, T>(desk, offer.total, offer.largest, offer.cache) {
-        Ok(link) => take_seat::<F, H>(company, alloc, hall, Seat::new(alloc, peer, link)),
-        Err(_) => hand_back::<F, H>(company, alloc, hall, None, peer.into_way()),
+        Ok(link) => take_seat::<F, H, T>(company, alloc, hall, Seat::new(alloc, peer, link)),
+        Err(_) => hand_back::<F, H, T>(company, alloc, hall, None, peer.into_way()),
     }
 }
 
 /// Hears the guest that has waited longest, if there is one, and answers whether it is one no
 /// longer.
-fn greet_next<B: PoolTerms, F: Commands, S: Site, H: Hall<F>, T: Terms>(
-    company: &mut Company<F, H::Way>,
+fn greet_next<B: PoolTerms, F: Commands, S: Site, H: Hall<F>, T: Terms + Trust>(
+    company: &mut Company<F, H::Way, T>,
     alloc: Global,
     desk: &mut Desk<F, S, T>,
     hall: &mut H,
@@ -173,7 +182,8 @@ fn greet_next<B: PoolTerms, F: Commands, S: Site, H: Hall<F>, T: Terms>(
     ensures manned { (held : HeldState) → KeepsManned T.trust F.gives F.may_fail T.sources S.tells T.kept (IsSurePool B.fits)
         S.files S.may_leave S.moment S.images_since desk.old desk.new
         held held company.old.seats company.new.seats }
-    ensures listens { H.listens hall.old → H.listens hall.new }
+    ensures listens { StaysOpen T.holds (H.listens hall.old) (H.honest hall.old)
+        (H.listens hall.new) (H.honest hall.new) }
     ensures met { Meets (H.count hall.old) (H.count hall.new) (H.got hall.old)
         (H.got hall.new) (H.given hall.old) (H.given hall.new) (H.idle_count hall.old)
         (H.idle_count hall.new) (inside_of company.old) (inside_of company.new)
@@ -183,9 +193,9 @@ fn greet_next<B: PoolTerms, F: Commands, S: Site, H: Hall<F>, T: Terms>(
         return false;
     }
     let mut peer = company.guests.remove(0);
-    match greet(&mut peer, alloc, is_turn) {
+    match greet::<F, H::Way, T>(&mut peer, alloc, is_turn) {
         Ok(None) => {
-            stay::<F, H>(company, alloc, hall, peer);
+            stay::<F, H, T>(company, alloc, hall, peer);
             false
         }
         Ok(Some(offer)) => {
@@ -193,15 +203,15 @@ fn greet_next<B: PoolTerms, F: Commands, S: Site, H: Hall<F>, T: Terms>(
             true
         }
         Err(_) => {
-            hand_back::<F, H>(company, alloc, hall, None, peer.into_way());
+            hand_back::<F, H, T>(company, alloc, hall, None, peer.into_way());
             true
         }
     }
 }
 
 /// Hears each guest, and answers whether any is one no longer.
-pub(super) fn greet_all<B: PoolTerms, F: Commands, S: Site, H: Hall<F>, T: Terms>(
-    company: &mut Company<F, H::Way>,
+pub(super) fn greet_all<B: PoolTerms, F: Commands, S: Site, H: Hall<F>, T: Terms + Trust>(
+    company: &mut Company<F, H::Way, T>,
     alloc: Global,
     desk: &mut Desk<F, S, T>,
     hall: &mut H,
@@ -210,7 +220,8 @@ pub(super) fn greet_all<B: PoolTerms, F: Commands, S: Site, H: Hall<F>, T: Terms
     ensures manned { (held : HeldState) → KeepsManned T.trust F.gives F.may_fail T.sources S.tells T.kept (IsSurePool B.fits)
         S.files S.may_leave S.moment S.images_since desk.old desk.new
         held held company.old.seats company.new.seats }
-    ensures listens { H.listens hall.old → H.listens hall.new }
+    ensures listens { StaysOpen T.holds (H.listens hall.old) (H.honest hall.old)
+        (H.listens hall.new) (H.honest hall.new) }
     ensures met { Meets (H.count hall.old) (H.count hall.new) (H.got hall.old)
         (H.got hall.new) (H.given hall.old) (H.given hall.new) (H.idle_count hall.old)
         (H.idle_count hall.new) (inside_of company.old) (inside_of company.new)

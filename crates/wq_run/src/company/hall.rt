@@ -1,10 +1,12 @@
 //! Where peers come and go.
-ghost use Rattle.std.specs.Prelude.{◌≡◌, None};
-ghost use Rattle.wq_run.specs.Seats.{Meets, inside_of, with_hand};
+ghost use Rattle.std.specs.Prelude.{◌≡◌, [], IfOk, None};
+ghost use Rattle.wq_run.specs.Seats.{IsGuest, Meets, inside_of, with_hand};
+ghost use Rattle.wq_run.specs.Trusted.{IsMeant, IsOpen, StaysOpen};
 
 use super::Company;
+use crate::reliance::Trust;
 use flow_types::LinkNo;
-use links::{Came, Hall};
+use links::{Came, Hall, Link};
 use outside::{Clock, Commands, Fault};
 use peers::Peer;
 use std::alloc::Global;
@@ -20,8 +22,8 @@ const LEAST_LOOKS: u32 = 64;
 const SECOND: u64 = 1_000_000;
 
 /// Hands a link back, under its number if it joined.
-pub(super) fn hand_back<F: Commands, H: Hall<F>>(
-    company: &mut Company<F, H::Way>,
+pub(super) fn hand_back<F: Commands, H: Hall<F>, T: Trust>(
+    company: &mut Company<F, H::Way, T>,
     alloc: Global,
     hall: &mut H,
     link: Option<LinkNo>,
@@ -29,7 +31,8 @@ pub(super) fn hand_back<F: Commands, H: Hall<F>>(
 )
     ensures seats { company.new.seats ≡ company.old.seats }
     ensures guests { company.new.guests ≡ company.old.guests }
-    ensures listens { H.listens hall.old → H.listens hall.new }
+    ensures listens { StaysOpen T.holds (H.listens hall.old) (H.honest hall.old)
+        (H.listens hall.new) (H.honest hall.new) }
     ensures met { Meets (H.count hall.old) (H.count hall.new) (H.got hall.old)
         (H.got hall.new) (H.given hall.old) (H.given hall.new) (H.idle_count hall.old)
         (H.idle_count hall.new) (with_hand link (inside_of company.old))
@@ -42,40 +45,53 @@ pub(super) fn hand_back<F: Commands, H: Hall<F>>(
     }
 }
 
+// A guest at this link, over which nothing has passed yet.
+fn guest_at<F: Commands, L: Link<F>, T: Trust>(alloc: Global, way: L) -> Result<Peer<F, L>, L>
+    requires fresh { L.history way ≡ [] }
+    requires honest { T.holds → L.honest way }
+    ensures guest { IfOk result
+        (IsGuest (IsMeant T.holds F.gives F.may_fail L.history L.honest)) }
+{
+    Peer::new(alloc, way, 0)
+}
+
 /// A peer comes over this link.
-fn let_in<F: Commands, H: Hall<F>>(
-    company: &mut Company<F, H::Way>,
+fn let_in<F: Commands, H: Hall<F>, T: Trust>(
+    company: &mut Company<F, H::Way, T>,
     alloc: Global,
     hall: &mut H,
     way: H::Way,
 )
+    requires fresh { H.Way.history way ≡ [] }
+    requires honest { T.holds → H.Way.honest way }
     ensures seats { company.new.seats ≡ company.old.seats }
-    ensures listens { H.listens hall.old → H.listens hall.new }
+    ensures listens { StaysOpen T.holds (H.listens hall.old) (H.honest hall.old)
+        (H.listens hall.new) (H.honest hall.new) }
     ensures met { Meets (H.count hall.old) (H.count hall.new) (H.got hall.old)
         (H.got hall.new) (H.given hall.old) (H.given hall.new) (H.idle_count hall.old)
         (H.idle_count hall.new) (with_hand None (inside_of company.old))
         (inside_of company.new)
         company.old.failed company.new.failed company.old.lost company.new.lost }
 {
-    match Peer::new(alloc, way, 0) {
+    match guest_at::<F, H::Way, T>(alloc, way) {
         Ok(peer) => {
             if let Err(failed) = company.guests.push(peer) {
-                hand_back::<F, H>(company, alloc, hall, None, failed.value.into_way());
+                hand_back::<F, H, T>(company, alloc, hall, None, failed.value.into_way());
             }
         }
-        Err(way) => hand_back::<F, H>(company, alloc, hall, None, way),
+        Err(way) => hand_back::<F, H, T>(company, alloc, hall, None, way),
     }
 }
 
 /// Asks for the next peer, and answers whether one came.
-fn wait<F: Commands, H: Hall<F>>(
-    company: &mut Company<F, H::Way>,
+fn wait<F: Commands, H: Hall<F>, T: Trust>(
+    company: &mut Company<F, H::Way, T>,
     alloc: Global,
     hall: &mut H,
 ) -> bool
-    requires { H.listens hall.old }
+    requires { IsOpen T.holds (H.listens hall.old) (H.honest hall.old) }
     ensures seats { company.new.seats ≡ company.old.seats }
-    ensures listens { H.listens hall.new }
+    ensures listens { IsOpen T.holds (H.listens hall.new) (H.honest hall.new) }
     ensures met { Meets (H.count hall.old) (H.count hall.new) (H.got hall.old)
         (H.got hall.new) (H.given hall.old) (H.given hall.new) (H.idle_count hall.old)
         (H.idle_count hall.new) (inside_of company.old) (inside_of company.new)
@@ -83,7 +99,7 @@ fn wait<F: Commands, H: Hall<F>>(
 {
     match hall.wait(alloc) {
         Ok(Came::Link(way)) => {
-            let_in::<F, H>(company, alloc, hall, way);
+            let_in::<F, H, T>(company, alloc, hall, way);
             true
         }
         Ok(Came::Idle) => false,
@@ -100,22 +116,22 @@ fn wait<F: Commands, H: Hall<F>>(
 
 /// Lets in who has come, and answers whether anybody did. Where nobody has it is a look more that
 /// found nothing, or the turn to be idle.
-pub(super) fn meet<F: Commands, H: Hall<F>>(
-    company: &mut Company<F, H::Way>,
+pub(super) fn meet<F: Commands, H: Hall<F>, T: Trust>(
+    company: &mut Company<F, H::Way, T>,
     alloc: Global,
     hall: &mut H,
     is_turn: bool,
 ) -> bool
-    requires { H.listens hall.old }
+    requires { IsOpen T.holds (H.listens hall.old) (H.honest hall.old) }
     ensures seats { company.new.seats ≡ company.old.seats }
-    ensures listens { H.listens hall.new }
+    ensures listens { IsOpen T.holds (H.listens hall.new) (H.honest hall.new) }
     ensures met { Meets (H.count hall.old) (H.count hall.new) (H.got hall.old)
         (H.got hall.new) (H.given hall.old) (H.given hall.new) (H.idle_count hall.old)
         (H.idle_count hall.new) (inside_of company.old) (inside_of company.new)
         company.old.failed company.new.failed company.old.lost company.new.lost }
 {
     if hall.ready() || is_turn {
-        return wait::<F, H>(company, alloc, hall);
+        return wait::<F, H, T>(company, alloc, hall);
     }
     company.looks = company.looks.saturating_add(1);
     false
@@ -123,8 +139,8 @@ pub(super) fn meet<F: Commands, H: Hall<F>>(
 
 /// Whether so many looks found nothing, or so much time has gone by, that each has its turn to be
 /// idle; then both are counted anew.
-pub(super) fn has_turn<F: Commands, H: Hall<F>, C: Clock>(
-    company: &mut Company<F, H::Way>,
+pub(super) fn has_turn<F: Commands, H: Hall<F>, C: Clock, T: Trust>(
+    company: &mut Company<F, H::Way, T>,
     clock: &C,
 ) -> bool
     ensures { company.new ≡ company.old }

@@ -7,9 +7,11 @@ ghost use Rattle.desk.specs.State.{DeskState};
 ghost use Rattle.local_run.specs.Underway.{IsSurePool};
 ghost use Rattle.wq_run.specs.Seats.{IsParting, IsPartingAt, Manned, Meets, Parts, PartsAt};
 ghost use Rattle.wq_run.specs.Seats.{SeatState, inside_of, with_hand};
+ghost use Rattle.wq_run.specs.Trusted.{StaysOpen};
 
 use super::Company;
 use super::hall::hand_back;
+use crate::reliance::Trust;
 use crate::seat::Seat;
 use desk::{Desk, Terms};
 use links::Hall;
@@ -19,13 +21,13 @@ use std::alloc::Global;
 use worker_pool::Terms as PoolTerms;
 
 /// Leaves a seat that was taken out: what runs there is given up, and the link is handed back.
-pub(super) fn part<B: PoolTerms, F: Commands, S: Site, H: Hall<F>, T: Terms, C: Clock>(
-    company: &mut Company<F, H::Way>,
+pub(super) fn part<B: PoolTerms, F: Commands, S: Site, H: Hall<F>, T: Terms + Trust, C: Clock>(
+    company: &mut Company<F, H::Way, T>,
     alloc: Global,
     desk: &mut Desk<F, S, T>,
     held: &mut Held,
     hall: &mut H,
-    seat: Seat<F, H::Way>,
+    seat: Seat<F, H::Way, T>,
     clock: &C,
 )
     requires valid { IsValid desk.old.plan }
@@ -43,7 +45,8 @@ pub(super) fn part<B: PoolTerms, F: Commands, S: Site, H: Hall<F>, T: Terms, C: 
         waiting heard company.new.seats }
     ensures seats { company.new.seats ≡ company.old.seats }
     ensures guests { company.new.guests ≡ company.old.guests }
-    ensures listens { H.listens hall.old → H.listens hall.new }
+    ensures listens { StaysOpen T.holds (H.listens hall.old) (H.honest hall.old)
+        (H.listens hall.new) (H.honest hall.new) }
     ensures met { Meets (H.count hall.old) (H.count hall.new) (H.got hall.old)
         (H.got hall.new) (H.given hall.old) (H.given hall.new) (H.idle_count hall.old)
         (H.idle_count hall.new) (with_hand (Some seat.link) (inside_of company.old))
@@ -51,18 +54,18 @@ pub(super) fn part<B: PoolTerms, F: Commands, S: Site, H: Hall<F>, T: Terms, C: 
         company.old.failed company.new.failed company.old.lost company.new.lost }
 {
     let mut seat = seat;
-    seat.abandon::<B, S, T, C>(desk, held, clock);
+    seat.abandon::<B, S, C>(desk, held, clock);
     let link = seat.link();
     if desk.works() {
         leave::<B, F, S, T>(desk, link);
     }
     let way = seat.into_peer().into_way();
-    hand_back::<F, H>(company, alloc, hall, Some(link), way);
+    hand_back::<F, H, T>(company, alloc, hall, Some(link), way);
 }
 
 /// Leaves the seat at this place, if there is one.
-pub(super) fn part_at<B: PoolTerms, F: Commands, S: Site, H: Hall<F>, T: Terms, C: Clock>(
-    company: &mut Company<F, H::Way>,
+pub(super) fn part_at<B: PoolTerms, F: Commands, S: Site, H: Hall<F>, T: Terms + Trust, C: Clock>(
+    company: &mut Company<F, H::Way, T>,
     alloc: Global,
     desk: &mut Desk<F, S, T>,
     held: &mut Held,
@@ -82,7 +85,8 @@ pub(super) fn part_at<B: PoolTerms, F: Commands, S: Site, H: Hall<F>, T: Terms, 
         → Manned T.trust F.gives F.may_fail T.sources S.tells T.kept (IsSurePool B.fits)
         S.files S.may_leave S.moment S.images_since first desk.new held.new
         waiting heard company.new.seats }
-    ensures listens { H.listens hall.old → H.listens hall.new }
+    ensures listens { StaysOpen T.holds (H.listens hall.old) (H.honest hall.old)
+        (H.listens hall.new) (H.honest hall.new) }
     ensures met { Meets (H.count hall.old) (H.count hall.new) (H.got hall.old)
         (H.got hall.new) (H.given hall.old) (H.given hall.new) (H.idle_count hall.old)
         (H.idle_count hall.new) (inside_of company.old) (inside_of company.new)

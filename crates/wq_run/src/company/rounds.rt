@@ -1,14 +1,17 @@
 //! A look at all that workers tell, and the end of their service.
 ghost use Rattle.std.specs.Prelude.{◌≡◌, ◌<◌, ◌+◌, [], ℕ, false, length, true};
 ghost use Rattle.flow_types.specs.Plans.{IsValid};
+ghost use Rattle.run_history.specs.Links.{records_of};
 ghost use Rattle.local_run.specs.Underway.{IsSurePool};
 ghost use Rattle.wq_run.specs.Seats.{IsManned, KeepsManned, Meets, gathered, inside_of};
+ghost use Rattle.wq_run.specs.Trusted.{IsOf, IsOpen, StaysOpen};
 
 use super::Company;
 use super::guests::greet_all;
 use super::hall::{hand_back, has_turn, meet};
 use super::parting::part;
 use super::visits::visit_all;
+use crate::reliance::Trust;
 use desk::{Desk, Terms};
 use links::Hall;
 use local_run::Held;
@@ -20,7 +23,10 @@ use worker_pool::Terms as PoolTerms;
 const MOST_BUSY: u32 = 64;
 
 /// Whether it is time to ask who has come: where a look found nothing, and else now and then.
-fn asks_hall<F: Commands, H: Hall<F>>(company: &mut Company<F, H::Way>, did: bool) -> bool
+fn asks_hall<F: Commands, H: Hall<F>, T: Trust>(
+    company: &mut Company<F, H::Way, T>,
+    did: bool,
+) -> bool
     ensures { company.new ≡ company.old }
 {
     company.busy = company.busy.saturating_add(1);
@@ -33,8 +39,8 @@ fn asks_hall<F: Commands, H: Hall<F>>(company: &mut Company<F, H::Way>, did: boo
 
 /// Hears what workers and guests tell, and lets in who has come. It answers whether there was
 /// anything. Where there is nothing it takes a millisecond.
-pub(crate) fn round<B: PoolTerms, F: Commands, S: Site, H: Hall<F>, T: Terms, C: Clock>(
-    company: &mut Company<F, H::Way>,
+pub(crate) fn round<B: PoolTerms, F: Commands, S: Site, H: Hall<F>, T: Terms + Trust, C: Clock>(
+    company: &mut Company<F, H::Way, T>,
     alloc: Global,
     desk: &mut Desk<F, S, T>,
     held: &mut Held,
@@ -43,36 +49,37 @@ pub(crate) fn round<B: PoolTerms, F: Commands, S: Site, H: Hall<F>, T: Terms, C:
     clock: &C,
 ) -> bool
     requires valid { IsValid desk.old.plan }
-    requires apart { T.trust → ⊥ }
+    requires of { IsOf T.trust F.gives T.sources S.tells T.kept T.holds T.plan T.run T.due
+        desk.old.plan (records_of desk.old.moves) }
     requires keen { (k : ℕ) → 0 < k → T.keen k → ⊥ }
-    requires listens { H.listens hall.old }
+    requires listens { IsOpen T.holds (H.listens hall.old) (H.honest hall.old) }
     requires manned { IsManned T.trust F.gives F.may_fail T.sources S.tells T.kept (IsSurePool B.fits)
         S.files S.may_leave S.moment S.images_since desk.old held.old company.old.seats }
     ensures manned { KeepsManned T.trust F.gives F.may_fail T.sources S.tells T.kept (IsSurePool B.fits)
         S.files S.may_leave S.moment S.images_since desk.old desk.new
         held.old held.new company.old.seats company.new.seats }
-    ensures listens { H.listens hall.new }
+    ensures listens { IsOpen T.holds (H.listens hall.new) (H.honest hall.new) }
     ensures met { Meets (H.count hall.old) (H.count hall.new) (H.got hall.old)
         (H.got hall.new) (H.given hall.old) (H.given hall.new) (H.idle_count hall.old)
         (H.idle_count hall.new) (inside_of company.old) (inside_of company.new)
         company.old.failed company.new.failed company.old.lost company.new.lost }
 {
-    let is_turn = has_turn::<F, H, C>(company, clock);
+    let is_turn = has_turn::<F, H, C, T>(company, clock);
     let told = visit_all::<B, F, S, H, T, C>(
         company, alloc, desk, held, hall, is_turn, limit, clock,
     );
     let joined = greet_all::<B, F, S, H, T>(company, alloc, desk, hall, is_turn);
     let did = told || joined;
-    if !is_turn && !asks_hall::<F, H>(company, did) {
+    if !is_turn && !asks_hall::<F, H, T>(company, did) {
         return did;
     }
-    let came = meet::<F, H>(company, alloc, hall, is_turn);
+    let came = meet::<F, H, T>(company, alloc, hall, is_turn);
     did || came
 }
 
 /// Leaves the last seat, if there is one, and answers whether there was.
-fn dismiss_last<B: PoolTerms, F: Commands, S: Site, H: Hall<F>, T: Terms, C: Clock>(
-    company: &mut Company<F, H::Way>,
+fn dismiss_last<B: PoolTerms, F: Commands, S: Site, H: Hall<F>, T: Terms + Trust, C: Clock>(
+    company: &mut Company<F, H::Way, T>,
     alloc: Global,
     desk: &mut Desk<F, S, T>,
     held: &mut Held,
@@ -86,7 +93,8 @@ fn dismiss_last<B: PoolTerms, F: Commands, S: Site, H: Hall<F>, T: Terms, C: Clo
     ensures manned { KeepsManned T.trust F.gives F.may_fail T.sources S.tells T.kept (IsSurePool B.fits)
         S.files S.may_leave S.moment S.images_since desk.old desk.new
         held.old held.new company.old.seats company.new.seats }
-    ensures listens { H.listens hall.old → H.listens hall.new }
+    ensures listens { StaysOpen T.holds (H.listens hall.old) (H.honest hall.old)
+        (H.listens hall.new) (H.honest hall.new) }
     ensures met { Meets (H.count hall.old) (H.count hall.new) (H.got hall.old)
         (H.got hall.new) (H.given hall.old) (H.given hall.new) (H.idle_count hall.old)
         (H.idle_count hall.new) (inside_of company.old) (inside_of company.new)
@@ -106,8 +114,8 @@ fn dismiss_last<B: PoolTerms, F: Commands, S: Site, H: Hall<F>, T: Terms, C: Clo
 }
 
 /// Lets all workers and guests go. What runs at a worker is cancelled and given up.
-pub(crate) fn dismiss<B: PoolTerms, F: Commands, S: Site, H: Hall<F>, T: Terms, C: Clock>(
-    company: &mut Company<F, H::Way>,
+pub(crate) fn dismiss<B: PoolTerms, F: Commands, S: Site, H: Hall<F>, T: Terms + Trust, C: Clock>(
+    company: &mut Company<F, H::Way, T>,
     alloc: Global,
     desk: &mut Desk<F, S, T>,
     held: &mut Held,
@@ -123,7 +131,8 @@ pub(crate) fn dismiss<B: PoolTerms, F: Commands, S: Site, H: Hall<F>, T: Terms, 
         held.old held.new company.old.seats company.new.seats }
     ensures seats { company.new.seats ≡ [] }
     ensures guests { company.new.guests ≡ [] }
-    ensures listens { H.listens hall.old → H.listens hall.new }
+    ensures listens { StaysOpen T.holds (H.listens hall.old) (H.honest hall.old)
+        (H.listens hall.new) (H.honest hall.new) }
     ensures met { Meets (H.count hall.old) (H.count hall.new) (H.got hall.old)
         (H.got hall.new) (H.given hall.old) (H.given hall.new) (H.idle_count hall.old)
         (H.idle_count hall.new) (inside_of company.old) (inside_of company.new)
@@ -131,13 +140,13 @@ pub(crate) fn dismiss<B: PoolTerms, F: Commands, S: Site, H: Hall<F>, T: Terms, 
 {
     while dismiss_last::<B, F, S, H, T, C>(company, alloc, desk, held, hall, clock) {}
     while let Some(peer) = company.guests.pop() {
-        hand_back::<F, H>(company, alloc, hall, None, peer.into_way());
+        hand_back::<F, H, T>(company, alloc, hall, None, peer.into_way());
     }
 }
 
 /// Lets all workers and guests go, at whom nothing runs.
-pub(crate) fn disband<F: Commands, H: Hall<F>>(
-    company: &mut Company<F, H::Way>,
+pub(crate) fn disband<F: Commands, H: Hall<F>, T: Terms + Trust>(
+    company: &mut Company<F, H::Way, T>,
     alloc: Global,
     hall: &mut H,
 )
@@ -152,7 +161,7 @@ pub(crate) fn disband<F: Commands, H: Hall<F>>(
     while let Some(mut seat) = company.seats.pop() {
         seat.farewell(alloc);
         let link = seat.link();
-        hand_back::<F, H>(
+        hand_back::<F, H, T>(
             company,
             alloc,
             hall,
@@ -161,6 +170,6 @@ pub(crate) fn disband<F: Commands, H: Hall<F>>(
         );
     }
     while let Some(peer) = company.guests.pop() {
-        hand_back::<F, H>(company, alloc, hall, None, peer.into_way());
+        hand_back::<F, H, T>(company, alloc, hall, None, peer.into_way());
     }
 }

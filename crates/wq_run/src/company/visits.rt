@@ -1,11 +1,14 @@
 //! What is heard of the workers, and what they are asked.
 ghost use Rattle.std.specs.Prelude.{◌≡◌, ◌<◌, ℕ, length};
 ghost use Rattle.flow_types.specs.Plans.{IsValid};
+ghost use Rattle.run_history.specs.Links.{records_of};
 ghost use Rattle.local_run.specs.Underway.{IsSurePool};
 ghost use Rattle.wq_run.specs.Seats.{IsManned, KeepsManned, Meets, SeatsAfter, inside_of, seats_under};
+ghost use Rattle.wq_run.specs.Trusted.{IsOf, StaysOpen};
 
 use super::Company;
 use super::parting::part_at;
+use crate::reliance::Trust;
 use desk::{Desk, Terms};
 use links::Hall;
 use local_run::Held;
@@ -15,8 +18,8 @@ use std::alloc::Global;
 use worker_pool::Terms as PoolTerms;
 
 /// Hears what the worker at this place tells, and answers whether it told anything.
-fn hear_at<B: PoolTerms, F: Commands, S: Site, H: Hall<F>, T: Terms, C: Clock>(
-    company: &mut Company<F, H::Way>,
+fn hear_at<B: PoolTerms, F: Commands, S: Site, H: Hall<F>, T: Terms + Trust, C: Clock>(
+    company: &mut Company<F, H::Way, T>,
     alloc: Global,
     desk: &mut Desk<F, S, T>,
     held: &mut Held,
@@ -26,7 +29,8 @@ fn hear_at<B: PoolTerms, F: Commands, S: Site, H: Hall<F>, T: Terms, C: Clock>(
     clock: &C,
 ) -> Result<bool, Leave>
     requires valid { IsValid desk.old.plan }
-    requires apart { T.trust → ⊥ }
+    requires of { IsOf T.trust F.gives T.sources S.tells T.kept T.holds T.plan T.run T.due
+        desk.old.plan (records_of desk.old.moves) }
     requires keen { (k : ℕ) → 0 < k → T.keen k → ⊥ }
     requires manned { IsManned T.trust F.gives F.may_fail T.sources S.tells T.kept (IsSurePool B.fits)
         S.files S.may_leave S.moment S.images_since desk.old held.old company.old.seats }
@@ -43,13 +47,13 @@ fn hear_at<B: PoolTerms, F: Commands, S: Site, H: Hall<F>, T: Terms, C: Clock>(
     let Some(seat) = company.seats.get_mut(at) else {
         return Ok(false);
     };
-    seat.serve::<B, S, T, C>(alloc, desk, held, is_turn, limit, clock)
+    seat.serve::<B, S, C>(alloc, desk, held, is_turn, limit, clock)
 }
 
 /// Starts a rule at the worker at this place, if a claim gives one, and answers whether it did
 /// anything.
-fn claim_at<B: PoolTerms, F: Commands, S: Site, H: Hall<F>, T: Terms, C: Clock>(
-    company: &mut Company<F, H::Way>,
+fn claim_at<B: PoolTerms, F: Commands, S: Site, H: Hall<F>, T: Terms + Trust, C: Clock>(
+    company: &mut Company<F, H::Way, T>,
     alloc: Global,
     desk: &mut Desk<F, S, T>,
     held: &mut Held,
@@ -57,6 +61,8 @@ fn claim_at<B: PoolTerms, F: Commands, S: Site, H: Hall<F>, T: Terms, C: Clock>(
     clock: &C,
 ) -> Result<bool, Leave>
     requires valid { IsValid desk.old.plan }
+    requires of { IsOf T.trust F.gives T.sources S.tells T.kept T.holds T.plan T.run T.due
+        desk.old.plan (records_of desk.old.moves) }
     requires keen { (k : ℕ) → 0 < k → T.keen k → ⊥ }
     requires manned { IsManned T.trust F.gives F.may_fail T.sources S.tells T.kept (IsSurePool B.fits)
         S.files S.may_leave S.moment S.images_since desk.old held.old company.old.seats }
@@ -76,12 +82,12 @@ fn claim_at<B: PoolTerms, F: Commands, S: Site, H: Hall<F>, T: Terms, C: Clock>(
     let Some(seat) = company.seats.get_mut(at) else {
         return Ok(false);
     };
-    seat.claim::<B, S, T, C>(alloc, desk, held, clock)
+    seat.claim::<B, S, C>(alloc, desk, held, clock)
 }
 
 /// As `hear_at`; a link that is to be left is left.
-fn visit<B: PoolTerms, F: Commands, S: Site, H: Hall<F>, T: Terms, C: Clock>(
-    company: &mut Company<F, H::Way>,
+fn visit<B: PoolTerms, F: Commands, S: Site, H: Hall<F>, T: Terms + Trust, C: Clock>(
+    company: &mut Company<F, H::Way, T>,
     alloc: Global,
     desk: &mut Desk<F, S, T>,
     held: &mut Held,
@@ -92,14 +98,16 @@ fn visit<B: PoolTerms, F: Commands, S: Site, H: Hall<F>, T: Terms, C: Clock>(
     clock: &C,
 ) -> bool
     requires valid { IsValid desk.old.plan }
-    requires apart { T.trust → ⊥ }
+    requires of { IsOf T.trust F.gives T.sources S.tells T.kept T.holds T.plan T.run T.due
+        desk.old.plan (records_of desk.old.moves) }
     requires keen { (k : ℕ) → 0 < k → T.keen k → ⊥ }
     requires manned { IsManned T.trust F.gives F.may_fail T.sources S.tells T.kept (IsSurePool B.fits)
         S.files S.may_leave S.moment S.images_since desk.old held.old company.old.seats }
     ensures manned { KeepsManned T.trust F.gives F.may_fail T.sources S.tells T.kept (IsSurePool B.fits)
         S.files S.may_leave S.moment S.images_since desk.old desk.new
         held.old held.new company.old.seats company.new.seats }
-    ensures listens { H.listens hall.old → H.listens hall.new }
+    ensures listens { StaysOpen T.holds (H.listens hall.old) (H.honest hall.old)
+        (H.listens hall.new) (H.honest hall.new) }
     ensures met { Meets (H.count hall.old) (H.count hall.new) (H.got hall.old)
         (H.got hall.new) (H.given hall.old) (H.given hall.new) (H.idle_count hall.old)
         (H.idle_count hall.new) (inside_of company.old) (inside_of company.new)
@@ -115,8 +123,8 @@ fn visit<B: PoolTerms, F: Commands, S: Site, H: Hall<F>, T: Terms, C: Clock>(
 }
 
 /// As `claim_at`; a link that is to be left is left.
-fn ask<B: PoolTerms, F: Commands, S: Site, H: Hall<F>, T: Terms, C: Clock>(
-    company: &mut Company<F, H::Way>,
+fn ask<B: PoolTerms, F: Commands, S: Site, H: Hall<F>, T: Terms + Trust, C: Clock>(
+    company: &mut Company<F, H::Way, T>,
     alloc: Global,
     desk: &mut Desk<F, S, T>,
     held: &mut Held,
@@ -125,13 +133,16 @@ fn ask<B: PoolTerms, F: Commands, S: Site, H: Hall<F>, T: Terms, C: Clock>(
     clock: &C,
 ) -> bool
     requires valid { IsValid desk.old.plan }
+    requires of { IsOf T.trust F.gives T.sources S.tells T.kept T.holds T.plan T.run T.due
+        desk.old.plan (records_of desk.old.moves) }
     requires keen { (k : ℕ) → 0 < k → T.keen k → ⊥ }
     requires manned { IsManned T.trust F.gives F.may_fail T.sources S.tells T.kept (IsSurePool B.fits)
         S.files S.may_leave S.moment S.images_since desk.old held.old company.old.seats }
     ensures manned { KeepsManned T.trust F.gives F.may_fail T.sources S.tells T.kept (IsSurePool B.fits)
         S.files S.may_leave S.moment S.images_since desk.old desk.new
         held.old held.new company.old.seats company.new.seats }
-    ensures listens { H.listens hall.old → H.listens hall.new }
+    ensures listens { StaysOpen T.holds (H.listens hall.old) (H.honest hall.old)
+        (H.listens hall.new) (H.honest hall.new) }
     ensures met { Meets (H.count hall.old) (H.count hall.new) (H.got hall.old)
         (H.got hall.new) (H.given hall.old) (H.given hall.new) (H.idle_count hall.old)
         (H.idle_count hall.new) (inside_of company.old) (inside_of company.new)
@@ -147,8 +158,8 @@ fn ask<B: PoolTerms, F: Commands, S: Site, H: Hall<F>, T: Terms, C: Clock>(
 }
 
 /// Hears what each worker tells, and answers whether any told something.
-pub(super) fn visit_all<B: PoolTerms, F: Commands, S: Site, H: Hall<F>, T: Terms, C: Clock>(
-    company: &mut Company<F, H::Way>,
+pub(super) fn visit_all<B: PoolTerms, F: Commands, S: Site, H: Hall<F>, T: Terms + Trust, C: Clock>(
+    company: &mut Company<F, H::Way, T>,
     alloc: Global,
     desk: &mut Desk<F, S, T>,
     held: &mut Held,
@@ -158,14 +169,16 @@ pub(super) fn visit_all<B: PoolTerms, F: Commands, S: Site, H: Hall<F>, T: Terms
     clock: &C,
 ) -> bool
     requires valid { IsValid desk.old.plan }
-    requires apart { T.trust → ⊥ }
+    requires of { IsOf T.trust F.gives T.sources S.tells T.kept T.holds T.plan T.run T.due
+        desk.old.plan (records_of desk.old.moves) }
     requires keen { (k : ℕ) → 0 < k → T.keen k → ⊥ }
     requires manned { IsManned T.trust F.gives F.may_fail T.sources S.tells T.kept (IsSurePool B.fits)
         S.files S.may_leave S.moment S.images_since desk.old held.old company.old.seats }
     ensures manned { KeepsManned T.trust F.gives F.may_fail T.sources S.tells T.kept (IsSurePool B.fits)
         S.files S.may_leave S.moment S.images_since desk.old desk.new
         held.old held.new company.old.seats company.new.seats }
-    ensures listens { H.listens hall.old → H.listens hall.new }
+    ensures listens { StaysOpen T.holds (H.listens hall.old) (H.honest hall.old)
+        (H.listens hall.new) (H.honest hall.new) }
     ensures met { Meets (H.count hall.old) (H.count hall.new) (H.got hall.old)
         (H.got hall.new) (H.given hall.old) (H.given hall.new) (H.idle_count hall.old)
         (H.idle_count hall.new) (inside_of company.old) (inside_of company.new)
@@ -181,8 +194,8 @@ pub(super) fn visit_all<B: PoolTerms, F: Commands, S: Site, H: Hall<F>, T: Terms
 }
 
 /// Starts a rule at each worker for which a claim gives one, and answers whether it did anything.
-pub(crate) fn ask_all<B: PoolTerms, F: Commands, S: Site, H: Hall<F>, T: Terms, C: Clock>(
-    company: &mut Company<F, H::Way>,
+pub(crate) fn ask_all<B: PoolTerms, F: Commands, S: Site, H: Hall<F>, T: Terms + Trust, C: Clock>(
+    company: &mut Company<F, H::Way, T>,
     alloc: Global,
     desk: &mut Desk<F, S, T>,
     held: &mut Held,
@@ -190,13 +203,16 @@ pub(crate) fn ask_all<B: PoolTerms, F: Commands, S: Site, H: Hall<F>, T: Terms, 
     clock: &C,
 ) -> bool
     requires valid { IsValid desk.old.plan }
+    requires of { IsOf T.trust F.gives T.sources S.tells T.kept T.holds T.plan T.run T.due
+        desk.old.plan (records_of desk.old.moves) }
     requires keen { (k : ℕ) → 0 < k → T.keen k → ⊥ }
     requires manned { IsManned T.trust F.gives F.may_fail T.sources S.tells T.kept (IsSurePool B.fits)
         S.files S.may_leave S.moment S.images_since desk.old held.old company.old.seats }
     ensures manned { KeepsManned T.trust F.gives F.may_fail T.sources S.tells T.kept (IsSurePool B.fits)
         S.files S.may_leave S.moment S.images_since desk.old desk.new
         held.old held.new company.old.seats company.new.seats }
-    ensures listens { H.listens hall.old → H.listens hall.new }
+    ensures listens { StaysOpen T.holds (H.listens hall.old) (H.honest hall.old)
+        (H.listens hall.new) (H.honest hall.new) }
     ensures met { Meets (H.count hall.old) (H.count hall.new) (H.got hall.old)
         (H.got hall.new) (H.given hall.old) (H.given hall.new) (H.idle_count hall.old)
         (H.idle_count hall.new) (inside_of company.old) (inside_of company.new)

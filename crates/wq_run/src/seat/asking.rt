@@ -2,6 +2,7 @@
 ghost use Rattle.std.specs.Prelude.{◌≡◌, ◌≤◌, ◌<◌, ◌∷◌, ◌++◌, [], ℕ, List, None, Some, length};
 ghost use Rattle.std.specs.Prelude.{IfSome, OnErr, OnOk, false};
 ghost use Rattle.std.specs.List.{AllByRecursion};
+ghost use Rattle.flow_types.specs.declared.job.Task.{Task as TaskValue};
 ghost use Rattle.flow_types.specs.declared.messages.Message.TheVariants as messages;
 ghost use Rattle.flow_types.specs.Plans.{IsValid};
 ghost use Rattle.run_history.specs.Links.{records_of};
@@ -11,14 +12,16 @@ ghost use Rattle.desk.specs.Tasks.{task_of};
 ghost use Rattle.link_session.specs.Sessions.{is_open, started};
 ghost use Rattle.local_run.specs.Underway.{IsHeld, IsSurePool};
 ghost use Rattle.wq_run.specs.Seats.{IsAtSeat, IsInside, SeatAfter, seat_with};
+ghost use Rattle.wq_run.specs.Trusted.{IsOf, IsOwn, MayAsk, MayOpen, WasAsked};
 
 use super::Seat;
+use crate::reliance::Trust;
 use desk::{Attempt, Claim, Desk, Terms};
 use flow_types::{AttemptNo, FileNo, Key, Memory, Rows, Task};
 use links::Link;
 use local_run::{Halt, Held, claim_away, lose_away, read_away};
 use outside::{Clock, Commands, Site};
-use peers::Leave;
+use peers::{Leave, honest_links_were_honest, what_is_due_stays_due};
 use std::alloc::Global;
 use worker_pool::Terms as PoolTerms;
 
@@ -47,14 +50,9 @@ fn task_at<F: Commands, S: Site, T: Terms>(
     desk.task(alloc, attempt).ok()
 }
 
-impl<F: Commands, L: Link<F>> Seat<F, L> {
+impl<F: Commands, L: Link<F>, T: Terms + Trust> Seat<F, L, T> {
     // The task of an attempt that runs there, where memory suffices.
-    fn task<S: Site, T: Terms>(
-        &self,
-        alloc: Global,
-        desk: &Desk<F, S, T>,
-        number: AttemptNo,
-    ) -> Option<Task>
+    fn task<S: Site>(&self, alloc: Global, desk: &Desk<F, S, T>, number: AttemptNo) -> Option<Task>
         requires valid { IsValid desk.now.plan }
         requires inside { AllByRecursion (IsInside desk.now.plan) self.now.attempts }
         ensures of { IfSome result (λ task. (front : List AttemptValue) × (a : AttemptValue)
@@ -70,27 +68,53 @@ impl<F: Commands, L: Link<F>> Seat<F, L> {
 
     // Sends a content, which is no larger than a file may be.
     fn send(&mut self, alloc: Global, key: Key, content: &[u8]) -> Result<(), Leave>
+        requires due { T.holds → T.due key.file.0 ≡ Some content.now }
         ensures link { self.new.link ≡ self.old.link }
         ensures attempts { self.new.attempts ≡ self.old.attempts }
         ensures session { self.new.peer.session ≡ self.old.peer.session }
         ensures feed { self.new.peer.feed ≡ self.old.peer.feed }
+        ensures asks { (task : TaskValue) → T.holds
+            → MayAsk F.gives F.may_fail L.history L.honest T.plan T.run T.due self.old task
+            → OnOk result
+            (MayAsk F.gives F.may_fail L.history L.honest T.plan T.run T.due self.new task) }
     {
+        honest_links_were_honest::<F, L>();
+        what_is_due_stays_due();
         if content.len() > MOST_BYTES {
             return Err(Leave::Unexpected);
         }
-        self.peer.put(alloc, key, content)
+        match self.peer.put(alloc, key, content) {
+            Ok(()) => Ok(()),
+            Err(leave) => {
+                self.is_ready = false;
+                Err(leave)
+            }
+        }
     }
 
     // Asks for a task.
     fn ask(&mut self, alloc: Global, task: Task) -> Result<(), Leave>
         requires counts { HasCounts (messages.Task task) }
         requires short { length (spelling (messages.Task task)) ≤ most_body }
+        requires asks { T.holds
+            → MayAsk F.gives F.may_fail L.history L.honest T.plan T.run T.due self.old task }
         ensures link { self.new.link ≡ self.old.link }
         ensures attempts { self.new.attempts ≡ self.old.attempts }
         ensures session { self.new.peer.session ≡ self.old.peer.session }
         ensures feed { self.new.peer.feed ≡ self.old.peer.feed }
     {
-        self.peer.ask(alloc, task)
+        honest_links_were_honest::<F, L>();
+        what_is_due_stays_due();
+        match self.peer.ask(alloc, task) {
+            Ok(()) => {
+                self.is_ready = true;
+                Ok(())
+            }
+            Err(leave) => {
+                self.is_ready = false;
+                Err(leave)
+            }
+        }
     }
 
     // Opens a task at the peer, and gives the inputs that the peer lacks.
@@ -102,12 +126,20 @@ impl<F: Commands, L: Link<F>> Seat<F, L> {
         ensures ok { OnOk result
             (self.new.peer.session ≡ started self.old.peer.session task.now) }
         ensures err { OnErr result (self.new.peer.session ≡ self.old.peer.session) }
+        ensures asks { T.holds → MayOpen F.gives F.may_fail L.history L.honest T.plan T.run T.due
+            self.old task.now.attempt
+            → AllByRecursion (IsOwn T.plan T.run task.now) self.old.attempts
+            → OnOk result
+            (MayAsk F.gives F.may_fail L.history L.honest T.plan T.run T.due self.new task.now) }
     {
+        honest_links_were_honest::<F, L>();
+        self.is_ready = false;
+        self.newest = Some(task.attempt);
         self.peer.open(task)
     }
 
     // Puts a file at the peer, as it was logged. Where it can't be read the run stops.
-    fn put<B: PoolTerms, S: Site, T: Terms>(
+    fn put<B: PoolTerms, S: Site>(
         &mut self,
         alloc: Global,
         desk: &mut Desk<F, S, T>,
@@ -115,6 +147,8 @@ impl<F: Commands, L: Link<F>> Seat<F, L> {
         run: u64,
         file: FileNo,
     ) -> Result<(), Leave>
+        requires of { IsOf T.trust F.gives T.sources S.tells T.kept T.holds T.plan T.run T.due
+            desk.old.plan (records_of desk.old.moves) }
         requires at { IsAtSeat T.trust F.gives F.may_fail T.sources S.tells T.kept
             (IsSurePool B.fits) S.files S.may_leave S.moment S.images_since desk.old held.old
             self.old }
@@ -122,6 +156,10 @@ impl<F: Commands, L: Link<F>> Seat<F, L> {
             (IsSurePool B.fits) S.files S.may_leave S.moment S.images_since desk.old desk.new
             held.old held.new self.old self.new
             result }
+        ensures asks { (task : TaskValue) → T.holds
+            → MayAsk F.gives F.may_fail L.history L.honest T.plan T.run T.due self.old task
+            → OnOk result
+            (MayAsk F.gives F.may_fail L.history L.honest T.plan T.run T.due self.new task) }
     {
         if !held.is_going() {
             return Ok(());
@@ -139,7 +177,7 @@ impl<F: Commands, L: Link<F>> Seat<F, L> {
     }
 
     // Puts these files at the peer, and then asks it for the task.
-    fn provide<B: PoolTerms, S: Site, T: Terms>(
+    fn provide<B: PoolTerms, S: Site>(
         &mut self,
         alloc: Global,
         desk: &mut Desk<F, S, T>,
@@ -149,6 +187,10 @@ impl<F: Commands, L: Link<F>> Seat<F, L> {
     ) -> Result<(), Leave>
         requires counts { HasCounts (messages.Task task) }
         requires short { length (spelling (messages.Task task)) ≤ most_body }
+        requires of { IsOf T.trust F.gives T.sources S.tells T.kept T.holds T.plan T.run T.due
+            desk.old.plan (records_of desk.old.moves) }
+        requires asks { T.holds
+            → MayAsk F.gives F.may_fail L.history L.honest T.plan T.run T.due self.old task }
         requires at { IsAtSeat T.trust F.gives F.may_fail T.sources S.tells T.kept
             (IsSurePool B.fits) S.files S.may_leave S.moment S.images_since desk.old held.old
             self.old }
@@ -158,7 +200,7 @@ impl<F: Commands, L: Link<F>> Seat<F, L> {
             result }
     {
         for file in files {
-            match self.put::<B, S, T>(alloc, desk, held, task.run, *file) {
+            match self.put::<B, S>(alloc, desk, held, task.run, *file) {
                 Ok(()) => {}
                 Err(leave) => return Err(leave),
             }
@@ -170,7 +212,7 @@ impl<F: Commands, L: Link<F>> Seat<F, L> {
     }
 
     // Puts inputs of an attempt once more, and asks for its task once more.
-    pub(super) fn put_again<B: PoolTerms, S: Site, T: Terms>(
+    pub(super) fn put_again<B: PoolTerms, S: Site>(
         &mut self,
         alloc: Global,
         desk: &mut Desk<F, S, T>,
@@ -179,6 +221,10 @@ impl<F: Commands, L: Link<F>> Seat<F, L> {
         files: &[FileNo],
     ) -> Result<(), Leave>
         requires valid { IsValid desk.old.plan }
+        requires of { IsOf T.trust F.gives T.sources S.tells T.kept T.holds T.plan T.run T.due
+            desk.old.plan (records_of desk.old.moves) }
+        requires was { T.holds
+            → WasAsked F.gives F.may_fail L.history L.honest T.plan T.run T.due self.old number }
         requires at { IsAtSeat T.trust F.gives F.may_fail T.sources S.tells T.kept
             (IsSurePool B.fits) S.files S.may_leave S.moment S.images_since desk.old held.old
             self.old }
@@ -188,13 +234,13 @@ impl<F: Commands, L: Link<F>> Seat<F, L> {
             result }
     {
         match self.task(alloc, desk, number) {
-            Some(task) => self.provide::<B, S, T>(alloc, desk, held, task, files),
+            Some(task) => self.provide::<B, S>(alloc, desk, held, task, files),
             None => Err(Leave::Memory),
         }
     }
 
     // Opens the attempt of this number, which has just begun there, and asks for its task.
-    fn start<B: PoolTerms, S: Site, T: Terms>(
+    fn start<B: PoolTerms, S: Site>(
         &mut self,
         alloc: Global,
         desk: &mut Desk<F, S, T>,
@@ -202,6 +248,10 @@ impl<F: Commands, L: Link<F>> Seat<F, L> {
         number: AttemptNo,
     ) -> Result<(), Leave>
         requires valid { IsValid desk.old.plan }
+        requires of { IsOf T.trust F.gives T.sources S.tells T.kept T.holds T.plan T.run T.due
+            desk.old.plan (records_of desk.old.moves) }
+        requires opens { T.holds
+            → MayOpen F.gives F.may_fail L.history L.honest T.plan T.run T.due self.old number }
         requires fresh { is_open number self.old.peer.session.attempts ≡ false }
         requires at { IsAtSeat T.trust F.gives F.may_fail T.sources S.tells T.kept
             (IsSurePool B.fits) S.files S.may_leave S.moment S.images_since desk.old held.old
@@ -216,7 +266,7 @@ impl<F: Commands, L: Link<F>> Seat<F, L> {
             return Ok(());
         };
         match self.open(&task) {
-            Ok(files) => self.provide::<B, S, T>(alloc, desk, held, task, files.as_slice()),
+            Ok(files) => self.provide::<B, S>(alloc, desk, held, task, files.as_slice()),
             Err(_) => {
                 held.stop(Halt::Memory);
                 Ok(())
@@ -224,8 +274,9 @@ impl<F: Commands, L: Link<F>> Seat<F, L> {
         }
     }
 
-    // Hands an attempt out that has just begun there.
-    fn hand_out<B: PoolTerms, S: Site, T: Terms, C: Clock>(
+    // Hands an attempt out that has just begun there. Numbers of attempts only grow: with one that
+    // isn't new nothing is asked, since its task could be taken for another's.
+    fn hand_out<B: PoolTerms, S: Site, C: Clock>(
         &mut self,
         alloc: Global,
         desk: &mut Desk<F, S, T>,
@@ -234,6 +285,8 @@ impl<F: Commands, L: Link<F>> Seat<F, L> {
         clock: &C,
     ) -> Result<(), Leave>
         requires valid { IsValid desk.old.plan }
+        requires of { IsOf T.trust F.gives T.sources S.tells T.kept T.holds T.plan T.run T.due
+            desk.old.plan (records_of desk.old.moves) }
         requires keen { (k : ℕ) → 0 < k → T.keen k → ⊥ }
         requires fresh { is_open attempt.number self.old.peer.session.attempts ≡ false }
         requires at { IsAtSeat T.trust F.gives F.may_fail T.sources S.tells T.kept
@@ -245,8 +298,14 @@ impl<F: Commands, L: Link<F>> Seat<F, L> {
             result }
     {
         let number = attempt.number();
+        let is_new = self.is_new(number);
         match self.hold(attempt) {
-            Ok(()) => self.start::<B, S, T>(alloc, desk, held, number),
+            Ok(()) => {
+                if !is_new {
+                    return Err(Leave::Unexpected);
+                }
+                self.start::<B, S>(alloc, desk, held, number)
+            }
             Err(back) => {
                 let _ = lose_away::<B, F, S, T>(desk, back, clock.now());
                 held.stop(Halt::Memory);
@@ -256,7 +315,7 @@ impl<F: Commands, L: Link<F>> Seat<F, L> {
     }
 
     /// Starts a rule there, if a claim for its link gives one; it answers whether it did anything.
-    pub fn claim<B: PoolTerms, S: Site, T: Terms, C: Clock>(
+    pub fn claim<B: PoolTerms, S: Site, C: Clock>(
         &mut self,
         alloc: Global,
         desk: &mut Desk<F, S, T>,
@@ -264,6 +323,8 @@ impl<F: Commands, L: Link<F>> Seat<F, L> {
         clock: &C,
     ) -> Result<bool, Leave>
         requires valid { IsValid desk.old.plan }
+        requires of { IsOf T.trust F.gives T.sources S.tells T.kept T.holds T.plan T.run T.due
+            desk.old.plan (records_of desk.old.moves) }
         requires keen { (k : ℕ) → 0 < k → T.keen k → ⊥ }
         requires going { held.old.halt ≡ None }
         requires at { IsAtSeat T.trust F.gives F.may_fail T.sources S.tells T.kept
@@ -276,7 +337,7 @@ impl<F: Commands, L: Link<F>> Seat<F, L> {
     {
         match claim_away::<B, F, S, T>(desk, self.link(), clock.now()) {
             Ok(Claim::Taken(attempt)) => {
-                match self.hand_out::<B, S, T, C>(alloc, desk, held, attempt, clock) {
+                match self.hand_out::<B, S, C>(alloc, desk, held, attempt, clock) {
                     Ok(()) => Ok(true),
                     Err(leave) => Err(leave),
                 }

@@ -1,11 +1,14 @@
 //! How attempts at a worker end.
 ghost use Rattle.std.specs.Prelude.{◌≡◌, ◌++◌, ◌∷◌, ◌<◌, ◌+◌, [], ℕ, List, None};
-ghost use Rattle.std.specs.Prelude.{Option, false, length};
+ghost use Rattle.std.specs.Prelude.{Option, Some, false, length, slice_get};
 ghost use Rattle.std.specs.List.{AllByRecursion};
 ghost use Rattle.flow_types.specs.declared.job.Start.{Start as StartValue};
+ghost use Rattle.flow_types.specs.declared.plan.Rule.{Rule};
 ghost use Rattle.flow_types.specs.Plans.{IsValid};
+ghost use Rattle.flow_types.specs.Serial.{job_of, serial};
 ghost use Rattle.run_history.specs.Links.{records_of};
 ghost use Rattle.worker_pool.specs.declared.hand.Tally.{Tally};
+ghost use Rattle.worker_pool.specs.Courses.{EndsAsTold};
 ghost use Rattle.desk.specs.declared.attempt.Attempt.{Attempt as AttemptValue};
 ghost use Rattle.desk.specs.State.{DeskState, IsFine};
 ghost use Rattle.link_session.specs.Sessions.{is_open};
@@ -14,8 +17,10 @@ ghost use Rattle.local_run.specs.Underway.{AwayState, IsHeld, IsSurePool, RunsAt
 ghost use Rattle.local_run.specs.Underway.{halt_after};
 ghost use Rattle.wq_run.specs.Seats.{AtPlace, IsAtPlace, IsAtSeat, KeepsSeat, MayEnd, MayEndAs};
 ghost use Rattle.wq_run.specs.Seats.{Stays};
+ghost use Rattle.wq_run.specs.Trusted.{EndsDue};
 
 use super::Seat;
+use crate::reliance::Trust;
 use desk::{Attempt, Desk, Terms};
 use flow_types::{AttemptNo, Outcome};
 use links::Link;
@@ -36,7 +41,10 @@ fn end_away<B: PoolTerms, F: Commands, S: Site, T: Terms>(
         attempt }
     requires beyond { 0 < attempt.link.0 }
     requires fits { MayEnd desk.old.plan attempt.rule.0 outcome }
-    requires apart { T.trust → ⊥ }
+    requires honest { T.trust
+        → (row : Rule) → slice_get desk.old.plan.rules attempt.rule.0 ≡ Some row
+        → EndsAsTold F.gives F.may_fail
+        (job_of desk.old.plan row (serial desk.old.plan F.gives T.sources)) outcome }
     requires keen { (k : ℕ) → 0 < k → T.keen k → ⊥ }
     ensures underway { (away : AwayState) (front back : List AttemptValue) (first : DeskState S)
         (held : List AttemptValue) (waiting : List StartValue) (heard : Tally)
@@ -57,9 +65,9 @@ fn end_away<B: PoolTerms, F: Commands, S: Site, T: Terms>(
     }
 }
 
-impl<F: Commands, L: Link<F>> Seat<F, L> {
+impl<F: Commands, L: Link<F>, T: Terms + Trust> Seat<F, L, T> {
     // Closes the attempt of this number, which is no longer open at the peer.
-    pub(super) fn close<B: PoolTerms, S: Site, T: Terms, C: Clock>(
+    pub(super) fn close<B: PoolTerms, S: Site, C: Clock>(
         &mut self,
         desk: &mut Desk<F, S, T>,
         held: &mut Held,
@@ -68,7 +76,8 @@ impl<F: Commands, L: Link<F>> Seat<F, L> {
         clock: &C,
     )
         requires valid { IsValid desk.old.plan }
-        requires apart { T.trust → ⊥ }
+        requires honest { T.trust → AllByRecursion (EndsDue desk.old.plan F.gives F.may_fail
+            (serial desk.old.plan F.gives T.sources) number outcome) self.old.attempts }
         requires keen { (k : ℕ) → 0 < k → T.keen k → ⊥ }
         requires at { IsAtSeat T.trust F.gives F.may_fail T.sources S.tells T.kept
             (IsSurePool B.fits) S.files S.may_leave S.moment S.images_since desk.old held.old
@@ -89,7 +98,7 @@ impl<F: Commands, L: Link<F>> Seat<F, L> {
     }
 
     /// Gives up all that runs there. The peer isn't told.
-    pub fn abandon<B: PoolTerms, S: Site, T: Terms, C: Clock>(
+    pub fn abandon<B: PoolTerms, S: Site, C: Clock>(
         &mut self,
         desk: &mut Desk<F, S, T>,
         held: &mut Held,
@@ -124,6 +133,7 @@ impl<F: Commands, L: Link<F>> Seat<F, L> {
         ensures link { self.new.link ≡ self.old.link }
         ensures attempts { self.new.attempts ≡ self.old.attempts }
     {
+        self.is_ready = false;
         for attempt in &self.attempts {
             let _ = self.peer.cancel(alloc, attempt.number());
         }

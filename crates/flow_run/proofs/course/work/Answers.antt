@@ -1,4 +1,4 @@
-use Rattle.std.proofs.Common.{[], Result, refl, subst, sym}
+use Rattle.std.proofs.Common.{◌≡◌, ◌∙◌, [], Result, refl, rules, subst, sym, true}
 use Rattle.std.specs.Prelude.{OnOk}
 use Rattle.run_history.specs.declared.answers.Check.{Check}
 use Rattle.run_history.specs.Links.{records_of}
@@ -12,6 +12,9 @@ use Rattle.wq_run.specs.Ends.{LosesOnLinks}
 use Rattle.flow_run.proofs.Losses.{loses_away}
 use Rattle.flow_run.proofs.Stops.{back_same}
 use Rattle.flow_run.proofs.course.work.Goals as goal
+
+pub work-requires-clause-honest : goal.work-requires-clause-honest
+work-requires-clause-honest g c κs within holds = let is : c.args.wq ≡ true = search rules in c.requires.honest (c.requires.of.trusts holds) (sym c.requires.asked ∙ is)
 
 pub returns-else-wq-clause-back : goal.returns-else-wq-clause-back
 returns-else-wq-clause-back g c whole = back_same (g.H.Hall.got c.args.hall.now) (g.H.Hall.given c.args.hall.now)

@@ -27,12 +27,12 @@ returns-in-Ok-clause-moments g c told H spelled resumable image left =
     (c.recover.ensures.any_moment told) (c.run.ensures.kept told (keeping g.S.Site.may_leave g.S.Site.moment g.S.Site.images_since c.args.plan c.args.name c.in-Ok.log.name c.in-Ok.ensures.named.same_name c.in-Ok.history H (c.in-Ok.ensures.exact told H spelled) (g.S.Site.files c.args.site) c.args.site c.recover.new.site Held c.requires.apart c.files_spell_one_list.ensures.one ((g.met.S.Site g.world.𝓛 g.world.𝓜 g.world.𝓡 ((λ s x. x), (λ x. x), (λ x. x), λ x. x)).reads_image told c.args.site c.args.name) (c.in-Ok.ensures.answer told) (c.in-Ok.ensures.stands told).at.each (c.recover.ensures.crash told) resumable) image left)
 
 pub returns-in-Ok-clause-contents : goal.returns-in-Ok-clause-contents
-returns-in-Ok-clause-contents g c alone told H spelled resumable tells image left =
+returns-in-Ok-clause-contents g c met told H spelled resumable tells image left =
     let same : (read_sources c.args.plan (g.S.Site.files c.recover.new.site)) ≡ (read_sources c.args.plan (g.S.Site.files c.args.site)) = λ i f. (c.recover.ensures.others told (file_name c.args.plan f) (c.requires.apart f)) i in
     each_moment g.S.Site.may_leave g.S.Site.moment g.S.Site.images_since c.args.plan c.args.name c.in-Ok.log.name c.in-Ok.ensures.named.same_name c.in-Ok.history H (c.in-Ok.ensures.exact told H spelled) (g.S.Site.files c.args.site) c.args.site c.recover.new.site (SerialFits g.F.Commands.gives (read_sources c.args.plan (g.S.Site.files c.args.site))) c.run.result.records (IsCutRun c.run.result.how) g.B.Born.born image (c.requires.later told)
     (c.recover.ensures.any_moment told)
     (subst (λ (s : Contents). g.S.Site.images_since c.recover.new.site g.B.Born.born image ⊎ WasKept (SerialFits g.F.Commands.gives s) c.args.plan c.in-Ok.log.name (length c.in-Ok.history) c.run.result.records (IsCutRun c.run.result.how) image) same
-    (c.run.ensures.serial alone told
+    (c.run.ensures.serial met told
     (subst (λ (s : Contents). IsStanding g.F.Commands.gives s c.args.plan c.in-Ok.log.name c.in-Ok.history (g.S.Site.may_leave c.recover.new.site)) (sym same) (keeping g.S.Site.may_leave g.S.Site.moment g.S.Site.images_since c.args.plan c.args.name c.in-Ok.log.name c.in-Ok.ensures.named.same_name c.in-Ok.history H (c.in-Ok.ensures.exact told H spelled) (g.S.Site.files c.args.site) c.args.site c.recover.new.site (SerialFits g.F.Commands.gives (read_sources c.args.plan (g.S.Site.files c.args.site))) c.requires.apart c.files_spell_one_list.ensures.one ((g.met.S.Site g.world.𝓛 g.world.𝓜 g.world.𝓡 ((λ s x. x), (λ x. x), (λ x. x), λ x. x)).reads_image told c.args.site c.args.name) (c.in-Ok.ensures.answer told) (c.in-Ok.ensures.stands told).at.each (c.recover.ensures.crash told) resumable))
     (subst (λ (s : Contents). TellsJobs c.args.plan (AllTell g.R.Runner.tells c.args.runners.now) (serial c.args.plan g.F.Commands.gives s)) (sym same) tells) image left))
 
@@ -123,11 +123,11 @@ returns-in-Ok-clause-quiet g c told early m =
     (c.files_spell_one_list.ensures.one c.in-Ok.history [] (g.S.Site.files c.args.site c.args.name) (c.in-Ok.ensures.answer told) (inl unbegun))) m
 
 pub returns-in-Ok-clause-honest : goal.returns-in-Ok-clause-honest
-returns-in-Ok-clause-honest g c alone told H spelled resumable tells =
+returns-in-Ok-clause-honest g c met told H spelled resumable tells =
     let same : (read_sources c.args.plan (g.S.Site.files c.recover.new.site)) ≡ (read_sources c.args.plan (g.S.Site.files c.args.site)) = λ i f. (c.recover.ensures.others told (file_name c.args.plan f) (c.requires.apart f)) i in
     subst (λ (G : List Record). Adds (Unit {0}) g.F.Commands.gives g.F.Commands.may_fail (read_sources c.args.plan (g.S.Site.files c.args.site)) c.args.plan G c.run.result.records) (c.in-Ok.ensures.exact told H spelled)
     (subst (λ (s : Contents). Adds (Unit {0}) g.F.Commands.gives g.F.Commands.may_fail s c.args.plan c.in-Ok.history c.run.result.records) same
-    (c.run.ensures.more alone told
+    (c.run.ensures.more met told
     (subst (λ (s : Contents). IsStanding g.F.Commands.gives s c.args.plan c.in-Ok.log.name c.in-Ok.history (g.S.Site.may_leave c.recover.new.site)) (sym same) (keeping g.S.Site.may_leave g.S.Site.moment g.S.Site.images_since c.args.plan c.args.name c.in-Ok.log.name c.in-Ok.ensures.named.same_name c.in-Ok.history H (c.in-Ok.ensures.exact told H spelled) (g.S.Site.files c.args.site) c.args.site c.recover.new.site (SerialFits g.F.Commands.gives (read_sources c.args.plan (g.S.Site.files c.args.site))) c.requires.apart c.files_spell_one_list.ensures.one ((g.met.S.Site g.world.𝓛 g.world.𝓜 g.world.𝓡 ((λ s x. x), (λ x. x), (λ x. x), λ x. x)).reads_image told c.args.site c.args.name) (c.in-Ok.ensures.answer told) (c.in-Ok.ensures.stands told).at.each (c.recover.ensures.crash told) resumable))
     (subst (λ (s : Contents). TellsJobs c.args.plan (AllTell g.R.Runner.tells c.args.runners.now) (serial c.args.plan g.F.Commands.gives s)) (sym same) tells)))
 

@@ -1,4 +1,4 @@
-use Rattle.std.proofs.Common.{◌≡◌, ◌∙◌, arith, false, length, refl, sym, true≢false}
+use Rattle.std.proofs.Common.{◌≡◌, ◌∙◌, arith, false, length, refl, sym, true, true≢false}
 use Rattle.std.specs.Prelude.{sum_by}
 use Rattle.flow_types.specs.Serial.{serial}
 use Rattle.desk.specs.Kept.{Fits}
@@ -20,13 +20,16 @@ run_by-requires-clause-kept g c κs within told kept image is =
     × IsKeeping c.args.plan c.args.log.name c.args.history (g.S.Site.may_leave c.args.site)
     × IsStanding g.F.Commands.gives (read_sources c.args.plan (g.S.Site.files c.args.site)) c.args.plan c.args.log.name c.args.history (g.S.Site.may_leave c.args.site)
     × TellsJobs c.args.plan (AllTell g.R.Runner.tells c.args.runners.now) (serial c.args.plan g.F.Commands.gives (read_sources c.args.plan (g.S.Site.files c.args.site)))
-    × (c.args.options.wq ≡ false)) g.F.Commands.gives (read_sources c.args.plan (g.S.Site.files c.args.site)) c.args.plan c.args.log.name c.args.history (g.S.Site.may_leave c.args.site) (λ trusted. trusted.2) kept image is
+    × (c.args.options.wq ≡ true → g.H.Hall.honest c.args.hall.now)) g.F.Commands.gives (read_sources c.args.plan (g.S.Site.files c.args.site)) c.args.plan c.args.log.name c.args.history (g.S.Site.may_leave c.args.site) (λ trusted. trusted.2) kept image is
 
 pub run_by-requires-clause-sources : goal.run_by-requires-clause-sources
 run_by-requires-clause-sources g c κs within told kept trusted empty f is = refl
 
-pub run_by-requires-clause-here : goal.run_by-requires-clause-here
-run_by-requires-clause-here g c κs within trusted = trusted.4
+pub run_by-requires-clause-relied : goal.run_by-requires-clause-relied
+run_by-requires-clause-relied g c κs within = record { relies = λ trusted. trusted; trusts = λ trusted. trusted; plan_is = refl; run_is = refl; due_is = refl }
+
+pub run_by-requires-clause-honest : goal.run_by-requires-clause-honest
+run_by-requires-clause-honest g c κs within trusted = trusted.4
 
 pub run_by-requires-clause-keen : goal.run_by-requires-clause-keen
 run_by-requires-clause-keen g c κs within link beyond is = absurd (let none : link ≡ 0 = is in omega (arith, beyond, none))
@@ -40,7 +43,7 @@ returns-clause-kept g c told keeping image left =
     × IsKeeping c.args.plan c.args.log.name c.args.history (g.S.Site.may_leave c.args.site)
     × IsStanding g.F.Commands.gives (read_sources c.args.plan (g.S.Site.files c.args.site)) c.args.plan c.args.log.name c.args.history (g.S.Site.may_leave c.args.site)
     × TellsJobs c.args.plan (AllTell g.R.Runner.tells c.args.runners.now) (serial c.args.plan g.F.Commands.gives (read_sources c.args.plan (g.S.Site.files c.args.site)))
-    × (c.args.options.wq ≡ false)) g.F.Commands.gives (read_sources c.args.plan (g.S.Site.files c.args.site))) Held c.args.plan c.args.log.name (λ f content file fit. fit.0) (g.S.Site.images_since c.args.site g.B.Born.born image) (length c.args.history) c.run_by.result.records (IsCutRun c.run_by.result.how) image
+    × (c.args.options.wq ≡ true → g.H.Hall.honest c.args.hall.now)) g.F.Commands.gives (read_sources c.args.plan (g.S.Site.files c.args.site))) Held c.args.plan c.args.log.name (λ f content file fit. fit.0) (g.S.Site.images_since c.args.site g.B.Born.born image) (length c.args.history) c.run_by.result.records (IsCutRun c.run_by.result.how) image
     (c.run_by.ensures.kept told keeping image left)
 
 pub returns-clause-now : goal.returns-clause-now
@@ -49,25 +52,25 @@ returns-clause-now g c told keeping whole image now =
     × IsKeeping c.args.plan c.args.log.name c.args.history (g.S.Site.may_leave c.args.site)
     × IsStanding g.F.Commands.gives (read_sources c.args.plan (g.S.Site.files c.args.site)) c.args.plan c.args.log.name c.args.history (g.S.Site.may_leave c.args.site)
     × TellsJobs c.args.plan (AllTell g.R.Runner.tells c.args.runners.now) (serial c.args.plan g.F.Commands.gives (read_sources c.args.plan (g.S.Site.files c.args.site)))
-    × (c.args.options.wq ≡ false)) g.F.Commands.gives (read_sources c.args.plan (g.S.Site.files c.args.site))) Held c.args.plan c.args.log.name (λ f content file fit. fit.0) c.run_by.result.records image (c.run_by.ensures.now told keeping whole image now)
+    × (c.args.options.wq ≡ true → g.H.Hall.honest c.args.hall.now)) g.F.Commands.gives (read_sources c.args.plan (g.S.Site.files c.args.site))) Held c.args.plan c.args.log.name (λ f content file fit. fit.0) c.run_by.result.records image (c.run_by.ensures.now told keeping whole image now)
 
 pub returns-clause-serial : goal.returns-clause-serial
-returns-clause-serial g c alone told standing tells image left =
+returns-clause-serial g c honest told standing tells image left =
     let keeping = standing_keeps g.F.Commands.gives (read_sources c.args.plan (g.S.Site.files c.args.site)) c.args.plan c.args.log.name c.args.history (g.S.Site.may_leave c.args.site) standing in
     was_fits (Fits (g.S.Site.tells
     × IsKeeping c.args.plan c.args.log.name c.args.history (g.S.Site.may_leave c.args.site)
     × IsStanding g.F.Commands.gives (read_sources c.args.plan (g.S.Site.files c.args.site)) c.args.plan c.args.log.name c.args.history (g.S.Site.may_leave c.args.site)
     × TellsJobs c.args.plan (AllTell g.R.Runner.tells c.args.runners.now) (serial c.args.plan g.F.Commands.gives (read_sources c.args.plan (g.S.Site.files c.args.site)))
-    × (c.args.options.wq ≡ false)) g.F.Commands.gives (read_sources c.args.plan (g.S.Site.files c.args.site))) (SerialFits g.F.Commands.gives (read_sources c.args.plan (g.S.Site.files c.args.site))) c.args.plan c.args.log.name (λ f content file fit. (fit.0, fit.1 (told, keeping, standing, tells, alone))) (g.S.Site.images_since c.args.site g.B.Born.born image)
+    × (c.args.options.wq ≡ true → g.H.Hall.honest c.args.hall.now)) g.F.Commands.gives (read_sources c.args.plan (g.S.Site.files c.args.site))) (SerialFits g.F.Commands.gives (read_sources c.args.plan (g.S.Site.files c.args.site))) c.args.plan c.args.log.name (λ f content file fit. (fit.0, fit.1 (told, keeping, standing, tells, honest))) (g.S.Site.images_since c.args.site g.B.Born.born image)
     (length c.args.history) c.run_by.result.records (IsCutRun c.run_by.result.how) image (c.run_by.ensures.kept told keeping image left)
 
 pub returns-clause-more : goal.returns-clause-more
-returns-clause-more g c alone told standing tells =
+returns-clause-more g c honest told standing tells =
     adds_always (g.S.Site.tells
     × IsKeeping c.args.plan c.args.log.name c.args.history (g.S.Site.may_leave c.args.site)
     × IsStanding g.F.Commands.gives (read_sources c.args.plan (g.S.Site.files c.args.site)) c.args.plan c.args.log.name c.args.history (g.S.Site.may_leave c.args.site)
     × TellsJobs c.args.plan (AllTell g.R.Runner.tells c.args.runners.now) (serial c.args.plan g.F.Commands.gives (read_sources c.args.plan (g.S.Site.files c.args.site)))
-    × (c.args.options.wq ≡ false)) g.F.Commands.gives g.F.Commands.may_fail (read_sources c.args.plan (g.S.Site.files c.args.site)) c.args.plan c.args.history c.run_by.result.records (told, standing_keeps g.F.Commands.gives (read_sources c.args.plan (g.S.Site.files c.args.site)) c.args.plan c.args.log.name c.args.history (g.S.Site.may_leave c.args.site) standing, standing, tells, alone) c.run_by.ensures.more
+    × (c.args.options.wq ≡ true → g.H.Hall.honest c.args.hall.now)) g.F.Commands.gives g.F.Commands.may_fail (read_sources c.args.plan (g.S.Site.files c.args.site)) c.args.plan c.args.history c.run_by.result.records (told, standing_keeps g.F.Commands.gives (read_sources c.args.plan (g.S.Site.files c.args.site)) c.args.plan c.args.log.name c.args.history (g.S.Site.may_leave c.args.site) standing, standing, tells, honest) c.run_by.ensures.more
 
 pub returns-clause-grows : goal.returns-clause-grows
 returns-clause-grows g c = (c.run_by.ensures.more.more, c.run_by.ensures.more.are)
@@ -88,4 +91,4 @@ returns-clause-completes g c told standing tells here fit room free sure stood =
     all_done c.args.options.limit (run_fault c.args.plan c.args.options c.args.history (g.S.Site.files c.args.site)) c.run_by.result.how (g.S.Site.count c.args.site) (g.S.Site.count c.run_by.result.site)
     (sum_by g.R.Runner.count c.args.runners.now) (sum_by g.R.Runner.count c.run_by.new.runners) (c.run_by.ensures.starts told) free (c.run_by.ensures.whole told keeping) (c.run_by.ensures.sure here.here sure) c.run_by.ensures.causes stood
     (λ is. true≢false (sym (c.run_by.ensures.hall is).0 ∙ here.here))
-    (c.run_by.ensures.completes here told keeping (told, keeping, standing, tells, here.here) fit room sure)
+    (c.run_by.ensures.completes here told keeping (told, keeping, standing, tells, (λ is. absurd (true≢false (sym is ∙ here.here)))) fit room sure)

@@ -7,7 +7,7 @@ use Rattle.run_history.specs.Links.{records_of}
 use Rattle.desk.proofs.Others.{then_stays}
 use Rattle.flow_types.specs.declared.plan.Plan.{Plan}
 use Rattle.flow_types.specs.Plans.{IsValid}
-use Rattle.flow_types.specs.Serial.{serial}
+use Rattle.flow_types.specs.Serial.{Contents, serial}
 use Rattle.run_history.specs.Storage.{running_rules}
 use Rattle.desk.specs.Kept.{Fits, IsLegal}
 use Rattle.desk.specs.declared.answers.StartFault.{StartFault}
@@ -30,6 +30,7 @@ use Rattle.wq_run.specs.Ends.{EndsWaiting, LosesOnLinks}
 use Rattle.flow_run.specs.Places.{PlacedBy}
 use Rattle.flow_run.proofs.Losses.{loses_begun}
 use Rattle.flow_run.proofs.Placed.{placed_none}
+use Rattle.flow_run.proofs.Reliance.{of_begun}
 use Rattle.flow_run.proofs.Stops.{back_same}
 use Rattle.flow_run.proofs.runs.run_by.Goals as goal
 
@@ -41,6 +42,17 @@ run_desk-requires-clause-fine g c κs within = (begun g.S.Site.count c.args.plan
 
 pub run_desk-requires-clause-idle : goal.run_desk-requires-clause-idle
 run_desk-requires-clause-idle g c κs within = (begun g.S.Site.count c.args.plan c.args.options c.args.log.name c.args.history c.now.result g.S.Site.tells (g.S.Site.files c.args.site) c.args.site g.F.Commands.may_fail (serial c.args.plan g.F.Commands.gives g.T.Terms.sources) c.in-Ok.desk c.in-Ok.ensures.reply).idle
+
+pub run_desk-requires-clause-of : goal.run_desk-requires-clause-of
+run_desk-requires-clause-of g c κs within =
+    of_begun (g.S.Site.count c.args.site) g.T.Terms.trust g.F.Commands.gives g.F.Commands.may_fail g.T.Terms.sources g.S.Site.tells g.T.Terms.kept g.T.Trust.holds g.T.Trust.plan g.T.Trust.run g.T.Trust.due c.args.plan c.args.options c.args.log.name c.args.history c.in-Ok.desk
+    (begun g.S.Site.count c.args.plan c.args.options c.args.log.name c.args.history c.now.result g.S.Site.tells (g.S.Site.files c.args.site) c.args.site g.F.Commands.may_fail (serial c.args.plan g.F.Commands.gives g.T.Terms.sources) c.in-Ok.desk c.in-Ok.ensures.reply)
+    (λ trusted. ((c.requires.base trusted).0, (c.requires.base trusted).1)) c.requires.relied
+
+pub run_desk-requires-clause-told : goal.run_desk-requires-clause-told
+run_desk-requires-clause-told g c κs within trusted =
+    subst (λ (P : Plan). TellsJobs P (AllTell g.R.Runner.tells c.args.runners.now) g.T.Trust.due) c.requires.relied.plan_is
+    (subst (λ (due : Contents). TellsJobs c.args.plan (AllTell g.R.Runner.tells c.args.runners.now) due) c.requires.relied.due_is (c.requires.base trusted).2)
 
 pub run_desk-requires-clause-base : goal.run_desk-requires-clause-base
 run_desk-requires-clause-base g c κs within trusted =
@@ -113,10 +125,10 @@ run_desk-requires-clause-asked g c κs within =
     let b : IsBegun (g.S.Site.count c.args.site) c.args.plan c.args.options c.args.log.name c.args.history g.F.Commands.may_fail (serial c.args.plan g.F.Commands.gives g.T.Terms.sources) c.in-Ok.desk = (begun g.S.Site.count c.args.plan c.args.options c.args.log.name c.args.history c.now.result g.S.Site.tells (g.S.Site.files c.args.site) c.args.site g.F.Commands.may_fail (serial c.args.plan g.F.Commands.gives g.T.Terms.sources) c.in-Ok.desk c.in-Ok.ensures.reply) in
     sym (ap (λ (O : Options). O.wq) b.options)
 
-pub run_desk-requires-clause-here : goal.run_desk-requires-clause-here
-run_desk-requires-clause-here g c κs within trusted =
+pub run_desk-requires-clause-honest : goal.run_desk-requires-clause-honest
+run_desk-requires-clause-honest g c κs within trusted is =
     let b : IsBegun (g.S.Site.count c.args.site) c.args.plan c.args.options c.args.log.name c.args.history g.F.Commands.may_fail (serial c.args.plan g.F.Commands.gives g.T.Terms.sources) c.in-Ok.desk = (begun g.S.Site.count c.args.plan c.args.options c.args.log.name c.args.history c.now.result g.S.Site.tells (g.S.Site.files c.args.site) c.args.site g.F.Commands.may_fail (serial c.args.plan g.F.Commands.gives g.T.Terms.sources) c.in-Ok.desk c.in-Ok.ensures.reply) in
-    ap (λ (O : Options). O.wq) b.options ∙ c.requires.here trusted
+    c.requires.honest trusted (sym (ap (λ (O : Options). O.wq) b.options) ∙ is)
 
 pub returns-in-Ok-clause-sure : goal.returns-in-Ok-clause-sure
 returns-in-Ok-clause-sure g c alone sure =

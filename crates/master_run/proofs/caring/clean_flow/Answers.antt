@@ -22,7 +22,7 @@ use Rattle.master_run.proofs.caring.clean_flow.Goals as goal
 pub returns-in-Ok-clause-serves : goal.returns-in-Ok-clause-serves
 returns-in-Ok-clause-serves g c =
     let cause : Cause = causes.Cleaned c.in-Ok.field-0.removed in
-    cared_serves g.S.Site.tells g.S.Site.files g.S.Site.may_leave g.S.Site.moment g.S.Site.images_since g.B.Born.born g.F.Commands.gives g.F.Commands.may_fail (λ (job : Job). Unit {0}) (Unit {0}) (counts c.args.before [] 0 0 0) (counts (g.S.Site.count c.clean.new.site) [] 0 0 0) c.args.ask c.args.site c.clean.new.site c.in-Ok.field-0.records cause c.args.moment ⊥ (record {
+    cared_serves g.S.Site.tells g.S.Site.files g.S.Site.may_leave g.S.Site.moment g.S.Site.images_since g.B.Born.born g.F.Commands.gives g.F.Commands.may_fail (λ (job : Job). Unit {0}) (Unit {0}) (Unit {0}) (counts c.args.before [] 0 0 0) (counts (g.S.Site.count c.clean.new.site) [] 0 0 0) c.args.ask c.args.site c.clean.new.site c.in-Ok.field-0.records cause c.args.moment ⊥ (record {
       work = λ wrong. absurd (let both : works.Clean ≡ works.Run = sym c.requires.work ∙ wrong in cc);
       later = c.requires.later;
       cuts = λ cut. absurd cut;
@@ -53,8 +53,8 @@ returns-in-Err-clause-serves g c =
     let given = c.in-Err.field-0.records in
     let same : c.clean_cause.result ≡ clean_cause (site_rise (counts c.args.before [] 0 0 0) (counts (g.S.Site.count c.clean.new.site) [] 0 0 0)) why =
     c.clean_cause.ensures ∙ ap (λ (n : ℕ). clean_cause (record { before = c.args.before; after = n }) c.in-Err.field-0.why) c.faults-after.ensures in
-    subst (λ (cause : Cause). Serves g.S.Site.tells g.S.Site.files g.S.Site.may_leave g.S.Site.moment g.S.Site.images_since g.B.Born.born g.F.Commands.gives g.F.Commands.may_fail (λ (job : Job). Unit {0}) (Unit {0}) (counts c.args.before [] 0 0 0) (counts (g.S.Site.count c.clean.new.site) [] 0 0 0) c.args.ask c.args.site c.clean.new.site given cause) (sym same)
-    (cared_serves g.S.Site.tells g.S.Site.files g.S.Site.may_leave g.S.Site.moment g.S.Site.images_since g.B.Born.born g.F.Commands.gives g.F.Commands.may_fail (λ (job : Job). Unit {0}) (Unit {0}) (counts c.args.before [] 0 0 0) (counts (g.S.Site.count c.clean.new.site) [] 0 0 0) c.args.ask c.args.site c.clean.new.site given (clean_cause (site_rise (counts c.args.before [] 0 0 0) (counts (g.S.Site.count c.clean.new.site) [] 0 0 0)) why) c.args.moment (IsCutFor why) (record {
+    subst (λ (cause : Cause). Serves g.S.Site.tells g.S.Site.files g.S.Site.may_leave g.S.Site.moment g.S.Site.images_since g.B.Born.born g.F.Commands.gives g.F.Commands.may_fail (λ (job : Job). Unit {0}) (Unit {0}) (Unit {0}) (counts c.args.before [] 0 0 0) (counts (g.S.Site.count c.clean.new.site) [] 0 0 0) c.args.ask c.args.site c.clean.new.site given cause) (sym same)
+    (cared_serves g.S.Site.tells g.S.Site.files g.S.Site.may_leave g.S.Site.moment g.S.Site.images_since g.B.Born.born g.F.Commands.gives g.F.Commands.may_fail (λ (job : Job). Unit {0}) (Unit {0}) (Unit {0}) (counts c.args.before [] 0 0 0) (counts (g.S.Site.count c.clean.new.site) [] 0 0 0) c.args.ask c.args.site c.clean.new.site given (clean_cause (site_rise (counts c.args.before [] 0 0 0) (counts (g.S.Site.count c.clean.new.site) [] 0 0 0)) why) c.args.moment (IsCutFor why) (record {
       work = λ wrong. absurd (let both : works.Clean ≡ works.Run = sym c.requires.work ∙ wrong in cc);
       later = c.requires.later;
       cuts = clean_cut (site_rise (counts c.args.before [] 0 0 0) (counts (g.S.Site.count c.clean.new.site) [] 0 0 0)) why;

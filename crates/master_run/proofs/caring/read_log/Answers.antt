@@ -35,7 +35,7 @@ overflow_cast-result g c =
 pub returns-in-Ok-clause-serves : goal.returns-in-Ok-clause-serves
 returns-in-Ok-clause-serves g c =
     let cause : Cause = causes.Printed (length c.part_of.result.now) in
-    cared_serves g.S.Site.tells g.S.Site.files g.S.Site.may_leave g.S.Site.moment g.S.Site.images_since g.B.Born.born g.F.Commands.gives g.F.Commands.may_fail (λ (job : Job). Unit {0}) (Unit {0}) (counts c.args.before [] 0 0 0) (counts (g.S.Site.count c.look.new.site) [] 0 0 0) c.args.ask c.args.site c.look.new.site c.in-Ok.records cause 0 ⊥ (record {
+    cared_serves g.S.Site.tells g.S.Site.files g.S.Site.may_leave g.S.Site.moment g.S.Site.images_since g.B.Born.born g.F.Commands.gives g.F.Commands.may_fail (λ (job : Job). Unit {0}) (Unit {0}) (Unit {0}) (counts c.args.before [] 0 0 0) (counts (g.S.Site.count c.look.new.site) [] 0 0 0) c.args.ask c.args.site c.look.new.site c.in-Ok.records cause 0 ⊥ (record {
       work = λ wrong. absurd (let both : works.PrintLog ≡ works.Run = sym c.requires.work ∙ wrong in cc);
       later = c.requires.later;
       cuts = λ cut. absurd cut;
@@ -69,8 +69,8 @@ returns-in-Err-clause-serves g c =
     let given = c.in-Err.field-0.records in
     let same : c.look_cause.result ≡ look_cause (site_rise (counts c.args.before [] 0 0 0) (counts (g.S.Site.count c.look.new.site) [] 0 0 0)) why =
     c.look_cause.ensures ∙ ap (λ (n : ℕ). look_cause (record { before = c.args.before; after = n }) c.in-Err.field-0.why) c.faults-after.ensures in
-    subst (λ (cause : Cause). Serves g.S.Site.tells g.S.Site.files g.S.Site.may_leave g.S.Site.moment g.S.Site.images_since g.B.Born.born g.F.Commands.gives g.F.Commands.may_fail (λ (job : Job). Unit {0}) (Unit {0}) (counts c.args.before [] 0 0 0) (counts (g.S.Site.count c.look.new.site) [] 0 0 0) c.args.ask c.args.site c.look.new.site given cause) (sym same)
-    (cared_serves g.S.Site.tells g.S.Site.files g.S.Site.may_leave g.S.Site.moment g.S.Site.images_since g.B.Born.born g.F.Commands.gives g.F.Commands.may_fail (λ (job : Job). Unit {0}) (Unit {0}) (counts c.args.before [] 0 0 0) (counts (g.S.Site.count c.look.new.site) [] 0 0 0) c.args.ask c.args.site c.look.new.site given (look_cause (site_rise (counts c.args.before [] 0 0 0) (counts (g.S.Site.count c.look.new.site) [] 0 0 0)) why) 0 (IsCutFault why) (record {
+    subst (λ (cause : Cause). Serves g.S.Site.tells g.S.Site.files g.S.Site.may_leave g.S.Site.moment g.S.Site.images_since g.B.Born.born g.F.Commands.gives g.F.Commands.may_fail (λ (job : Job). Unit {0}) (Unit {0}) (Unit {0}) (counts c.args.before [] 0 0 0) (counts (g.S.Site.count c.look.new.site) [] 0 0 0) c.args.ask c.args.site c.look.new.site given cause) (sym same)
+    (cared_serves g.S.Site.tells g.S.Site.files g.S.Site.may_leave g.S.Site.moment g.S.Site.images_since g.B.Born.born g.F.Commands.gives g.F.Commands.may_fail (λ (job : Job). Unit {0}) (Unit {0}) (Unit {0}) (counts c.args.before [] 0 0 0) (counts (g.S.Site.count c.look.new.site) [] 0 0 0) c.args.ask c.args.site c.look.new.site given (look_cause (site_rise (counts c.args.before [] 0 0 0) (counts (g.S.Site.count c.look.new.site) [] 0 0 0)) why) 0 (IsCutFault why) (record {
       work = λ wrong. absurd (let both : works.PrintLog ≡ works.Run = sym c.requires.work ∙ wrong in cc);
       later = c.requires.later;
       cuts = look_cut (site_rise (counts c.args.before [] 0 0 0) (counts (g.S.Site.count c.look.new.site) [] 0 0 0)) why;

@@ -24,8 +24,8 @@ use Rattle.master_run.proofs.running.run_by_all.Goals as goal
 
 pub returns-in_default-clause-serves : goal.returns-in_default-clause-serves
 returns-in_default-clause-serves g c =
-    subst (λ (xs : List Record). Serves g.S.Site.tells g.S.Site.files g.S.Site.may_leave g.S.Site.moment g.S.Site.images_since g.B.Born.born g.F.Commands.gives g.F.Commands.may_fail (AllTell g.R.Runner.tells c.args.runners.now) (AllSure g.R.Runner.sure c.args.runners.now) (counts c.args.before (map g.R.Runner.count c.args.runners.now) (g.H.Hall.count c.args.hall.now) (g.H.Hall.idle_count c.args.hall.now) 0) (counts (g.S.Site.count c.args.site) (map g.R.Runner.count c.args.runners.now) (g.H.Hall.count c.args.hall.now) (g.H.Hall.idle_count c.args.hall.now) 0) c.args.ask c.args.site c.args.site xs causes.Memory) (sym c.new.ensures)
-    (by_fault g.S.Site.tells g.S.Site.files g.S.Site.may_leave g.S.Site.moment g.S.Site.images_since g.B.Born.born g.F.Commands.gives g.F.Commands.may_fail (AllTell g.R.Runner.tells c.args.runners.now) (AllSure g.R.Runner.sure c.args.runners.now) (counts c.args.before (map g.R.Runner.count c.args.runners.now) (g.H.Hall.count c.args.hall.now) (g.H.Hall.idle_count c.args.hall.now) 0) (counts (g.S.Site.count c.args.site) (map g.R.Runner.count c.args.runners.now) (g.H.Hall.count c.args.hall.now) (g.H.Hall.idle_count c.args.hall.now) 0) c.args.ask c.args.site c.args.site c.requires.later
+    subst (λ (xs : List Record). Serves g.S.Site.tells g.S.Site.files g.S.Site.may_leave g.S.Site.moment g.S.Site.images_since g.B.Born.born g.F.Commands.gives g.F.Commands.may_fail (AllTell g.R.Runner.tells c.args.runners.now) (AllSure g.R.Runner.sure c.args.runners.now) (g.H.Hall.honest c.args.hall.now) (counts c.args.before (map g.R.Runner.count c.args.runners.now) (g.H.Hall.count c.args.hall.now) (g.H.Hall.idle_count c.args.hall.now) 0) (counts (g.S.Site.count c.args.site) (map g.R.Runner.count c.args.runners.now) (g.H.Hall.count c.args.hall.now) (g.H.Hall.idle_count c.args.hall.now) 0) c.args.ask c.args.site c.args.site xs causes.Memory) (sym c.new.ensures)
+    (by_fault g.S.Site.tells g.S.Site.files g.S.Site.may_leave g.S.Site.moment g.S.Site.images_since g.B.Born.born g.F.Commands.gives g.F.Commands.may_fail (AllTell g.R.Runner.tells c.args.runners.now) (AllSure g.R.Runner.sure c.args.runners.now) (g.H.Hall.honest c.args.hall.now) (counts c.args.before (map g.R.Runner.count c.args.runners.now) (g.H.Hall.count c.args.hall.now) (g.H.Hall.idle_count c.args.hall.now) 0) (counts (g.S.Site.count c.args.site) (map g.R.Runner.count c.args.runners.now) (g.H.Hall.count c.args.hall.now) (g.H.Hall.idle_count c.args.hall.now) 0) c.args.ask c.args.site c.args.site c.requires.later
     (λ t. record { same = refl; within = λ m file left. left; only = record { later = omega arith; each = λ image left. ((g.met.S.Site g.world.𝓛 g.world.𝓜 g.world.𝓡 ((λ s x. x), (λ x. x), (λ x. x), λ x. x)).only_now t c.args.site image left); before = λ time image le left. inl left } })
     causes.Memory refl refl refl tt (λ none. refl))
 
@@ -40,8 +40,8 @@ returns-in-Ok-resume-clause-serves g c =
     let kept : c.as_slice.result.now ≡ (map g.R.Runner.count c.args.runners.now) = c.as_slice.ensures ∙ c.in-Ok.ensures.1 in
     let one : sum (map g.R.Runner.count c.args.runners.now) < sum (map g.R.Runner.count c.resume.new.runners) → OneRose c.first_rise-runner.result.before c.first_rise-runner.result.after (map g.R.Runner.count c.args.runners.now) (map g.R.Runner.count c.resume.new.runners) =
     subst (λ (xs : List ℕ). sum xs < sum (map g.R.Runner.count c.resume.new.runners) → OneRose c.first_rise-runner.result.before c.first_rise-runner.result.after xs (map g.R.Runner.count c.resume.new.runners)) kept c.first_rise-runner.ensures in
-    subst (λ (cause : Cause). Serves g.S.Site.tells g.S.Site.files g.S.Site.may_leave g.S.Site.moment g.S.Site.images_since g.B.Born.born g.F.Commands.gives g.F.Commands.may_fail (AllTell g.R.Runner.tells c.args.runners.now) (AllSure g.R.Runner.sure c.args.runners.now) (counts c.args.before (map g.R.Runner.count c.args.runners.now) (g.H.Hall.count c.args.hall.now) (g.H.Hall.idle_count c.args.hall.now) 0) (counts (g.S.Site.count c.in-Ok-resume.ended.site) (map g.R.Runner.count c.resume.new.runners) (g.H.Hall.count c.resume.new.hall) (g.H.Hall.idle_count c.resume.new.hall) 0) c.args.ask c.args.site c.in-Ok-resume.ended.site c.in-Ok-resume.ended.records cause) (sym same)
-    (ran_serves g.S.Site.tells g.S.Site.files g.S.Site.may_leave g.S.Site.moment g.S.Site.images_since g.S.Site.count g.B.Born.born g.F.Commands.gives g.F.Commands.may_fail (AllTell g.R.Runner.tells c.args.runners.now) (AllSure g.R.Runner.sure c.args.runners.now)
+    subst (λ (cause : Cause). Serves g.S.Site.tells g.S.Site.files g.S.Site.may_leave g.S.Site.moment g.S.Site.images_since g.B.Born.born g.F.Commands.gives g.F.Commands.may_fail (AllTell g.R.Runner.tells c.args.runners.now) (AllSure g.R.Runner.sure c.args.runners.now) (g.H.Hall.honest c.args.hall.now) (counts c.args.before (map g.R.Runner.count c.args.runners.now) (g.H.Hall.count c.args.hall.now) (g.H.Hall.idle_count c.args.hall.now) 0) (counts (g.S.Site.count c.in-Ok-resume.ended.site) (map g.R.Runner.count c.resume.new.runners) (g.H.Hall.count c.resume.new.hall) (g.H.Hall.idle_count c.resume.new.hall) 0) c.args.ask c.args.site c.in-Ok-resume.ended.site c.in-Ok-resume.ended.records cause) (sym same)
+    (ran_serves g.S.Site.tells g.S.Site.files g.S.Site.may_leave g.S.Site.moment g.S.Site.images_since g.S.Site.count g.B.Born.born g.F.Commands.gives g.F.Commands.may_fail (AllTell g.R.Runner.tells c.args.runners.now) (AllSure g.R.Runner.sure c.args.runners.now) (g.H.Hall.honest c.args.hall.now)
     (counts c.args.before (map g.R.Runner.count c.args.runners.now) (g.H.Hall.count c.args.hall.now) (g.H.Hall.idle_count c.args.hall.now) 0) (counts (g.S.Site.count c.in-Ok-resume.ended.site) (map g.R.Runner.count c.resume.new.runners) (g.H.Hall.count c.resume.new.hall) (g.H.Hall.idle_count c.resume.new.hall) 0) c.first_rise-runner.result c.args.ask c.args.site c.in-Ok-resume.ended.site c.in-Ok-resume.ended.records c.in-Ok-resume.ended.how (record {
       work = c.requires.work;
       le = c.requires.counted;
@@ -79,9 +79,9 @@ pub returns-clause-serves : goal.returns-clause-serves
 returns-clause-serves g c =
     let same : c.unread_cause.result ≡ unread_cause (site_rise (counts c.args.before (map g.R.Runner.count c.args.runners.now) (g.H.Hall.count c.args.hall.now) (g.H.Hall.idle_count c.args.hall.now) 0) (counts (g.S.Site.count c.in-Err.refused.site) (map g.R.Runner.count c.resume.new.runners) (g.H.Hall.count c.resume.new.hall) (g.H.Hall.idle_count c.resume.new.hall) 0)) c.in-Err.refused.why =
     c.unread_cause.ensures ∙ ap (λ (n : ℕ). unread_cause (record { before = c.args.before; after = n }) c.in-Err.refused.why) c.faults-after-in-Err.ensures in
-    subst (λ (cause : Cause). Serves g.S.Site.tells g.S.Site.files g.S.Site.may_leave g.S.Site.moment g.S.Site.images_since g.B.Born.born g.F.Commands.gives g.F.Commands.may_fail (AllTell g.R.Runner.tells c.args.runners.now) (AllSure g.R.Runner.sure c.args.runners.now) (counts c.args.before (map g.R.Runner.count c.args.runners.now) (g.H.Hall.count c.args.hall.now) (g.H.Hall.idle_count c.args.hall.now) 0) (counts (g.S.Site.count c.in-Err.refused.site) (map g.R.Runner.count c.resume.new.runners) (g.H.Hall.count c.resume.new.hall) (g.H.Hall.idle_count c.resume.new.hall) 0) c.args.ask c.args.site c.in-Err.refused.site c.new-in-Err.result cause) (sym same)
-    (subst (λ (xs : List Record). Serves g.S.Site.tells g.S.Site.files g.S.Site.may_leave g.S.Site.moment g.S.Site.images_since g.B.Born.born g.F.Commands.gives g.F.Commands.may_fail (AllTell g.R.Runner.tells c.args.runners.now) (AllSure g.R.Runner.sure c.args.runners.now) (counts c.args.before (map g.R.Runner.count c.args.runners.now) (g.H.Hall.count c.args.hall.now) (g.H.Hall.idle_count c.args.hall.now) 0) (counts (g.S.Site.count c.in-Err.refused.site) (map g.R.Runner.count c.resume.new.runners) (g.H.Hall.count c.resume.new.hall) (g.H.Hall.idle_count c.resume.new.hall) 0) c.args.ask c.args.site c.in-Err.refused.site xs (unread_cause (site_rise (counts c.args.before (map g.R.Runner.count c.args.runners.now) (g.H.Hall.count c.args.hall.now) (g.H.Hall.idle_count c.args.hall.now) 0) (counts (g.S.Site.count c.in-Err.refused.site) (map g.R.Runner.count c.resume.new.runners) (g.H.Hall.count c.resume.new.hall) (g.H.Hall.idle_count c.resume.new.hall) 0)) c.in-Err.refused.why)) (sym c.new-in-Err.ensures)
-    (unread_serves g.S.Site.tells g.S.Site.files g.S.Site.may_leave g.S.Site.moment g.S.Site.images_since g.B.Born.born g.F.Commands.gives g.F.Commands.may_fail (AllTell g.R.Runner.tells c.args.runners.now) (AllSure g.R.Runner.sure c.args.runners.now) (counts c.args.before (map g.R.Runner.count c.args.runners.now) (g.H.Hall.count c.args.hall.now) (g.H.Hall.idle_count c.args.hall.now) 0) (counts (g.S.Site.count c.in-Err.refused.site) (map g.R.Runner.count c.resume.new.runners) (g.H.Hall.count c.resume.new.hall) (g.H.Hall.idle_count c.resume.new.hall) 0) c.args.ask c.args.site c.in-Err.refused.site c.requires.later
+    subst (λ (cause : Cause). Serves g.S.Site.tells g.S.Site.files g.S.Site.may_leave g.S.Site.moment g.S.Site.images_since g.B.Born.born g.F.Commands.gives g.F.Commands.may_fail (AllTell g.R.Runner.tells c.args.runners.now) (AllSure g.R.Runner.sure c.args.runners.now) (g.H.Hall.honest c.args.hall.now) (counts c.args.before (map g.R.Runner.count c.args.runners.now) (g.H.Hall.count c.args.hall.now) (g.H.Hall.idle_count c.args.hall.now) 0) (counts (g.S.Site.count c.in-Err.refused.site) (map g.R.Runner.count c.resume.new.runners) (g.H.Hall.count c.resume.new.hall) (g.H.Hall.idle_count c.resume.new.hall) 0) c.args.ask c.args.site c.in-Err.refused.site c.new-in-Err.result cause) (sym same)
+    (subst (λ (xs : List Record). Serves g.S.Site.tells g.S.Site.files g.S.Site.may_leave g.S.Site.moment g.S.Site.images_since g.B.Born.born g.F.Commands.gives g.F.Commands.may_fail (AllTell g.R.Runner.tells c.args.runners.now) (AllSure g.R.Runner.sure c.args.runners.now) (g.H.Hall.honest c.args.hall.now) (counts c.args.before (map g.R.Runner.count c.args.runners.now) (g.H.Hall.count c.args.hall.now) (g.H.Hall.idle_count c.args.hall.now) 0) (counts (g.S.Site.count c.in-Err.refused.site) (map g.R.Runner.count c.resume.new.runners) (g.H.Hall.count c.resume.new.hall) (g.H.Hall.idle_count c.resume.new.hall) 0) c.args.ask c.args.site c.in-Err.refused.site xs (unread_cause (site_rise (counts c.args.before (map g.R.Runner.count c.args.runners.now) (g.H.Hall.count c.args.hall.now) (g.H.Hall.idle_count c.args.hall.now) 0) (counts (g.S.Site.count c.in-Err.refused.site) (map g.R.Runner.count c.resume.new.runners) (g.H.Hall.count c.resume.new.hall) (g.H.Hall.idle_count c.resume.new.hall) 0)) c.in-Err.refused.why)) (sym c.new-in-Err.ensures)
+    (unread_serves g.S.Site.tells g.S.Site.files g.S.Site.may_leave g.S.Site.moment g.S.Site.images_since g.B.Born.born g.F.Commands.gives g.F.Commands.may_fail (AllTell g.R.Runner.tells c.args.runners.now) (AllSure g.R.Runner.sure c.args.runners.now) (g.H.Hall.honest c.args.hall.now) (counts c.args.before (map g.R.Runner.count c.args.runners.now) (g.H.Hall.count c.args.hall.now) (g.H.Hall.idle_count c.args.hall.now) 0) (counts (g.S.Site.count c.in-Err.refused.site) (map g.R.Runner.count c.resume.new.runners) (g.H.Hall.count c.resume.new.hall) (g.H.Hall.idle_count c.resume.new.hall) 0) c.args.ask c.args.site c.in-Err.refused.site c.requires.later
     (λ t. weakened g.S.Site.moment g.S.Site.images_since c.args.site c.in-Err.refused.site (IsRecovering c.args.ask.log (g.S.Site.files c.args.site c.args.ask.log) (g.S.Site.may_leave c.args.site)) (IsBefore c.args.ask.log (g.S.Site.files c.args.site c.args.ask.log) (g.S.Site.may_leave c.args.site)) (c.in-Err.ensures.unread t)
     (λ image is. recovering_before c.args.ask.log (g.S.Site.files c.args.site c.args.ask.log) (g.S.Site.may_leave c.args.site) image is))
     c.in-Err.ensures.crash c.files_spell_one_list.ensures.header c.files_spell_one_list.ensures.whole c.in-Err.refused.why (λ is. omega (arith, c.requires.counted, c.in-Err.ensures.site is)) c.in-Err.ensures.damaged c.in-Err.ensures.unchanged))

@@ -35,12 +35,12 @@ returns-clause-faults g c =
 
 pub returns-clause-records : goal.returns-clause-records
 returns-clause-records g c told ask asked H spelled =
-    (printed_serves g.S.Site.tells g.S.Site.files g.S.Site.may_leave g.S.Site.moment g.S.Site.images_since (g.S.Site.moment c.args.site) g.F.Commands.gives g.F.Commands.may_fail (AllTell g.R.Runner.tells c.args.runners.now) (AllSure g.R.Runner.sure c.args.runners.now)
+    (printed_serves g.S.Site.tells g.S.Site.files g.S.Site.may_leave g.S.Site.moment g.S.Site.images_since (g.S.Site.moment c.args.site) g.F.Commands.gives g.F.Commands.may_fail (AllTell g.R.Runner.tells c.args.runners.now) (AllSure g.R.Runner.sure c.args.runners.now) (g.H.Hall.honest c.args.hall.now)
     (g.S.Site.count c.args.site) (map g.R.Runner.count c.args.runners.now) (g.H.Hall.count c.args.hall.now) (g.H.Hall.idle_count c.args.hall.now) (g.O.Sink.count c.args.out.now) (g.S.Site.count c.follow-course.result.site) (map g.R.Runner.count c.follow-course.new.runners) (g.H.Hall.count c.follow-course.new.hall) (g.H.Hall.idle_count c.follow-course.new.hall) (g.O.Sink.count c.tell-cause.new.out) ask c.args.site c.follow-course.result.site c.follow-course.result.records c.follow-course.result.cause c.tell-cause.result (stands (g.O.Sink.count c.args.out.now) (g.O.Sink.count c.tell-cause.new.out) c.follow-course.result.cause c.tell-cause.result c.tell-cause.ensures.stands) (c.follow-course.ensures.serves told ask asked)).has_log told H spelled
 
 pub returns-clause-logged : goal.returns-clause-logged
 returns-clause-logged g c told ask asked H spelled =
-    (printed_serves g.S.Site.tells g.S.Site.files g.S.Site.may_leave g.S.Site.moment g.S.Site.images_since (g.S.Site.moment c.args.site) g.F.Commands.gives g.F.Commands.may_fail (AllTell g.R.Runner.tells c.args.runners.now) (AllSure g.R.Runner.sure c.args.runners.now)
+    (printed_serves g.S.Site.tells g.S.Site.files g.S.Site.may_leave g.S.Site.moment g.S.Site.images_since (g.S.Site.moment c.args.site) g.F.Commands.gives g.F.Commands.may_fail (AllTell g.R.Runner.tells c.args.runners.now) (AllSure g.R.Runner.sure c.args.runners.now) (g.H.Hall.honest c.args.hall.now)
     (g.S.Site.count c.args.site) (map g.R.Runner.count c.args.runners.now) (g.H.Hall.count c.args.hall.now) (g.H.Hall.idle_count c.args.hall.now) (g.O.Sink.count c.args.out.now) (g.S.Site.count c.follow-course.result.site) (map g.R.Runner.count c.follow-course.new.runners) (g.H.Hall.count c.follow-course.new.hall) (g.H.Hall.idle_count c.follow-course.new.hall) (g.O.Sink.count c.tell-cause.new.out) ask c.args.site c.follow-course.result.site c.follow-course.result.records c.follow-course.result.cause c.tell-cause.result (stands (g.O.Sink.count c.args.out.now) (g.O.Sink.count c.tell-cause.new.out) c.follow-course.result.cause c.tell-cause.result c.tell-cause.ensures.stands) (c.follow-course.ensures.serves told ask asked)).logged told H spelled
 
 pub returns-clause-legal : goal.returns-clause-legal
@@ -57,22 +57,22 @@ returns-clause-closed g c ends =
 
 pub returns-clause-spent : goal.returns-clause-spent
 returns-clause-spent g c told ask asked H spelled whole =
-    (printed_serves g.S.Site.tells g.S.Site.files g.S.Site.may_leave g.S.Site.moment g.S.Site.images_since (g.S.Site.moment c.args.site) g.F.Commands.gives g.F.Commands.may_fail (AllTell g.R.Runner.tells c.args.runners.now) (AllSure g.R.Runner.sure c.args.runners.now)
+    (printed_serves g.S.Site.tells g.S.Site.files g.S.Site.may_leave g.S.Site.moment g.S.Site.images_since (g.S.Site.moment c.args.site) g.F.Commands.gives g.F.Commands.may_fail (AllTell g.R.Runner.tells c.args.runners.now) (AllSure g.R.Runner.sure c.args.runners.now) (g.H.Hall.honest c.args.hall.now)
     (g.S.Site.count c.args.site) (map g.R.Runner.count c.args.runners.now) (g.H.Hall.count c.args.hall.now) (g.H.Hall.idle_count c.args.hall.now) (g.O.Sink.count c.args.out.now) (g.S.Site.count c.follow-course.result.site) (map g.R.Runner.count c.follow-course.new.runners) (g.H.Hall.count c.follow-course.new.hall) (g.H.Hall.idle_count c.follow-course.new.hall) (g.O.Sink.count c.tell-cause.new.out) ask c.args.site c.follow-course.result.site c.follow-course.result.records c.follow-course.result.cause c.tell-cause.result (stands (g.O.Sink.count c.args.out.now) (g.O.Sink.count c.tell-cause.new.out) c.follow-course.result.cause c.tell-cause.result c.tell-cause.ensures.stands) (c.follow-course.ensures.serves told ask asked)).spent told H spelled whole
 
 pub returns-clause-lost : goal.returns-clause-lost
 returns-clause-lost g c told ask asked H spelled alone keeps =
-    (printed_serves g.S.Site.tells g.S.Site.files g.S.Site.may_leave g.S.Site.moment g.S.Site.images_since (g.S.Site.moment c.args.site) g.F.Commands.gives g.F.Commands.may_fail (AllTell g.R.Runner.tells c.args.runners.now) (AllSure g.R.Runner.sure c.args.runners.now)
+    (printed_serves g.S.Site.tells g.S.Site.files g.S.Site.may_leave g.S.Site.moment g.S.Site.images_since (g.S.Site.moment c.args.site) g.F.Commands.gives g.F.Commands.may_fail (AllTell g.R.Runner.tells c.args.runners.now) (AllSure g.R.Runner.sure c.args.runners.now) (g.H.Hall.honest c.args.hall.now)
     (g.S.Site.count c.args.site) (map g.R.Runner.count c.args.runners.now) (g.H.Hall.count c.args.hall.now) (g.H.Hall.idle_count c.args.hall.now) (g.O.Sink.count c.args.out.now) (g.S.Site.count c.follow-course.result.site) (map g.R.Runner.count c.follow-course.new.runners) (g.H.Hall.count c.follow-course.new.hall) (g.H.Hall.idle_count c.follow-course.new.hall) (g.O.Sink.count c.tell-cause.new.out) ask c.args.site c.follow-course.result.site c.follow-course.result.records c.follow-course.result.cause c.tell-cause.result (stands (g.O.Sink.count c.args.out.now) (g.O.Sink.count c.tell-cause.new.out) c.follow-course.result.cause c.tell-cause.result c.tell-cause.ensures.stands) (c.follow-course.ensures.serves told ask asked)).lost told H spelled alone keeps
 
 pub returns-clause-lost_away : goal.returns-clause-lost_away
 returns-clause-lost_away g c told ask asked H spelled keeps =
-    (printed_serves g.S.Site.tells g.S.Site.files g.S.Site.may_leave g.S.Site.moment g.S.Site.images_since (g.S.Site.moment c.args.site) g.F.Commands.gives g.F.Commands.may_fail (AllTell g.R.Runner.tells c.args.runners.now) (AllSure g.R.Runner.sure c.args.runners.now)
+    (printed_serves g.S.Site.tells g.S.Site.files g.S.Site.may_leave g.S.Site.moment g.S.Site.images_since (g.S.Site.moment c.args.site) g.F.Commands.gives g.F.Commands.may_fail (AllTell g.R.Runner.tells c.args.runners.now) (AllSure g.R.Runner.sure c.args.runners.now) (g.H.Hall.honest c.args.hall.now)
     (g.S.Site.count c.args.site) (map g.R.Runner.count c.args.runners.now) (g.H.Hall.count c.args.hall.now) (g.H.Hall.idle_count c.args.hall.now) (g.O.Sink.count c.args.out.now) (g.S.Site.count c.follow-course.result.site) (map g.R.Runner.count c.follow-course.new.runners) (g.H.Hall.count c.follow-course.new.hall) (g.H.Hall.idle_count c.follow-course.new.hall) (g.O.Sink.count c.tell-cause.new.out) ask c.args.site c.follow-course.result.site c.follow-course.result.records c.follow-course.result.cause c.tell-cause.result (stands (g.O.Sink.count c.args.out.now) (g.O.Sink.count c.tell-cause.new.out) c.follow-course.result.cause c.tell-cause.result c.tell-cause.ensures.stands) (c.follow-course.ensures.serves told ask asked)).lost_away told H spelled keeps
 
 pub returns-clause-places : goal.returns-clause-places
 returns-clause-places g c told ask asked H spelled begins =
-    (printed_serves g.S.Site.tells g.S.Site.files g.S.Site.may_leave g.S.Site.moment g.S.Site.images_since (g.S.Site.moment c.args.site) g.F.Commands.gives g.F.Commands.may_fail (AllTell g.R.Runner.tells c.args.runners.now) (AllSure g.R.Runner.sure c.args.runners.now)
+    (printed_serves g.S.Site.tells g.S.Site.files g.S.Site.may_leave g.S.Site.moment g.S.Site.images_since (g.S.Site.moment c.args.site) g.F.Commands.gives g.F.Commands.may_fail (AllTell g.R.Runner.tells c.args.runners.now) (AllSure g.R.Runner.sure c.args.runners.now) (g.H.Hall.honest c.args.hall.now)
     (g.S.Site.count c.args.site) (map g.R.Runner.count c.args.runners.now) (g.H.Hall.count c.args.hall.now) (g.H.Hall.idle_count c.args.hall.now) (g.O.Sink.count c.args.out.now) (g.S.Site.count c.follow-course.result.site) (map g.R.Runner.count c.follow-course.new.runners) (g.H.Hall.count c.follow-course.new.hall) (g.H.Hall.idle_count c.follow-course.new.hall) (g.O.Sink.count c.tell-cause.new.out) ask c.args.site c.follow-course.result.site c.follow-course.result.records c.follow-course.result.cause c.tell-cause.result (stands (g.O.Sink.count c.args.out.now) (g.O.Sink.count c.tell-cause.new.out) c.follow-course.result.cause c.tell-cause.result c.tell-cause.ensures.stands) (c.follow-course.ensures.serves told ask asked)).places told H spelled begins
 
 pub returns-clause-back : goal.returns-clause-back
@@ -92,19 +92,19 @@ pub returns-clause-moments : goal.returns-clause-moments
 returns-clause-moments g c told ask asked H spelled resumable image left =
     ⊎_elim (λ (was : g.S.Site.images_since c.args.site (g.S.Site.moment c.args.site) image). inl (entry_before ask.log (g.S.Site.files c.args.site ask.log) (g.S.Site.may_leave c.args.site) image (((g.met.S.Site g.world.𝓛 g.world.𝓜 g.world.𝓡 ((λ s x. x), (λ x. x), (λ x. x), λ x. x)).only_now told c.args.site image was))))
     (λ (m : IsMoment Held ask.plan ask.log (g.S.Site.files c.args.site) (g.S.Site.may_leave c.args.site) H c.follow-course.result.records (IsCut c.tell-cause.result) image). m)
-    ((printed_serves g.S.Site.tells g.S.Site.files g.S.Site.may_leave g.S.Site.moment g.S.Site.images_since (g.S.Site.moment c.args.site) g.F.Commands.gives g.F.Commands.may_fail (AllTell g.R.Runner.tells c.args.runners.now) (AllSure g.R.Runner.sure c.args.runners.now)
+    ((printed_serves g.S.Site.tells g.S.Site.files g.S.Site.may_leave g.S.Site.moment g.S.Site.images_since (g.S.Site.moment c.args.site) g.F.Commands.gives g.F.Commands.may_fail (AllTell g.R.Runner.tells c.args.runners.now) (AllSure g.R.Runner.sure c.args.runners.now) (g.H.Hall.honest c.args.hall.now)
     (g.S.Site.count c.args.site) (map g.R.Runner.count c.args.runners.now) (g.H.Hall.count c.args.hall.now) (g.H.Hall.idle_count c.args.hall.now) (g.O.Sink.count c.args.out.now) (g.S.Site.count c.follow-course.result.site) (map g.R.Runner.count c.follow-course.new.runners) (g.H.Hall.count c.follow-course.new.hall) (g.H.Hall.idle_count c.follow-course.new.hall) (g.O.Sink.count c.tell-cause.new.out) ask c.args.site c.follow-course.result.site c.follow-course.result.records c.follow-course.result.cause c.tell-cause.result (stands (g.O.Sink.count c.args.out.now) (g.O.Sink.count c.tell-cause.new.out) c.follow-course.result.cause c.tell-cause.result c.tell-cause.ensures.stands) (c.follow-course.ensures.serves told ask asked)).moments told H spelled resumable image left)
 
 pub returns-clause-resumable : goal.returns-clause-resumable
 returns-clause-resumable g c told ask asked some image left =
     ⊎_elim (λ (was : g.S.Site.images_since c.args.site (g.S.Site.moment c.args.site) image). some image (((g.met.S.Site g.world.𝓛 g.world.𝓜 g.world.𝓡 ((λ s x. x), (λ x. x), (λ x. x), λ x. x)).only_now told c.args.site image was)))
     (λ (keeps : KeepsSome Held ask.plan ask.log image). keeps)
-    ((printed_serves g.S.Site.tells g.S.Site.files g.S.Site.may_leave g.S.Site.moment g.S.Site.images_since (g.S.Site.moment c.args.site) g.F.Commands.gives g.F.Commands.may_fail (AllTell g.R.Runner.tells c.args.runners.now) (AllSure g.R.Runner.sure c.args.runners.now)
+    ((printed_serves g.S.Site.tells g.S.Site.files g.S.Site.may_leave g.S.Site.moment g.S.Site.images_since (g.S.Site.moment c.args.site) g.F.Commands.gives g.F.Commands.may_fail (AllTell g.R.Runner.tells c.args.runners.now) (AllSure g.R.Runner.sure c.args.runners.now) (g.H.Hall.honest c.args.hall.now)
     (g.S.Site.count c.args.site) (map g.R.Runner.count c.args.runners.now) (g.H.Hall.count c.args.hall.now) (g.H.Hall.idle_count c.args.hall.now) (g.O.Sink.count c.args.out.now) (g.S.Site.count c.follow-course.result.site) (map g.R.Runner.count c.follow-course.new.runners) (g.H.Hall.count c.follow-course.new.hall) (g.H.Hall.idle_count c.follow-course.new.hall) (g.O.Sink.count c.tell-cause.new.out) ask c.args.site c.follow-course.result.site c.follow-course.result.records c.follow-course.result.cause c.tell-cause.result (stands (g.O.Sink.count c.args.out.now) (g.O.Sink.count c.tell-cause.new.out) c.follow-course.result.cause c.tell-cause.result c.tell-cause.ensures.stands) (c.follow-course.ensures.serves told ask asked)).resumable told some image left)
 
 pub returns-clause-now : goal.returns-clause-now
 returns-clause-now g c told ask asked H spelled resumable whole image left =
-    (printed_serves g.S.Site.tells g.S.Site.files g.S.Site.may_leave g.S.Site.moment g.S.Site.images_since (g.S.Site.moment c.args.site) g.F.Commands.gives g.F.Commands.may_fail (AllTell g.R.Runner.tells c.args.runners.now) (AllSure g.R.Runner.sure c.args.runners.now)
+    (printed_serves g.S.Site.tells g.S.Site.files g.S.Site.may_leave g.S.Site.moment g.S.Site.images_since (g.S.Site.moment c.args.site) g.F.Commands.gives g.F.Commands.may_fail (AllTell g.R.Runner.tells c.args.runners.now) (AllSure g.R.Runner.sure c.args.runners.now) (g.H.Hall.honest c.args.hall.now)
     (g.S.Site.count c.args.site) (map g.R.Runner.count c.args.runners.now) (g.H.Hall.count c.args.hall.now) (g.H.Hall.idle_count c.args.hall.now) (g.O.Sink.count c.args.out.now) (g.S.Site.count c.follow-course.result.site) (map g.R.Runner.count c.follow-course.new.runners) (g.H.Hall.count c.follow-course.new.hall) (g.H.Hall.idle_count c.follow-course.new.hall) (g.O.Sink.count c.tell-cause.new.out) ask c.args.site c.follow-course.result.site c.follow-course.result.records c.follow-course.result.cause c.tell-cause.result (stands (g.O.Sink.count c.args.out.now) (g.O.Sink.count c.tell-cause.new.out) c.follow-course.result.cause c.tell-cause.result c.tell-cause.ensures.stands) (c.follow-course.ensures.serves told ask asked)).now told H spelled resumable whole image left
 
 pub returns-clause-untouched : goal.returns-clause-untouched
@@ -113,20 +113,20 @@ returns-clause-untouched g c told refused =
 
 pub returns-clause-others : goal.returns-clause-others
 returns-clause-others g c told ask asked =
-    (printed_serves g.S.Site.tells g.S.Site.files g.S.Site.may_leave g.S.Site.moment g.S.Site.images_since (g.S.Site.moment c.args.site) g.F.Commands.gives g.F.Commands.may_fail (AllTell g.R.Runner.tells c.args.runners.now) (AllSure g.R.Runner.sure c.args.runners.now)
+    (printed_serves g.S.Site.tells g.S.Site.files g.S.Site.may_leave g.S.Site.moment g.S.Site.images_since (g.S.Site.moment c.args.site) g.F.Commands.gives g.F.Commands.may_fail (AllTell g.R.Runner.tells c.args.runners.now) (AllSure g.R.Runner.sure c.args.runners.now) (g.H.Hall.honest c.args.hall.now)
     (g.S.Site.count c.args.site) (map g.R.Runner.count c.args.runners.now) (g.H.Hall.count c.args.hall.now) (g.H.Hall.idle_count c.args.hall.now) (g.O.Sink.count c.args.out.now) (g.S.Site.count c.follow-course.result.site) (map g.R.Runner.count c.follow-course.new.runners) (g.H.Hall.count c.follow-course.new.hall) (g.H.Hall.idle_count c.follow-course.new.hall) (g.O.Sink.count c.tell-cause.new.out) ask c.args.site c.follow-course.result.site c.follow-course.result.records c.follow-course.result.cause c.tell-cause.result (stands (g.O.Sink.count c.args.out.now) (g.O.Sink.count c.tell-cause.new.out) c.follow-course.result.cause c.tell-cause.result c.tell-cause.ensures.stands) (c.follow-course.ensures.serves told ask asked)).others told
 
 pub returns-clause-contents : goal.returns-clause-contents
-returns-clause-contents g c told ask asked H spelled alone resumable jobs image left =
+returns-clause-contents g c told ask asked H spelled met resumable jobs image left =
     ⊎_elim (λ (was : g.S.Site.images_since c.args.site (g.S.Site.moment c.args.site) image). inl (entry_before ask.log (g.S.Site.files c.args.site ask.log) (g.S.Site.may_leave c.args.site) image (((g.met.S.Site g.world.𝓛 g.world.𝓜 g.world.𝓡 ((λ s x. x), (λ x. x), (λ x. x), λ x. x)).only_now told c.args.site image was))))
     (λ (m : IsMoment (SerialFits g.F.Commands.gives (read_sources ask.plan (g.S.Site.files c.args.site))) ask.plan ask.log (g.S.Site.files c.args.site) (g.S.Site.may_leave c.args.site) H c.follow-course.result.records (IsCut c.tell-cause.result) image). m)
-    ((printed_serves g.S.Site.tells g.S.Site.files g.S.Site.may_leave g.S.Site.moment g.S.Site.images_since (g.S.Site.moment c.args.site) g.F.Commands.gives g.F.Commands.may_fail (AllTell g.R.Runner.tells c.args.runners.now) (AllSure g.R.Runner.sure c.args.runners.now)
-    (g.S.Site.count c.args.site) (map g.R.Runner.count c.args.runners.now) (g.H.Hall.count c.args.hall.now) (g.H.Hall.idle_count c.args.hall.now) (g.O.Sink.count c.args.out.now) (g.S.Site.count c.follow-course.result.site) (map g.R.Runner.count c.follow-course.new.runners) (g.H.Hall.count c.follow-course.new.hall) (g.H.Hall.idle_count c.follow-course.new.hall) (g.O.Sink.count c.tell-cause.new.out) ask c.args.site c.follow-course.result.site c.follow-course.result.records c.follow-course.result.cause c.tell-cause.result (stands (g.O.Sink.count c.args.out.now) (g.O.Sink.count c.tell-cause.new.out) c.follow-course.result.cause c.tell-cause.result c.tell-cause.ensures.stands) (c.follow-course.ensures.serves told ask asked)).contents told H spelled alone jobs resumable image left)
+    ((printed_serves g.S.Site.tells g.S.Site.files g.S.Site.may_leave g.S.Site.moment g.S.Site.images_since (g.S.Site.moment c.args.site) g.F.Commands.gives g.F.Commands.may_fail (AllTell g.R.Runner.tells c.args.runners.now) (AllSure g.R.Runner.sure c.args.runners.now) (g.H.Hall.honest c.args.hall.now)
+    (g.S.Site.count c.args.site) (map g.R.Runner.count c.args.runners.now) (g.H.Hall.count c.args.hall.now) (g.H.Hall.idle_count c.args.hall.now) (g.O.Sink.count c.args.out.now) (g.S.Site.count c.follow-course.result.site) (map g.R.Runner.count c.follow-course.new.runners) (g.H.Hall.count c.follow-course.new.hall) (g.H.Hall.idle_count c.follow-course.new.hall) (g.O.Sink.count c.tell-cause.new.out) ask c.args.site c.follow-course.result.site c.follow-course.result.records c.follow-course.result.cause c.tell-cause.result (stands (g.O.Sink.count c.args.out.now) (g.O.Sink.count c.tell-cause.new.out) c.follow-course.result.cause c.tell-cause.result c.tell-cause.ensures.stands) (c.follow-course.ensures.serves told ask asked)).contents told H spelled met jobs resumable image left)
 
 pub returns-clause-honest : goal.returns-clause-honest
-returns-clause-honest g c told ask asked H spelled alone resumable jobs begins =
-    (printed_serves g.S.Site.tells g.S.Site.files g.S.Site.may_leave g.S.Site.moment g.S.Site.images_since (g.S.Site.moment c.args.site) g.F.Commands.gives g.F.Commands.may_fail (AllTell g.R.Runner.tells c.args.runners.now) (AllSure g.R.Runner.sure c.args.runners.now)
-    (g.S.Site.count c.args.site) (map g.R.Runner.count c.args.runners.now) (g.H.Hall.count c.args.hall.now) (g.H.Hall.idle_count c.args.hall.now) (g.O.Sink.count c.args.out.now) (g.S.Site.count c.follow-course.result.site) (map g.R.Runner.count c.follow-course.new.runners) (g.H.Hall.count c.follow-course.new.hall) (g.H.Hall.idle_count c.follow-course.new.hall) (g.O.Sink.count c.tell-cause.new.out) ask c.args.site c.follow-course.result.site c.follow-course.result.records c.follow-course.result.cause c.tell-cause.result (stands (g.O.Sink.count c.args.out.now) (g.O.Sink.count c.tell-cause.new.out) c.follow-course.result.cause c.tell-cause.result c.tell-cause.ensures.stands) (c.follow-course.ensures.serves told ask asked)).honest told H spelled alone resumable jobs begins
+returns-clause-honest g c told ask asked H spelled met resumable jobs begins =
+    (printed_serves g.S.Site.tells g.S.Site.files g.S.Site.may_leave g.S.Site.moment g.S.Site.images_since (g.S.Site.moment c.args.site) g.F.Commands.gives g.F.Commands.may_fail (AllTell g.R.Runner.tells c.args.runners.now) (AllSure g.R.Runner.sure c.args.runners.now) (g.H.Hall.honest c.args.hall.now)
+    (g.S.Site.count c.args.site) (map g.R.Runner.count c.args.runners.now) (g.H.Hall.count c.args.hall.now) (g.H.Hall.idle_count c.args.hall.now) (g.O.Sink.count c.args.out.now) (g.S.Site.count c.follow-course.result.site) (map g.R.Runner.count c.follow-course.new.runners) (g.H.Hall.count c.follow-course.new.hall) (g.H.Hall.idle_count c.follow-course.new.hall) (g.O.Sink.count c.tell-cause.new.out) ask c.args.site c.follow-course.result.site c.follow-course.result.records c.follow-course.result.cause c.tell-cause.result (stands (g.O.Sink.count c.args.out.now) (g.O.Sink.count c.tell-cause.new.out) c.follow-course.result.cause c.tell-cause.result c.tell-cause.ensures.stands) (c.follow-course.ensures.serves told ask asked)).honest told H spelled met resumable jobs begins
 
 pub returns-clause-failures : goal.returns-clause-failures
 returns-clause-failures g c local =
@@ -142,7 +142,7 @@ returns-clause-never g c is =
 
 pub returns-clause-completes : goal.returns-clause-completes
 returns-clause-completes g c told ask asked H spelled =
-    (printed_serves g.S.Site.tells g.S.Site.files g.S.Site.may_leave g.S.Site.moment g.S.Site.images_since (g.S.Site.moment c.args.site) g.F.Commands.gives g.F.Commands.may_fail (AllTell g.R.Runner.tells c.args.runners.now) (AllSure g.R.Runner.sure c.args.runners.now)
+    (printed_serves g.S.Site.tells g.S.Site.files g.S.Site.may_leave g.S.Site.moment g.S.Site.images_since (g.S.Site.moment c.args.site) g.F.Commands.gives g.F.Commands.may_fail (AllTell g.R.Runner.tells c.args.runners.now) (AllSure g.R.Runner.sure c.args.runners.now) (g.H.Hall.honest c.args.hall.now)
     (g.S.Site.count c.args.site) (map g.R.Runner.count c.args.runners.now) (g.H.Hall.count c.args.hall.now) (g.H.Hall.idle_count c.args.hall.now) (g.O.Sink.count c.args.out.now) (g.S.Site.count c.follow-course.result.site) (map g.R.Runner.count c.follow-course.new.runners) (g.H.Hall.count c.follow-course.new.hall) (g.H.Hall.idle_count c.follow-course.new.hall) (g.O.Sink.count c.tell-cause.new.out) ask c.args.site c.follow-course.result.site c.follow-course.result.records c.follow-course.result.cause c.tell-cause.result (stands (g.O.Sink.count c.args.out.now) (g.O.Sink.count c.tell-cause.new.out) c.follow-course.result.cause c.tell-cause.result c.tell-cause.ensures.stands) (c.follow-course.ensures.serves told ask asked)).completes told H spelled
 
 own_read : (kind : Kind) → is_of_plan kind ≡ true → was_read kind ≡ true
@@ -188,23 +188,23 @@ returns-clause-collects g c options chosen =
 
 pub returns-clause-modes : goal.returns-clause-modes
 returns-clause-modes g c told ask asked H spelled begins =
-    (printed_serves g.S.Site.tells g.S.Site.files g.S.Site.may_leave g.S.Site.moment g.S.Site.images_since (g.S.Site.moment c.args.site) g.F.Commands.gives g.F.Commands.may_fail (AllTell g.R.Runner.tells c.args.runners.now) (AllSure g.R.Runner.sure c.args.runners.now)
+    (printed_serves g.S.Site.tells g.S.Site.files g.S.Site.may_leave g.S.Site.moment g.S.Site.images_since (g.S.Site.moment c.args.site) g.F.Commands.gives g.F.Commands.may_fail (AllTell g.R.Runner.tells c.args.runners.now) (AllSure g.R.Runner.sure c.args.runners.now) (g.H.Hall.honest c.args.hall.now)
     (g.S.Site.count c.args.site) (map g.R.Runner.count c.args.runners.now) (g.H.Hall.count c.args.hall.now) (g.H.Hall.idle_count c.args.hall.now) (g.O.Sink.count c.args.out.now) (g.S.Site.count c.follow-course.result.site) (map g.R.Runner.count c.follow-course.new.runners) (g.H.Hall.count c.follow-course.new.hall) (g.H.Hall.idle_count c.follow-course.new.hall) (g.O.Sink.count c.tell-cause.new.out) ask c.args.site c.follow-course.result.site c.follow-course.result.records c.follow-course.result.cause c.tell-cause.result (stands (g.O.Sink.count c.args.out.now) (g.O.Sink.count c.tell-cause.new.out) c.follow-course.result.cause c.tell-cause.result c.tell-cause.ensures.stands) (c.follow-course.ensures.serves told ask asked)).modes told H spelled begins
 
 pub returns-clause-needed : goal.returns-clause-needed
 returns-clause-needed g c told ask asked H spelled begins =
     drops_unneeded ask.plan ask.options.mode H c.follow-course.result.records
-    ((printed_serves g.S.Site.tells g.S.Site.files g.S.Site.may_leave g.S.Site.moment g.S.Site.images_since (g.S.Site.moment c.args.site) g.F.Commands.gives g.F.Commands.may_fail (AllTell g.R.Runner.tells c.args.runners.now) (AllSure g.R.Runner.sure c.args.runners.now)
+    ((printed_serves g.S.Site.tells g.S.Site.files g.S.Site.may_leave g.S.Site.moment g.S.Site.images_since (g.S.Site.moment c.args.site) g.F.Commands.gives g.F.Commands.may_fail (AllTell g.R.Runner.tells c.args.runners.now) (AllSure g.R.Runner.sure c.args.runners.now) (g.H.Hall.honest c.args.hall.now)
     (g.S.Site.count c.args.site) (map g.R.Runner.count c.args.runners.now) (g.H.Hall.count c.args.hall.now) (g.H.Hall.idle_count c.args.hall.now) (g.O.Sink.count c.args.out.now) (g.S.Site.count c.follow-course.result.site) (map g.R.Runner.count c.follow-course.new.runners) (g.H.Hall.count c.follow-course.new.hall) (g.H.Hall.idle_count c.follow-course.new.hall) (g.O.Sink.count c.tell-cause.new.out) ask c.args.site c.follow-course.result.site c.follow-course.result.records c.follow-course.result.cause c.tell-cause.result (stands (g.O.Sink.count c.args.out.now) (g.O.Sink.count c.tell-cause.new.out) c.follow-course.result.cause c.tell-cause.result c.tell-cause.ensures.stands) (c.follow-course.ensures.serves told ask asked)).modes told H spelled begins)
 
 pub returns-clause-gone : goal.returns-clause-gone
 returns-clause-gone g c told ask asked H spelled whole =
-    (printed_serves g.S.Site.tells g.S.Site.files g.S.Site.may_leave g.S.Site.moment g.S.Site.images_since (g.S.Site.moment c.args.site) g.F.Commands.gives g.F.Commands.may_fail (AllTell g.R.Runner.tells c.args.runners.now) (AllSure g.R.Runner.sure c.args.runners.now)
+    (printed_serves g.S.Site.tells g.S.Site.files g.S.Site.may_leave g.S.Site.moment g.S.Site.images_since (g.S.Site.moment c.args.site) g.F.Commands.gives g.F.Commands.may_fail (AllTell g.R.Runner.tells c.args.runners.now) (AllSure g.R.Runner.sure c.args.runners.now) (g.H.Hall.honest c.args.hall.now)
     (g.S.Site.count c.args.site) (map g.R.Runner.count c.args.runners.now) (g.H.Hall.count c.args.hall.now) (g.H.Hall.idle_count c.args.hall.now) (g.O.Sink.count c.args.out.now) (g.S.Site.count c.follow-course.result.site) (map g.R.Runner.count c.follow-course.new.runners) (g.H.Hall.count c.follow-course.new.hall) (g.H.Hall.idle_count c.follow-course.new.hall) (g.O.Sink.count c.tell-cause.new.out) ask c.args.site c.follow-course.result.site c.follow-course.result.records c.follow-course.result.cause c.tell-cause.result (stands (g.O.Sink.count c.args.out.now) (g.O.Sink.count c.tell-cause.new.out) c.follow-course.result.cause c.tell-cause.result c.tell-cause.ensures.stands) (c.follow-course.ensures.serves told ask asked)).gone told H spelled whole
 
 pub returns-clause-cleaned : goal.returns-clause-cleaned
 returns-clause-cleaned g c told ask asked H spelled =
-    (printed_serves g.S.Site.tells g.S.Site.files g.S.Site.may_leave g.S.Site.moment g.S.Site.images_since (g.S.Site.moment c.args.site) g.F.Commands.gives g.F.Commands.may_fail (AllTell g.R.Runner.tells c.args.runners.now) (AllSure g.R.Runner.sure c.args.runners.now)
+    (printed_serves g.S.Site.tells g.S.Site.files g.S.Site.may_leave g.S.Site.moment g.S.Site.images_since (g.S.Site.moment c.args.site) g.F.Commands.gives g.F.Commands.may_fail (AllTell g.R.Runner.tells c.args.runners.now) (AllSure g.R.Runner.sure c.args.runners.now) (g.H.Hall.honest c.args.hall.now)
     (g.S.Site.count c.args.site) (map g.R.Runner.count c.args.runners.now) (g.H.Hall.count c.args.hall.now) (g.H.Hall.idle_count c.args.hall.now) (g.O.Sink.count c.args.out.now) (g.S.Site.count c.follow-course.result.site) (map g.R.Runner.count c.follow-course.new.runners) (g.H.Hall.count c.follow-course.new.hall) (g.H.Hall.idle_count c.follow-course.new.hall) (g.O.Sink.count c.tell-cause.new.out) ask c.args.site c.follow-course.result.site c.follow-course.result.records c.follow-course.result.cause c.tell-cause.result (stands (g.O.Sink.count c.args.out.now) (g.O.Sink.count c.tell-cause.new.out) c.follow-course.result.cause c.tell-cause.result c.tell-cause.ensures.stands) (c.follow-course.ensures.serves told ask asked)).cleaned told H spelled
 
 pub returns-clause-logged_failures : goal.returns-clause-logged_failures

@@ -35,19 +35,19 @@ returns-in-PrintLog-clause-collects g c ends = absurd (true≢false (sym ends �
 pub returns-in-Clean-clause-serves : goal.returns-in-Clean-clause-serves
 returns-in-Clean-clause-serves g c =
     widened g.S.Site.tells g.S.Site.files g.S.Site.may_leave g.S.Site.moment g.S.Site.images_since g.B.Born.born g.F.Commands.gives g.F.Commands.may_fail
-    (λ (job : Job). Unit {0}) (AllTell g.R.Runner.tells c.args.runners.now) (Unit {0}) (AllSure g.R.Runner.sure c.args.runners.now)
+    (λ (job : Job). Unit {0}) (AllTell g.R.Runner.tells c.args.runners.now) (Unit {0}) (AllSure g.R.Runner.sure c.args.runners.now) (Unit {0}) (g.H.Hall.honest c.args.hall.now)
     (counts c.args.before [] 0 0 0) (counts (g.S.Site.count c.clean_flow.result.site) [] 0 0 0) (counts c.args.before (map g.R.Runner.count c.args.runners.now) (g.H.Hall.count c.args.hall.now) (g.H.Hall.idle_count c.args.hall.now) 0) (counts (g.S.Site.count c.clean_flow.result.site) (map g.R.Runner.count c.args.runners.now) (g.H.Hall.count c.args.hall.now) (g.H.Hall.idle_count c.args.hall.now) 0)
     c.args.ask c.args.site c.clean_flow.result.site c.clean_flow.result.records c.clean_flow.result.cause
-    (λ job told. tt) (λ sure. tt) (unmet_fault c.args.before (g.S.Site.count c.clean_flow.result.site) (g.H.Hall.count c.args.hall.now) (g.H.Hall.idle_count c.args.hall.now) (map g.R.Runner.count c.args.runners.now) c.clean_flow.result.cause) (λ none. record { site = none.site; runners = refl; sink = refl }) (none_rises (g.H.Hall.idle_count c.args.hall.now))
+    (λ job told. tt) (λ sure. tt) (λ met. tt) (unmet_fault c.args.before (g.S.Site.count c.clean_flow.result.site) (g.H.Hall.count c.args.hall.now) (g.H.Hall.idle_count c.args.hall.now) (map g.R.Runner.count c.args.runners.now) c.clean_flow.result.cause) (λ none. record { site = none.site; runners = refl; sink = refl }) (none_rises (g.H.Hall.idle_count c.args.hall.now))
     c.clean_flow.ensures.serves
 
 pub returns-in-PrintLog-clause-serves : goal.returns-in-PrintLog-clause-serves
 returns-in-PrintLog-clause-serves g c =
     widened g.S.Site.tells g.S.Site.files g.S.Site.may_leave g.S.Site.moment g.S.Site.images_since g.B.Born.born g.F.Commands.gives g.F.Commands.may_fail
-    (λ (job : Job). Unit {0}) (AllTell g.R.Runner.tells c.args.runners.now) (Unit {0}) (AllSure g.R.Runner.sure c.args.runners.now)
+    (λ (job : Job). Unit {0}) (AllTell g.R.Runner.tells c.args.runners.now) (Unit {0}) (AllSure g.R.Runner.sure c.args.runners.now) (Unit {0}) (g.H.Hall.honest c.args.hall.now)
     (counts c.args.before [] 0 0 0) (counts (g.S.Site.count c.read_log.result.site) [] 0 0 0) (counts c.args.before (map g.R.Runner.count c.args.runners.now) (g.H.Hall.count c.args.hall.now) (g.H.Hall.idle_count c.args.hall.now) 0) (counts (g.S.Site.count c.read_log.result.site) (map g.R.Runner.count c.args.runners.now) (g.H.Hall.count c.args.hall.now) (g.H.Hall.idle_count c.args.hall.now) 0)
     c.args.ask c.args.site c.read_log.result.site c.read_log.result.records c.read_log.result.cause
-    (λ job told. tt) (λ sure. tt) (unmet_fault c.args.before (g.S.Site.count c.read_log.result.site) (g.H.Hall.count c.args.hall.now) (g.H.Hall.idle_count c.args.hall.now) (map g.R.Runner.count c.args.runners.now) c.read_log.result.cause) (λ none. record { site = none.site; runners = refl; sink = refl }) (none_rises (g.H.Hall.idle_count c.args.hall.now))
+    (λ job told. tt) (λ sure. tt) (λ met. tt) (unmet_fault c.args.before (g.S.Site.count c.read_log.result.site) (g.H.Hall.count c.args.hall.now) (g.H.Hall.idle_count c.args.hall.now) (map g.R.Runner.count c.args.runners.now) c.read_log.result.cause) (λ none. record { site = none.site; runners = refl; sink = refl }) (none_rises (g.H.Hall.idle_count c.args.hall.now))
     c.read_log.ensures.serves
 
 pub returns-in-Clean-clause-back : goal.returns-in-Clean-clause-back

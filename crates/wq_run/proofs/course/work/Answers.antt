@@ -54,6 +54,9 @@ run_all-done-requires-clause-seats g c κs within = subst (λ (x : CompanyState 
 pub run_all-done-requires-clause-none : goal.run_all-done-requires-clause-none
 run_all-done-requires-clause-none g c κs within = ap (λ (x : CompanyState g.row.H-Way.Denot). gathered x.seats) c.new-company.ensures
 
+pub run_all-done-requires-clause-listens : goal.run_all-done-requires-clause-listens
+run_all-done-requires-clause-listens g c κs within = record { coming = c.in-Ok.ensures.listens; fair = λ held. c.listen.ensures.honest (c.requires.honest held) }
+
 pub disband-requires-clause-none : goal.disband-requires-clause-none
 disband-requires-clause-none g c κs within = c.run_all-done.ensures.none
 

@@ -10,9 +10,11 @@ use Rattle.run_history.specs.Storage.{running_rules}
 use Rattle.wq_run.specs.Seats.{AreSeats}
 use Rattle.run_history.specs.declared.answers.Check.{Check}
 use Rattle.wq_run.specs.Works.{EndsNow, IsOn}
+use Rattle.wq_run.specs.Trusted.{IsOf}
 use Rattle.wq_run.proofs.Ending.{memory_halt, none_same}
 use Rattle.wq_run.proofs.Services.{met_then}
 use Rattle.wq_run.proofs.Working.{hall_rose, is_on, round_by, round_halted, round_over, round_unended, round_waits, seats_goes}
+use Rattle.wq_run.proofs.Trusts.{of_then}
 use Rattle.wq_run.proofs.rounds.go_round.Goals as goal
 
 pub returns-in-Err : goal.returns-in-Err
@@ -23,6 +25,7 @@ returns-in-Err g c = record {
   met = c.serve_all.ensures.met;
   listens = c.serve_all.ensures.listens;
   sure = c.serve_all.ensures.sure;
+  tells = c.serve_all.ensures.tells;
 }
 
 pub returns-then-has_lost : goal.returns-then-has_lost
@@ -34,6 +37,7 @@ returns-then-has_lost g c = record {
   met = c.serve_all.ensures.met;
   listens = c.serve_all.ensures.listens;
   sure = c.serve_all.ensures.sure;
+  tells = c.serve_all.ensures.tells;
 }
 
 pub returns-then-has_failed : goal.returns-then-has_failed
@@ -45,6 +49,7 @@ returns-then-has_failed g c = record {
   met = c.serve_all.ensures.met;
   listens = c.serve_all.ensures.listens;
   sure = c.serve_all.ensures.sure;
+  tells = c.serve_all.ensures.tells;
 }
 
 pub end-requires-clause-fine : goal.end-requires-clause-fine
@@ -64,6 +69,7 @@ returns-in-Ok-Some g c = record {
   met = c.serve_all.ensures.met;
   listens = c.serve_all.ensures.listens;
   sure = c.serve_all.ensures.sure;
+  tells = c.serve_all.ensures.tells;
 }
 
 pub returns-in-Err-end : goal.returns-in-Err-end
@@ -74,10 +80,16 @@ returns-in-Err-end g c = record {
   met = c.serve_all.ensures.met;
   listens = c.serve_all.ensures.listens;
   sure = c.serve_all.ensures.sure;
+  tells = c.serve_all.ensures.tells;
 }
 
 pub wait_round-requires-clause-valid : goal.wait_round-requires-clause-valid
 wait_round-requires-clause-valid g c κs within = subst (λ (x : DeskState g.row.S.Denot). IsValid x.plan) (sym (none_same g.S.Site.tells g.T.Terms.kept g.S.Site.files c.serve_all.new.desk c.end.new.desk c.in-Ok-None.field-0 c.in-Ok-None.field-0-is c.in-Ok-None.ensures.ended.ends)) (subst IsValid (sym c.in-Ok.ensures.came.goes.plan) c.requires.valid)
+
+pub wait_round-requires-clause-of : goal.wait_round-requires-clause-of
+wait_round-requires-clause-of g c κs within =
+    subst (λ (x : DeskState g.row.S.Denot). IsOf g.T.Terms.trust g.F.Commands.gives g.T.Terms.sources g.S.Site.tells g.T.Terms.kept g.T.Trust.holds g.T.Trust.plan g.T.Trust.run g.T.Trust.due x.plan (records_of x.moves)) (sym (none_same g.S.Site.tells g.T.Terms.kept g.S.Site.files c.serve_all.new.desk c.end.new.desk c.in-Ok-None.field-0 c.in-Ok-None.field-0-is c.in-Ok-None.ensures.ended.ends))
+    (of_then g.T.Terms.trust g.F.Commands.gives g.F.Commands.may_fail g.T.Terms.sources g.S.Site.tells g.T.Terms.kept (Unit {0}) g.S.Site.files g.S.Site.may_leave g.S.Site.moment g.S.Site.images_since g.T.Trust.holds g.T.Trust.plan g.T.Trust.run g.T.Trust.due c.in-Ok.ensures.came.links c.args.desk.now c.serve_all.new.desk c.in-Ok.ensures.came.goes c.requires.of)
 
 pub wait_round-requires-clause-on : goal.wait_round-requires-clause-on
 wait_round-requires-clause-on g c κs within = subst (λ (x : DeskState g.row.S.Denot). IsOn x) (sym (none_same g.S.Site.tells g.T.Terms.kept g.S.Site.files c.serve_all.new.desk c.end.new.desk c.in-Ok-None.field-0 c.in-Ok-None.field-0-is c.in-Ok-None.ensures.ended.ends)) (is_on g.T.Terms.trust g.F.Commands.gives g.F.Commands.may_fail g.T.Terms.sources g.S.Site.tells g.T.Terms.kept g.S.Site.files g.S.Site.may_leave g.S.Site.moment g.S.Site.images_since (AllSure g.R.Runner.sure c.args.runners.now) c.args.desk.now c.serve_all.new.desk (sum_by g.R.Runner.count c.args.runners.now) (sum_by g.R.Runner.count c.serve_all.new.runners) (sum_by g.R.Runner.failures c.args.runners.now) (sum_by g.R.Runner.failures c.serve_all.new.runners) c.in-Ok.ensures.came c.requires.on)
@@ -97,4 +109,5 @@ returns g c = record {
   met = met_then c.serve_all.ensures.met c.wait_round.ensures.met;
   listens = c.wait_round.ensures.listens;
   sure = c.serve_all.ensures.sure;
+  tells = c.serve_all.ensures.tells;
 }

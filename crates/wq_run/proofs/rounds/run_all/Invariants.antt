@@ -1,7 +1,9 @@
 use Rattle.std.proofs.Common.{◌≡◌, ◌<◌, [], length}
 use Rattle.std.specs.Prelude.{sum_by}
-use Rattle.worker_pool.specs.Crews.{AllSure}
+use Rattle.worker_pool.specs.Crews.{AllSure, AllTell}
+use Rattle.local_run.specs.Course.{TellsJobs}
 use Rattle.wq_run.specs.Seats.{AreSeats, Meets, gathered, inside_of}
+use Rattle.wq_run.specs.Trusted.{IsOpen}
 use Rattle.wq_run.proofs.Working.{Stands}
 use Rattle.wq_run.proofs.rounds.run_all.Given as goal
 
@@ -10,7 +12,8 @@ invariant-loop g l = record {
   some : 0 < length l.runners;
   stands : Stands g.T.Terms.trust g.F.Commands.gives g.F.Commands.may_fail g.T.Terms.sources g.S.Site.tells g.T.Terms.kept g.S.Site.files g.S.Site.may_leave g.S.Site.moment g.S.Site.images_since l.fn.desk l.desk (sum_by g.R.Runner.count l.fn.runners) (sum_by g.R.Runner.count l.runners) (sum_by g.R.Runner.failures l.fn.runners) (sum_by g.R.Runner.failures l.runners);
   sure : AllSure g.R.Runner.sure l.fn.runners → AllSure g.R.Runner.sure l.runners;
-  listens : g.H.Hall.listens l.hall;
+  told : g.T.Terms.trust → TellsJobs g.T.Trust.plan (AllTell g.R.Runner.tells l.runners) g.T.Trust.due;
+  listens : IsOpen g.T.Trust.holds (g.H.Hall.listens l.hall) (g.H.Hall.honest l.hall);
   seats : AreSeats l.desk.plan l.desk.options l.desk.moves l.company.seats;
   none : gathered l.company.seats ≡ [];
   met : Meets (g.H.Hall.count l.fn.hall) (g.H.Hall.count l.hall) (g.H.Hall.got l.fn.hall) (g.H.Hall.got l.hall) (g.H.Hall.given l.fn.hall) (g.H.Hall.given l.hall) (g.H.Hall.idle_count l.fn.hall) (g.H.Hall.idle_count l.hall) (inside_of l.fn.company) (inside_of l.company) l.fn.company.failed l.company.failed l.fn.company.lost l.company.lost;

@@ -13,6 +13,7 @@ pub returns-in_default : goal.returns-in_default
 returns-in_default g c = record {
   came = on_want g.T.Terms.trust g.F.Commands.gives g.F.Commands.may_fail g.T.Terms.sources g.S.Site.tells g.T.Terms.kept (IsSurePool g.B.Terms.fits) g.S.Site.files g.S.Site.may_leave g.S.Site.moment g.S.Site.images_since c.args.desk.now (sum_by g.R.Runner.count c.args.runners.now) (sum_by g.R.Runner.failures c.args.runners.now) (λ told image. (g.met.S.Site g.world.𝓛 g.world.𝓜 g.world.𝓡 ((λ s x. x), (λ x. x), (λ x. x), λ x. x)).only_now told c.args.desk.now.site image) c.requires.idle;
   sure = λ is. is;
+  tells = λ job is. is;
   seats = c.requires.seats;
   none = c.requires.none;
   listens = c.requires.listens;
@@ -46,6 +47,7 @@ returns g c =
     record {
       came = came_finished g.T.Terms.trust g.F.Commands.gives g.F.Commands.may_fail g.T.Terms.sources g.S.Site.tells g.T.Terms.kept (IsSurePool g.B.Terms.fits) g.S.Site.files g.S.Site.may_leave g.S.Site.moment g.S.Site.images_since c.args.desk.now c.finish.new.desk c.serve_beside.new.pool.heard c.finish.new.company.seats (sum_by g.R.Runner.count c.args.runners.now) (sum_by g.R.Runner.count c.serve_beside.new.runners) (sum_by g.R.Runner.failures c.args.runners.now) (sum_by g.R.Runner.failures c.serve_beside.new.runners) c.finish.result f more.0 more.1;
       sure = c.serve_beside.ensures.sure;
+      tells = c.serve_beside.ensures.tells;
       seats = f.placed;
       none = f.empty;
       listens = c.finish.ensures.listens c.serve_beside.ensures.listens;

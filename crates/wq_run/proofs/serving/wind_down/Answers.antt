@@ -1,8 +1,10 @@
 use Rattle.std.proofs.Common.{◌≡◌, ◌≤◌, ◌+◌, ◌∙◌, [], None, arith, ap, refl, rules, subst, sym, true≢false}
 use Rattle.flow_types.specs.Plans.{IsValid}
-use Rattle.local_run.specs.Underway.{IsSurePool}
+use Rattle.run_history.specs.Links.{records_of}
+use Rattle.local_run.specs.Underway.{IsSurePool, ToldOf}
 use Rattle.wq_run.proofs.Services.{begins_manned, came_finished, finished_by, met_none, met_then, on_less, on_want}
 use Rattle.wq_run.proofs.Shares.{manned_on}
+use Rattle.wq_run.proofs.Trusts.{of_goes, told_by}
 use Rattle.wq_run.proofs.serving.wind_down.Goals as goal
 
 pub dismiss-requires-clause-manned : goal.dismiss-requires-clause-manned
@@ -15,7 +17,10 @@ hear-requires-clause-valid g c κs within =
     subst IsValid (sym (n.under.goes.plan ∙ sym m.under.goes.plan)) c.requires.valid
 
 pub hear-requires-clause-told : goal.hear-requires-clause-told
-hear-requires-clause-told g c κs within trusted = absurd (c.requires.apart trusted)
+hear-requires-clause-told g c κs within =
+    let m = c.requires.served.manned in
+    let n = c.dismiss.ensures.manned c.requires.served.first c.args.pool.now.waiting c.args.pool.now.heard m in
+    told_by c.dismiss.new.desk.plan (records_of c.dismiss.new.desk.moves) (ToldOf g.F.Commands.gives g.F.Commands.may_fail g.B.Terms.fits) (of_goes g.T.Terms.trust g.F.Commands.gives g.F.Commands.may_fail g.T.Terms.sources g.S.Site.tells g.T.Terms.kept (IsSurePool g.B.Terms.fits) g.S.Site.files g.S.Site.may_leave g.S.Site.moment g.S.Site.images_since g.T.Trust.holds g.T.Trust.plan g.T.Trust.run g.T.Trust.due m.away.links n.away.links c.requires.served.first c.args.desk.now c.dismiss.new.desk m.under.goes n.under.goes c.requires.of) c.requires.told
 
 pub hear-requires-clause-underway : goal.hear-requires-clause-underway
 hear-requires-clause-underway g c κs within =

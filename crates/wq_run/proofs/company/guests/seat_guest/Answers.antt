@@ -5,11 +5,14 @@ use Rattle.wq_run.proofs.Companies.{man_as, seated}
 use Rattle.wq_run.proofs.Visits.{joins_none}
 use Rattle.wq_run.proofs.company.guests.seat_guest.Goals as goal
 
+pub new-requires-clause-meant : goal.new-requires-clause-meant
+new-requires-clause-meant g c κs within = c.requires.guest.so
+
 pub returns-in-Ok-clause-manned : goal.returns-in-Ok-clause-manned
 returns-in-Ok-clause-manned g c held first waiting heard m =
     seated c.args.desk.now c.join.new.desk c.args.offer.total c.args.offer.largest c.args.offer.cache c.in-Ok.link c.args.company.now.seats c.take_seat.new.company.seats c.new.result c.in-Ok.ensures.reply
     (λ attempts halt away since starts tally under. c.in-Ok.ensures.underway away since attempts starts None tally halt under)
-    (ap (λ s. s.link) c.new.ensures) (ap (λ s. s.attempts) c.new.ensures) (subst IsGuest (sym (ap (λ s. s.peer) c.new.ensures)) c.requires.guest) c.take_seat.ensures.seats held first waiting heard m
+    (ap (λ s. s.link) c.new.ensures) (ap (λ s. s.attempts) c.new.ensures) (subst (IsGuest _) (sym (ap (λ s. s.peer) c.new.ensures)) c.requires.guest) c.take_seat.ensures.seats held first waiting heard m
 
 pub returns-in-Err-clause-manned : goal.returns-in-Err-clause-manned
 returns-in-Err-clause-manned g c held first waiting heard m =

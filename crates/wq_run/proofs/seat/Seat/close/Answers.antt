@@ -1,9 +1,11 @@
 use Rattle.std.proofs.Common.{◌∙◌, Option, Result, ap, refl, subst, sym}
 use Rattle.std.specs.List.{AllByRecursion}
+use Rattle.flow_types.specs.Serial.{serial}
 use Rattle.desk.specs.declared.attempt.Attempt.{Attempt}
 use Rattle.local_run.specs.declared.halt.Halt.{Halt}
 use Rattle.local_run.specs.Underway.{HeldState, IsSurePool, halt_after}
 use Rattle.wq_run.specs.Seats.{MayEndAs}
+use Rattle.wq_run.specs.Trusted.{EndsDue}
 use Rattle.wq_run.proofs.Closes.{away_from, close_keeps, placed, runs}
 use Rattle.wq_run.proofs.Places.{all_at}
 use Rattle.wq_run.proofs.seat.Seat.close.Goals as goal
@@ -27,6 +29,12 @@ end_away-requires-clause-fits g c κs within =
     let split = c.take-attempt.ensures.split in
     all_at (MayEndAs c.args.desk.now.plan c.args.number c.args.outcome) split.0 c.take-attempt.result split.1
     (subst (AllByRecursion (MayEndAs c.args.desk.now.plan c.args.number c.args.outcome)) split.2 c.requires.fits) c.take-attempt.ensures.number
+
+pub end_away-requires-clause-honest : goal.end_away-requires-clause-honest
+end_away-requires-clause-honest g c κs within trusted =
+    let split = c.take-attempt.ensures.split in
+    let Due : Attempt → Type 0 = EndsDue c.args.desk.now.plan g.F.Commands.gives g.F.Commands.may_fail (serial c.args.desk.now.plan g.F.Commands.gives g.T.Terms.sources) c.args.number c.args.outcome in
+    all_at Due split.0 c.take-attempt.result split.1 (subst (AllByRecursion Due) split.2 (c.requires.honest trusted)) c.take-attempt.ensures.number
 
 pub returns-in-Err-clause-keeps : goal.returns-in-Err-clause-keeps
 returns-in-Err-clause-keeps g c =

@@ -1,4 +1,4 @@
-use Rattle.std.proofs.Common.{◌≡◌, ◌∙◌, ◌∷◌, ◌++◌, [], None, Option, Some, false, ap, refl, subst, sym}
+use Rattle.std.proofs.Common.{◌≡◌, ◌∙◌, ◌∷◌, ◌++◌, [], None, Option, Some, false, true, ap, refl, rules, subst, sym}
 use Rattle.std.proofs.lemmas.List.{append-nil}
 use Rattle.flow_types.specs.declared.numbers.AttemptNo.{AttemptNo}
 use Rattle.desk.specs.declared.attempt.Attempt.{Attempt}
@@ -8,8 +8,12 @@ use Rattle.local_run.specs.declared.halt.Halt.TheVariants as halts
 use Rattle.local_run.specs.Beyond.{lost_by}
 use Rattle.local_run.specs.Underway.{HeldState, IsSurePool, halt_after}
 use Rattle.local_run.proofs.StandsBegun.{wants_on}
-use Rattle.wq_run.specs.Seats.{IsAtSeat, SeatAfter, SeatState, seat_with}
+use Rattle.wq_run.specs.Seats.{IsAtSeat, LeavesSeat, SeatAfter, SeatState, seat_with}
+use Rattle.wq_run.specs.Trusted.{MayOpen}
+use Rattle.wq_run.proofs.Asks.{keeps_same}
 use Rattle.wq_run.proofs.Closes.{away_from, close_keeps, placed, runs}
+use Rattle.wq_run.proofs.Shares.{may_leave_it}
+use Rattle.wq_run.proofs.Trusts.{held_opens}
 use Rattle.wq_run.proofs.seat.Seat.hand_out.Goals as goal
 
 pub start-requires-clause-fresh : goal.start-requires-clause-fresh
@@ -20,11 +24,6 @@ start-requires-clause-fresh g c κs within =
 pub start-requires-clause-at : goal.start-requires-clause-at
 start-requires-clause-at g c κs within =
     subst (IsAtSeat g.T.Terms.trust g.F.Commands.gives g.F.Commands.may_fail g.T.Terms.sources g.S.Site.tells g.T.Terms.kept (IsSurePool g.B.Terms.fits) g.S.Site.files g.S.Site.may_leave g.S.Site.moment g.S.Site.images_since c.args.desk.now c.args.held.now) (sym c.in-Ok.ensures.held) c.requires.at
-
-pub returns-in-Ok : goal.returns-in-Ok
-returns-in-Ok g c = record {
-  keeps = subst (λ (s : SeatState g.row.L.Denot). SeatAfter g.T.Terms.trust g.F.Commands.gives g.F.Commands.may_fail g.T.Terms.sources g.S.Site.tells g.T.Terms.kept (IsSurePool g.B.Terms.fits) g.S.Site.files g.S.Site.may_leave g.S.Site.moment g.S.Site.images_since c.args.desk.now c.start.new.desk c.args.held.now c.start.new.held s c.start.new.self c.start.result) c.in-Ok.ensures.held c.start.ensures.keeps;
-}
 
 pub lose_away-requires-clause-runs : goal.lose_away-requires-clause-runs
 lose_away-requires-clause-runs g c κs within =
@@ -50,4 +49,17 @@ returns-in-Err g c = record {
         wants_on g.T.Terms.trust g.F.Commands.gives g.F.Commands.may_fail g.T.Terms.sources g.S.Site.tells g.T.Terms.kept (IsSurePool g.B.Terms.fits) g.S.Site.files g.S.Site.may_leave g.S.Site.moment g.S.Site.images_since (lost_by (front ++ back) away) first c.lose_away.new.desk xs waiting None heard (halt_after c.lose_away.result halt)
             (c.lose_away.ensures.underway away front back first xs waiting heard halt are u),
       )) c.requires.at;
+}
+
+pub start-requires-clause-opens : goal.start-requires-clause-opens
+start-requires-clause-opens g c κs within held =
+    let new : c.is_new-is_new.result ≡ true = search rules in
+    let may : MayOpen g.F.Commands.gives g.F.Commands.may_fail g.L.Link.history g.L.Link.honest g.T.Trust.plan g.T.Trust.run g.T.Trust.due c.args.self.now c.args.attempt.number = subst (MayOpen g.F.Commands.gives g.F.Commands.may_fail g.L.Link.history g.L.Link.honest g.T.Trust.plan g.T.Trust.run g.T.Trust.due c.args.self.now) c.number-number.ensures (c.is_new-is_new.ensures new held) in
+    subst (MayOpen g.F.Commands.gives g.F.Commands.may_fail g.L.Link.history g.L.Link.honest g.T.Trust.plan g.T.Trust.run g.T.Trust.due c.hold.new.self) (sym c.number-number.ensures)
+    (subst (λ (s : SeatState g.row.L.Denot). MayOpen g.F.Commands.gives g.F.Commands.may_fail g.L.Link.history g.L.Link.honest g.T.Trust.plan g.T.Trust.run g.T.Trust.due s c.args.attempt.number) (sym c.in-Ok.ensures.held) (held_opens g.F.Commands.gives g.F.Commands.may_fail g.L.Link.history g.L.Link.honest g.T.Trust.plan g.T.Trust.run g.T.Trust.due c.args.self.now c.args.attempt may))
+
+pub returns-then-not-is_new : goal.returns-then-not-is_new
+returns-then-not-is_new g c = record {
+  keeps = subst (λ (s : SeatState g.row.L.Denot). LeavesSeat g.T.Terms.trust g.F.Commands.gives g.F.Commands.may_fail g.T.Terms.sources g.S.Site.tells g.T.Terms.kept (IsSurePool g.B.Terms.fits) g.S.Site.files g.S.Site.may_leave g.S.Site.moment g.S.Site.images_since c.args.desk.now c.args.desk.now c.args.held.now c.args.held.now (seat_with c.args.self.now (c.args.self.now.attempts ++ (c.args.attempt ∷ []))) s) (sym c.in-Ok.ensures.held)
+      (may_leave_it g.T.Terms.trust g.F.Commands.gives g.F.Commands.may_fail g.T.Terms.sources g.S.Site.tells g.T.Terms.kept (IsSurePool g.B.Terms.fits) g.S.Site.files g.S.Site.may_leave g.S.Site.moment g.S.Site.images_since c.args.desk.now c.args.desk.now c.args.held.now c.args.held.now (seat_with c.args.self.now (c.args.self.now.attempts ++ (c.args.attempt ∷ []))) (seat_with c.args.self.now (c.args.self.now.attempts ++ (c.args.attempt ∷ []))) (keeps_same g.T.Terms.trust g.F.Commands.gives g.F.Commands.may_fail g.T.Terms.sources g.S.Site.tells g.T.Terms.kept (IsSurePool g.B.Terms.fits) g.S.Site.files g.S.Site.may_leave g.S.Site.moment g.S.Site.images_since c.args.desk.now c.args.held.now (seat_with c.args.self.now (c.args.self.now.attempts ++ (c.args.attempt ∷ [])))));
 }

@@ -1,6 +1,8 @@
 use Rattle.std.proofs.Common.{◌≡◌, List, None, Ok, Result, subst, sym}
 use Rattle.std.specs.List.{AllByRecursion}
 use Rattle.flow_types.specs.declared.job.Outcome.TheVariants as outcomes
+use Rattle.flow_types.specs.Serial.{serial}
+use Rattle.run_history.specs.Links.{records_of}
 use Rattle.desk.specs.declared.attempt.Attempt.{Attempt}
 use Rattle.peers.specs.declared.leave.Leave.{Leave}
 use Rattle.peers.specs.declared.told.Told.{Told}
@@ -8,10 +10,13 @@ use Rattle.peers.specs.declared.told.Told.TheVariants as tell
 use Rattle.peers.specs.Hears.{Hears}
 use Rattle.local_run.specs.Underway.{IsHeld, IsSurePool}
 use Rattle.wq_run.specs.Seats.{MayEndAs}
+use Rattle.wq_run.specs.Trusted.{TellsDue}
+use Rattle.wq_run.proofs.Asks.{keeps_same}
 use Rattle.wq_run.proofs.Closes.{inside, placed}
 use Rattle.wq_run.proofs.Places.{ends_held, may_end_as}
-use Rattle.wq_run.proofs.Shares.{keeps_then, leaves_then}
+use Rattle.wq_run.proofs.Shares.{keeps_then, leaves_then, may_leave_it}
 use Rattle.wq_run.proofs.Steps.{after_then, at_then, heard_keeps, heard_of, unheard_leaves}
+use Rattle.wq_run.proofs.Trusts.{due_by, ends_unrun}
 use Rattle.wq_run.proofs.seat.Seat.hear.Goals as goal
 
 pub close-requires-clause-at : goal.close-requires-clause-at
@@ -106,3 +111,24 @@ returns-in-Ok-PutAgain g c = record {
 
 pub put_again-requires-clause-at : goal.put_again-requires-clause-at
 put_again-requires-clause-at g c κs within = at_then g.T.Terms.trust g.F.Commands.gives g.F.Commands.may_fail g.T.Terms.sources g.S.Site.tells g.T.Terms.kept (IsSurePool g.B.Terms.fits) g.S.Site.files g.S.Site.may_leave g.S.Site.moment g.S.Site.images_since c.args.desk.now c.args.desk.now c.args.held.now c.args.held.now c.args.self.now c.next.new.self c.requires.at (heard_keeps g.T.Terms.trust g.F.Commands.gives g.F.Commands.may_fail g.T.Terms.sources g.S.Site.tells g.T.Terms.kept (IsSurePool g.B.Terms.fits) g.S.Site.files g.S.Site.may_leave g.S.Site.moment g.S.Site.images_since c.args.desk.now c.args.held.now c.args.self.now c.next.new.self (tell.PutAgain c.in-Ok-PutAgain.attempt c.in-Ok-PutAgain.files) c.next.ensures.link c.next.ensures.attempts (subst (λ (x : Told). let r : Result Told Leave = Ok x in c.args.self.now.peer.feed.stop ≡ None → Hears c.args.self.now.peer.feed c.args.self.now.peer.session r c.next.new.self.peer.feed c.next.new.self.peer.session) c.in-Ok-PutAgain.field-0-is c.in-Ok-PutAgain.ensures.hears))
+
+pub close-requires-clause-honest : goal.close-requires-clause-honest
+close-requires-clause-honest g c κs within =
+    due_by g.F.Commands.may_fail c.args.desk.now.plan (records_of c.args.desk.now.moves) c.in-Ok-Finish.attempt (outcomes.Success c.in-Ok-Finish.outs) c.next.new.self.attempts c.requires.of
+    (λ held. subst (λ (x : Told). TellsDue g.F.Commands.gives g.F.Commands.may_fail g.L.Link.history g.L.Link.honest g.T.Trust.plan g.T.Trust.run g.T.Trust.due c.next.new.self x) c.in-Ok-Finish.field-0-is (c.in-Ok-Finish.ensures.due held))
+
+pub close-requires-in-Ok-Fail-clause-honest : goal.close-requires-in-Ok-Fail-clause-honest
+close-requires-in-Ok-Fail-clause-honest g c κs within =
+    due_by g.F.Commands.may_fail c.args.desk.now.plan (records_of c.args.desk.now.moves) c.in-Ok-Fail.attempt (outcomes.Failed c.in-Ok-Fail.why) c.next.new.self.attempts c.requires.of
+    (λ held. subst (λ (x : Told). TellsDue g.F.Commands.gives g.F.Commands.may_fail g.L.Link.history g.L.Link.honest g.T.Trust.plan g.T.Trust.run g.T.Trust.due c.next.new.self x) c.in-Ok-Fail.field-0-is (c.in-Ok-Fail.ensures.due held))
+
+pub close-requires-in-Ok-Lose-clause-honest : goal.close-requires-in-Ok-Lose-clause-honest
+close-requires-in-Ok-Lose-clause-honest g c κs within trusted = ends_unrun c.args.desk.now.plan g.F.Commands.gives g.F.Commands.may_fail (serial c.args.desk.now.plan g.F.Commands.gives g.T.Terms.sources) c.in-Ok-Lose.attempt c.next.new.self.attempts
+
+pub put_again-requires-clause-was : goal.put_again-requires-clause-was
+put_again-requires-clause-was g c κs within held = subst (λ (x : Told). TellsDue g.F.Commands.gives g.F.Commands.may_fail g.L.Link.history g.L.Link.honest g.T.Trust.plan g.T.Trust.run g.T.Trust.due c.next.new.self x) c.in-Ok-PutAgain.field-0-is (c.in-Ok-PutAgain.ensures.due held)
+
+pub returns-then-not-is_ready : goal.returns-then-not-is_ready
+returns-then-not-is_ready g c = record {
+  keeps = may_leave_it g.T.Terms.trust g.F.Commands.gives g.F.Commands.may_fail g.T.Terms.sources g.S.Site.tells g.T.Terms.kept (IsSurePool g.B.Terms.fits) g.S.Site.files g.S.Site.may_leave g.S.Site.moment g.S.Site.images_since c.args.desk.now c.args.desk.now c.args.held.now c.args.held.now c.args.self.now c.args.self.now (keeps_same g.T.Terms.trust g.F.Commands.gives g.F.Commands.may_fail g.T.Terms.sources g.S.Site.tells g.T.Terms.kept (IsSurePool g.B.Terms.fits) g.S.Site.files g.S.Site.may_leave g.S.Site.moment g.S.Site.images_since c.args.desk.now c.args.held.now c.args.self.now);
+}

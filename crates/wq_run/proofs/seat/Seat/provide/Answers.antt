@@ -4,6 +4,7 @@ use Rattle.wq_frames.specs.Streams.{Stream}
 use Rattle.wq_run.proofs.Asks.{keeps_still}
 use Rattle.wq_run.proofs.Shares.{keeps_then, leaves_then}
 use Rattle.wq_run.proofs.Steps.{after_kept, after_then, at_then}
+use Rattle.wq_run.proofs.Trusts.{of_seat}
 use Rattle.wq_run.proofs.seat.Seat.provide.Goals as goal
 
 pub put-requires-clause-at : goal.put-requires-clause-at
@@ -17,6 +18,7 @@ returns-in-Err g c = record {
 pub loop-file-preserved : goal.loop-file-preserved
 loop-file-preserved g c = record {
   keeps = keeps_then g.T.Terms.trust g.F.Commands.gives g.F.Commands.may_fail g.T.Terms.sources g.S.Site.tells g.T.Terms.kept (IsSurePool g.B.Terms.fits) g.S.Site.files g.S.Site.may_leave g.S.Site.moment g.S.Site.images_since c.args.desk.now c.loop-file.desk c.put.new.desk c.args.held.now c.loop-file.held c.put.new.held c.args.self.now c.loop-file.self c.put.new.self c.loop-file.invariant.keeps c.in-Ok.ensures.keeps;
+  asks = λ held. c.in-Ok.ensures.asks c.args.task held (c.loop-file.invariant.asks held);
 }
 
 pub returns : goal.returns
@@ -26,3 +28,6 @@ returns g c = record {
       (keeps_still g.T.Terms.trust g.F.Commands.gives g.F.Commands.may_fail g.T.Terms.sources g.S.Site.tells g.T.Terms.kept (IsSurePool g.B.Terms.fits) g.S.Site.files g.S.Site.may_leave g.S.Site.moment g.S.Site.images_since c.loop-file.desk c.loop-file.desk c.loop-file.held c.loop-file.held c.loop-file.self c.ask.new.self c.ask.ensures.link c.ask.ensures.attempts c.ask.ensures.session (λ was. ap (λ (x : Stream). x.stop) c.ask.ensures.feed ∙ was) (λ away first waiting heard u. u)
       (at_then g.T.Terms.trust g.F.Commands.gives g.F.Commands.may_fail g.T.Terms.sources g.S.Site.tells g.T.Terms.kept (IsSurePool g.B.Terms.fits) g.S.Site.files g.S.Site.may_leave g.S.Site.moment g.S.Site.images_since c.args.desk.now c.loop-file.desk c.args.held.now c.loop-file.held c.args.self.now c.loop-file.self c.requires.at c.loop-file.invariant.keeps)));
 }
+
+pub put-requires-clause-of : goal.put-requires-clause-of
+put-requires-clause-of g c κs within = of_seat g.T.Terms.trust g.F.Commands.gives g.F.Commands.may_fail g.T.Terms.sources g.S.Site.tells g.T.Terms.kept (IsSurePool g.B.Terms.fits) g.S.Site.files g.S.Site.may_leave g.S.Site.moment g.S.Site.images_since g.T.Trust.holds g.T.Trust.plan g.T.Trust.run g.T.Trust.due c.args.desk.now c.loop-file.desk c.args.held.now c.loop-file.held c.args.self.now c.loop-file.self c.requires.at c.loop-file.invariant.keeps c.requires.of

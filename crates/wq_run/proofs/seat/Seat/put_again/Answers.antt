@@ -1,8 +1,16 @@
 use Rattle.local_run.specs.Underway.{IsSurePool}
+use Rattle.run_history.specs.Links.{records_of}
 use Rattle.wq_run.proofs.Closes.{inside, placed}
+use Rattle.wq_run.proofs.Trusts.{again_asks, alone_at, own_by}
 use Rattle.wq_run.proofs.seat.Seat.put_again.Goals as goal
 
 pub task-requires-clause-inside : goal.task-requires-clause-inside
 task-requires-clause-inside g c κs within =
     let is = c.requires.at in
     inside g.T.Terms.trust g.F.Commands.gives g.F.Commands.may_fail g.T.Terms.sources g.S.Site.tells g.T.Terms.kept (IsSurePool g.B.Terms.fits) g.S.Site.files g.S.Site.may_leave g.S.Site.moment g.S.Site.images_since is.front is.back is.first c.args.desk.now c.args.held.now is.waiting is.heard c.args.self.now (placed g.T.Terms.trust g.F.Commands.gives g.F.Commands.may_fail g.T.Terms.sources g.S.Site.tells g.T.Terms.kept (IsSurePool g.B.Terms.fits) g.S.Site.files g.S.Site.may_leave g.S.Site.moment g.S.Site.images_since is.front is.back is.first c.args.desk.now c.args.held.now is.waiting is.heard c.args.self.now is.at)
+
+pub provide-requires-clause-asks : goal.provide-requires-clause-asks
+provide-requires-clause-asks g c κs within held =
+    let of = c.in-Some.ensures.of in
+    again_asks g.F.Commands.gives g.F.Commands.may_fail g.L.Link.history g.L.Link.honest g.T.Trust.plan g.T.Trust.run g.T.Trust.due c.args.self.now c.args.number of.0 of.1 of.2 c.in-Some.task of.3 of.4 (alone_at g.T.Terms.trust g.F.Commands.gives g.F.Commands.may_fail g.T.Terms.sources g.S.Site.tells g.T.Terms.kept (IsSurePool g.B.Terms.fits) g.S.Site.files g.S.Site.may_leave g.S.Site.moment g.S.Site.images_since g.T.Trust.holds g.T.Trust.plan g.T.Trust.run g.T.Trust.due c.args.desk.now c.args.held.now c.args.self.now of.0 of.1 of.2 of.3 c.requires.at)
+    (own_by c.args.desk.now.plan (records_of c.args.desk.now.moves) of.1 c.in-Some.task c.requires.of of.5) (c.requires.was held)

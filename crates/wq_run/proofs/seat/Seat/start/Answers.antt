@@ -1,12 +1,15 @@
 use Rattle.std.proofs.Common.{◌≡◌, ◌∙◌, false, ap, refl, subst, sym}
+use Rattle.std.specs.List.{AllByRecursion}
 use Rattle.flow_types.specs.declared.numbers.AttemptNo.{AttemptNo}
 use Rattle.run_history.specs.Links.{records_of}
 use Rattle.link_session.specs.Sessions.{is_open}
 use Rattle.local_run.specs.Underway.{HeldState, IsSurePool}
 use Rattle.wq_frames.specs.Streams.{Stream}
+use Rattle.wq_run.specs.Trusted.{IsOwn, MayOpen}
 use Rattle.wq_run.proofs.Asks.{GoesBy, keeps_still, open_keeps, stops_want, suits_of}
 use Rattle.wq_run.proofs.Closes.{inside, placed}
 use Rattle.wq_run.proofs.Steps.{after_then, at_then}
+use Rattle.wq_run.proofs.Trusts.{alone_at, own_all, own_by}
 use Rattle.wq_run.proofs.seat.Seat.start.Goals as goal
 
 pub task-requires-clause-inside : goal.task-requires-clause-inside
@@ -42,3 +45,10 @@ returns-in_default g c = record {
   keeps = keeps_still g.T.Terms.trust g.F.Commands.gives g.F.Commands.may_fail g.T.Terms.sources g.S.Site.tells g.T.Terms.kept (IsSurePool g.B.Terms.fits) g.S.Site.files g.S.Site.may_leave g.S.Site.moment g.S.Site.images_since c.args.desk.now c.args.desk.now c.args.held.now c.stop.new.self c.args.self.now c.args.self.now refl refl refl (λ was. was)
       (subst (GoesBy g.T.Terms.trust g.F.Commands.gives g.F.Commands.may_fail g.T.Terms.sources g.S.Site.tells g.T.Terms.kept (IsSurePool g.B.Terms.fits) g.S.Site.files g.S.Site.may_leave g.S.Site.moment g.S.Site.images_since c.args.desk.now c.args.desk.now c.args.held.now) (sym c.stop.ensures) (stops_want g.T.Terms.trust g.F.Commands.gives g.F.Commands.may_fail g.T.Terms.sources g.S.Site.tells g.T.Terms.kept (IsSurePool g.B.Terms.fits) g.S.Site.files g.S.Site.may_leave g.S.Site.moment g.S.Site.images_since c.args.desk.now c.args.held.now)) c.requires.at;
 }
+
+pub provide-requires-clause-asks : goal.provide-requires-clause-asks
+provide-requires-clause-asks g c κs within held =
+    let of = c.in-Some.ensures.of in
+    let own = own_by c.args.desk.now.plan (records_of c.args.desk.now.moves) of.1 c.in-Some.task c.requires.of of.5 in
+    c.in-Ok.ensures.asks held (subst (MayOpen g.F.Commands.gives g.F.Commands.may_fail g.L.Link.history g.L.Link.honest g.T.Trust.plan g.T.Trust.run g.T.Trust.due c.args.self.now) (sym ((suits_of c.args.desk.now.plan (records_of c.args.desk.now.moves) of.1 c.in-Some.task of.5).1 ∙ of.4)) (c.requires.opens held))
+    (subst (AllByRecursion (IsOwn g.T.Trust.plan g.T.Trust.run c.in-Some.task)) (sym of.3) (own_all g.T.Trust.plan g.T.Trust.run of.0 of.1 of.2 c.in-Some.task (alone_at g.T.Terms.trust g.F.Commands.gives g.F.Commands.may_fail g.T.Terms.sources g.S.Site.tells g.T.Terms.kept (IsSurePool g.B.Terms.fits) g.S.Site.files g.S.Site.may_leave g.S.Site.moment g.S.Site.images_since g.T.Trust.holds g.T.Trust.plan g.T.Trust.run g.T.Trust.due c.args.desk.now c.args.held.now c.args.self.now of.0 of.1 of.2 of.3 c.requires.at) own))
