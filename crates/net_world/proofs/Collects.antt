@@ -8,8 +8,6 @@ use Rattle.flow_types.specs.declared.numbers.Content.{Content}
 use Rattle.flow_types.specs.declared.numbers.FileNo.{FileNo}
 use Rattle.flow_types.specs.declared.records.Record.{Record}
 use Rattle.flow_types.specs.declared.records.Record.TheVariants as records
-use Rattle.flow_types.specs.declared.messages.Message.TheVariants as messages
-use Rattle.link_session.specs.Keys.{key_of}
 use Rattle.flow_types.specs.Plans.{maker_of, makes, file_numbers}
 use Rattle.flow_types.specs.Serial.{Contents}
 use Rattle.run_history.specs.declared.options.Mode.{Mode}

@@ -16,10 +16,10 @@ use Rattle.net_world.specs.declared.events.Sent.{Sent}
 use Rattle.net_world.specs.Members.{Stands, Every}
 use Rattle.net_world.specs.declared.member.Member.{Member}
 use Rattle.net_world.specs.declared.member.Member.TheVariants.{Leads, Works}
-use Rattle.net_world.specs.Worlds.{party_of, told_to, Machine, Lead, rule_at, rule_started}
-use Rattle.net_world.specs.Laws.{IsCarried, task_sent}
+use Rattle.net_world.specs.Worlds.{party_of, told_to, Machine, rule_at, rule_started}
+use Rattle.net_world.specs.Laws.{IsCarried}
 use Rattle.net_world.proofs.Members.{get_left}
-use Rattle.net_world.proofs.Invariant.{Setting, SaysNone, SaysReports, IsHeardBelow, IsOurAnswer, IsRightTask, IsStarted, IsRightMessage, IsRight, IsRightJob, IsRightLead, IsRightPeer, IsRightPlace, IsRightRecord}
+use Rattle.net_world.proofs.Invariant.{Setting, SaysReports, IsHeardBelow, IsOurAnswer, IsRightTask, IsStarted, IsRightMessage, IsRight, IsRightJob, IsRightPeer, IsRightPlace, IsRightRecord}
 
 -- each attempt keeps its rule
 abbrev pub Keeps : List Record → List Record → Type 0

@@ -53,7 +53,7 @@ use Rattle.net_world.specs.declared.play.Play.{Play}
 use Rattle.net_world.specs.Hearings.{IsFitEnd, word_in}
 use Rattle.net_world.specs.Members.{Every, Stands}
 use Rattle.net_world.specs.declared.member.Member.{Member}
-use Rattle.net_world.specs.Worlds.{Connection, World, to_member, answer_logged, answered, at_peer, comes, coming_logged, delivered, delivery_logged, changes, closed_as, closed_at, end_in, end_logged, follows, link_no, message_logged, moved, puts_again, puts_and_task, records_in, rule_at, sent_more, session_set, stepped, task_at, the_rule, to_master, to_peer, up_from, with_session}
+use Rattle.net_world.specs.Worlds.{Connection, World, to_member, answer_logged, answered, at_peer, comes, coming_logged, delivered, delivery_logged, changes, closed_as, closed_at, end_in, end_logged, follows, link_no, message_logged, moved, puts_again, puts_and_task, records_in, rule_at, sent_more, session_set, task_at, the_rule, to_master, to_peer, with_session}
 use Rattle.net_world.specs.Plays.{IsFit, IsOurs, IsShown, IsTable}
 use Rattle.net_world.proofs.Deliveries.{told_by_stage}
 use Rattle.net_world.proofs.Lines.{changed_links, goes_nowhere, keeps_silent, numbers_of}

@@ -17,6 +17,7 @@ use Rattle.net_world.specs.declared.play.Play.{Play}
 use Rattle.net_world.specs.Holdings.{given_at, held_in}
 use Rattle.net_world.specs.Plays.{IsFit, IsShown}
 use Rattle.net_world.specs.Reach.{EndsSo, Failures, MayAnswer}
+use Rattle.net_world.specs.Due.{Ended, RunsSo, local_due}
 use Rattle.net_world.specs.Steps.{RunsLocally, job_in}
 use Rattle.net_world.specs.Worlds.{World, closes, job_at, records_in, rule_at, runs_local, the_rule, want_at}
 
@@ -53,12 +54,21 @@ may_answer : (gives : Function) (may_fail : Failures) (job : Option Job) (outcom
 may_answer gives may_fail None outcome ends = tt
 may_answer gives may_fail (Some j) outcome ends = λ ran. ends j refl
 
+-- a job that was run ended so
+ended : (gives : Function) (may_fail : Failures) (job : Option Job) (outcome : Outcome) → ((j : Job) → job ≡ Some j → EndsSo gives may_fail j outcome) → Ended gives may_fail job outcome
+ended gives may_fail None outcome ends = tt
+ended gives may_fail (Some j) outcome ends = ends j refl
+
 -- an attempt that runs on the local place ended as the commands say
 pub here_shown : (gives : Function) (may_fail : Failures) (P : Plan) (O : Options) (w : World) (old new : Play) (attempt : AttemptNo) (rule : RuleNo) (outcome : Outcome)
     → RunsLocally P w attempt (Some rule) → IsShown P O w old → ((job : Job) → job_in old rule.0 ≡ Some job → EndsSo gives may_fail job outcome) → IsShown P O (closes P w attempt outcome) new
-    → (outcome : Outcome) × MayAnswer gives may_fail (job_at P w attempt) outcome × IsShown P O (runs_local P w attempt outcome) new
+    → (outcome : Outcome) × RunsSo gives may_fail (job_at P w attempt) (local_due P w attempt) outcome × IsShown P O (runs_local P w attempt outcome) new
 here_shown gives may_fail P O w old new attempt rule outcome here shown ends then = (
   outcome,
-  may_answer gives may_fail (job_at P w attempt) outcome (λ job is. ends job (job_is P O w old attempt rule job here.1 shown is)),
+  (
+    may_answer gives may_fail (job_at P w attempt) outcome (λ job is. ends job (job_is P O w old attempt rule job here.1 shown is)),
+    subst (λ b. Ended gives may_fail (cond b (job_at P w attempt) None) outcome) (sym here.0)
+        (ended gives may_fail (job_at P w attempt) outcome (λ job is. ends job (job_is P O w old attempt rule job here.1 shown is))),
+  ),
   subst (λ b. IsShown P O (cond b (closes P w attempt outcome) w) new) (sym here.0) then,
 )

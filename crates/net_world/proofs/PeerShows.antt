@@ -31,6 +31,7 @@ use Rattle.net_world.specs.declared.doing.Parting.TheVariants as partings
 use Rattle.net_world.specs.Doings.{IsStep, welcomes, RunsMember, RunsUnless, Stepped, departed, done, heard_by, hears_foreman, hears_master, hears_peer, hears_worker, home_parting, loses_at, parted_from, parting_of, still}
 use Rattle.net_world.specs.Worlds.{World, Lead, Machine, cut_where, hello_of, is_under, led, next_below, told_to, welcomed, with_one_more, from_foreman, from_worker, goes, goes_from, least_job, link_at, loses_below, next_job, party_of, ran, ran_on, sent_more, to_member, to_other, with_member, with_peers, works_on}
 use Rattle.net_world.specs.Reach.{EndsSo, Failures, MayAnswer}
+use Rattle.net_world.specs.Due.{Ended, RunsSo, peer_due}
 use Rattle.net_world.specs.Runs.{RunsNext}
 use Rattle.net_world.specs.Plays.{IsShown, IsTable, kept_in}
 
@@ -213,7 +214,7 @@ welcomed_shown P O w old new f lead worker total cache member after doing at lea
 
 abbrev pub Ran : Function → Failures → Plan → Options → World → Play → ℕ → Option Member → Type 0
 Ran gives may_fail P O w new p found =
-    (outcome : Outcome) × MayAnswer gives may_fail (next_job found) outcome × IsShown P O (ran_on w p outcome found) new
+    (outcome : Outcome) × RunsSo gives may_fail (next_job found) (peer_due found) outcome × IsShown P O (ran_on w p outcome found) new
 
 not_run : (gives : Function) (may_fail : Failures) (job : Option Job) → MayAnswer gives may_fail job outcomes.NotRun
 not_run gives may_fail None = tt
@@ -222,7 +223,7 @@ not_run gives may_fail (Some job) = λ run. absurd run
 -- a peer that isn't there runs nothing
 pub absent_shown : (gives : Function) (may_fail : Failures) (P : Plan) (O : Options) (w : World) (new : Play) (p : ℕ) → slice_get w.peers p ≡ None → IsShown P O w new
     → Ran gives may_fail P O w new p (slice_get w.peers p)
-absent_shown gives may_fail P O w new p none shown = subst (Ran gives may_fail P O w new p) (sym none) (outcomes.NotRun, tt, shown)
+absent_shown gives may_fail P O w new p none shown = subst (Ran gives may_fail P O w new p) (sym none) (outcomes.NotRun, (tt, tt), shown)
 
 -- no step was made
 still_shown : (P : Plan) (O : Options) (w : World) (new : Play) (p : ℕ) (member after : Member) (doing : Doing) → slice_get w.peers p ≡ Some member → IsStep (still member) after doing
@@ -238,17 +239,17 @@ nothing_told w p to member at = ap (λ bag. with_bag (with_member w p member) ba
 ran_by : (gives : Function) (may_fail : Failures) (P : Plan) (O : Options) (w : World) (new : Play) (p : ℕ) (home : Home) (machine after : Machine) (sent : List Message) (found : Option Start)
     → slice_get w.peers p ≡ Some (Works home machine) → RunsNext (EndsSo gives may_fail) machine found sent after
     → IsShown P O (done (with_member w p (Works home after)) p (doings.Tells (party_of home) sent)) new
-    → (outcome : Outcome) × MayAnswer gives may_fail (option_map (λ s. s.job) found) outcome × IsShown P O (ran w p home machine outcome found) new
+    → (outcome : Outcome) × RunsSo gives may_fail (option_map (λ s. s.job) found) (option_map (λ s. s.job) found) outcome × IsShown P O (ran w p home machine outcome found) new
 ran_by gives may_fail P O w new p home machine after sent None at runs shown = (
   outcomes.NotRun,
-  tt,
+  (tt, tt),
   subst (λ v. IsShown P O v new) (nothing_told w p (party_of home) (Works home machine) at)
       (subst (λ m. IsShown P O (done (with_member w p (Works home m)) p (doings.Tells (party_of home) [])) new) runs.1
       (subst (λ told. IsShown P O (done (with_member w p (Works home after)) p (doings.Tells (party_of home) told)) new) runs.0 shown)),
 )
 ran_by gives may_fail P O w new p home machine after sent (Some s) at runs shown = (
   runs.0,
-  λ run. runs.1,
+  (λ run. runs.1, runs.1),
   subst (λ m. IsShown P O (done (with_member w p (Works home m)) p (doings.Tells (party_of home) (reports machine.worker s.attempt runs.0).acts.send)) new) runs.3
       (subst (λ told. IsShown P O (done (with_member w p (Works home after)) p (doings.Tells (party_of home) told)) new) runs.2 shown),
 )
@@ -258,14 +259,20 @@ unless_by : (gives : Function) (may_fail : Failures) (P : Plan) (O : Options) (w
     → IsShown P O (done (with_member w p after) p doing) new → Ran gives may_fail P O w new p (Some (Works home machine))
 unless_by gives may_fail P O w new p home machine true after doing gone at is shown = (
   outcomes.NotRun,
-  not_run gives may_fail (next_job (Some (Works home machine))),
+  (
+    not_run gives may_fail (next_job (Some (Works home machine))),
+    subst (λ b. Ended gives may_fail (cond b None (next_job (Some (Works home machine)))) outcomes.NotRun) (sym gone) tt,
+  ),
   subst (λ b. IsShown P O (cond b w (ran w p home machine outcomes.NotRun (least_job machine.jobs))) new) (sym gone) (still_shown P O w new p (Works home machine) after doing at is shown),
 )
 unless_by gives may_fail P O w new p home machine false after doing gone at is shown =
     let more = is.1 in
     let did = ran_by gives may_fail P O w new p home machine is.0 more.0 (least_job machine.jobs) at more.1
-    (subst (λ d. IsShown P O (done (with_member w p (Works home is.0)) p d) new) more.3 (subst (λ m. IsShown P O (done (with_member w p m) p doing) new) more.2 shown)) in
-    (did.0, did.1, subst (λ b. IsShown P O (cond b w (ran w p home machine did.0 (least_job machine.jobs))) new) (sym gone) did.2)
+    (subst (λ d. IsShown P O (done (with_member w p (Works home is.0)) p d) new) more.3 (subst (λ m. IsShown P O (done (with_member w p m) p doing) new) more.2 shown)) in (
+      did.0,
+      (did.1.0, subst (λ b. Ended gives may_fail (cond b None (next_job (Some (Works home machine)))) did.0) (sym gone) did.1.1),
+      subst (λ b. IsShown P O (cond b w (ran w p home machine did.0 (least_job machine.jobs))) new) (sym gone) did.2,
+    )
 
 -- a peer runs its least job, where it has one and isn't gone
 pub ran_shown : (gives : Function) (may_fail : Failures) (P : Plan) (O : Options) (w : World) (new : Play) (p : ℕ) (member after : Member) (doing : Doing)
@@ -275,4 +282,4 @@ ran_shown gives may_fail P O w new p member after doing at runs shown = subst (R
   where
     by : (member : Member) → slice_get w.peers p ≡ Some member → RunsMember (EndsSo gives may_fail) member after doing → Ran gives may_fail P O w new p (Some member)
     by (Works home machine) at runs = unless_by gives may_fail P O w new p home machine machine.gone after doing refl at runs shown
-    by (Leads lead) at runs = (outcomes.NotRun, tt, still_shown P O w new p (Leads lead) after doing at runs shown)
+    by (Leads lead) at runs = (outcomes.NotRun, (tt, tt), still_shown P O w new p (Leads lead) after doing at runs shown)

@@ -20,10 +20,10 @@ use Rattle.worker_cache.specs.Caches.{Rows, place, held_place, if_linked, is_lin
 use Rattle.worker_core.specs.declared.running.Running.{Running}
 use Rattle.worker_core.specs.Workers.{Worker, Acted, key_of, holds_all, content_or_none, given_of, job_of, runs, starts, misses, hears, quiet, with_rows, reports, ends_at, place_of, told, files_of}
 use Rattle.net_world.specs.declared.events.Party.{Party}
-use Rattle.net_world.specs.declared.events.Party.TheVariants.{Master, Peer}
+use Rattle.net_world.specs.declared.events.Party.TheVariants.{Peer}
 use Rattle.net_world.specs.declared.events.Sent.{Sent}
 use Rattle.net_world.specs.Members.{Stands, Every}
-use Rattle.net_world.specs.Worlds.{is_least, least_job, told_to, down_to}
+use Rattle.net_world.specs.Worlds.{is_least, least_job, told_to}
 use Rattle.net_world.specs.Laws.{task_sent}
 use Rattle.net_world.proofs.Members.{every_nil, every_one, found_stands}
 use Rattle.net_world.proofs.Rows.{all_got, place_held, all_put, all_unlinked, all_pinned_all, all_unpinned_all, all_touched_all}

@@ -1,7 +1,7 @@
 -- What workers tell: reports that a frame takes.
-use Rattle.std.proofs.Common.{◌≡◌, ◌≤◌, ◌+◌, ℕ, Bool, true, false, not, cond, List, [], ◌∷◌, length, take, drop, filter, fold, map, Option, Some, None, refl, ap, sym, ◌∙◌, subst, arith}
-use Rattle.std.specs.Prelude.{Result, Ok, Err, find, insert, is_none, nat_lt, position, slice_get}
-use Rattle.std.specs.Option.{option_map, option_map_or}
+use Rattle.std.proofs.Common.{◌≡◌, ◌≤◌, ◌+◌, ℕ, Bool, true, false, not, cond, List, [], ◌∷◌, length, take, drop, filter, Option, Some, None, refl, ap, sym, subst, arith}
+use Rattle.std.specs.Prelude.{insert, nat_lt, position, slice_get}
+use Rattle.std.specs.Option.{option_map_or}
 use Rattle.std.proofs.lemmas.Bool.{and_parts, leb-true}
 use Rattle.std.proofs.lemmas.List.{length-append, length-map, take-append-drop}
 use Rattle.flow_types.specs.declared.plan.Plan.{Plan}
@@ -10,30 +10,14 @@ use Rattle.flow_types.specs.declared.plan.Rule.{Rule}
 use Rattle.flow_types.specs.declared.job.Job.{Job}
 use Rattle.flow_types.specs.declared.job.Outcome.{Outcome}
 use Rattle.flow_types.specs.declared.job.Outcome.TheVariants as outcomes
-use Rattle.flow_types.specs.declared.job.Report.{Report}
-use Rattle.flow_types.specs.declared.job.Start.{Start}
 use Rattle.flow_types.specs.declared.job.Task.{Task}
 use Rattle.flow_types.specs.declared.job.Want.{Want}
 use Rattle.flow_types.specs.declared.messages.Message.{Message}
 use Rattle.flow_types.specs.declared.messages.Message.TheVariants as messages
 use Rattle.flow_types.specs.declared.numbers.AttemptNo.{AttemptNo}
 use Rattle.flow_types.specs.declared.numbers.FileNo.{FileNo}
-use Rattle.flow_types.specs.declared.records.EndKind.{EndKind}
 use Rattle.flow_types.specs.declared.records.Record.{Record}
 use Rattle.flow_types.specs.Plans.{IsValid, is_within_limits}
-use Rattle.flow_types.specs.Serial.{Function}
-use Rattle.rule_graph.specs.Spelling.{plan_digest}
-use Rattle.run_history.specs.declared.options.Options.{Options}
-use Rattle.run_history.specs.Answers.{logged_end}
-use Rattle.run_history.specs.Legal.{has_places, is_allowed, runs}
-use Rattle.run_history.specs.Links.{running_on}
-use Rattle.run_history.specs.Moves.{has_join_room, join_refusal}
-use Rattle.run_history.specs.States.{Place, running_in}
-use Rattle.run_history.specs.Storage.{wanted}
-use Rattle.link_session.specs.declared.word.SessionFault.{SessionFault}
-use Rattle.link_session.specs.declared.word.Word.{Word}
-use Rattle.link_session.specs.declared.word.Word.TheVariants as words
-use Rattle.link_session.specs.Sessions.{told as hears_at}
 use Rattle.links.specs.Honesty.{HasRun}
 use Rattle.outside.specs.Jobs.{AllFit, IsShaped}
 use Rattle.worker_cache.specs.Caches.{Rows, is_full, is_held}
@@ -43,9 +27,8 @@ use Rattle.worker_core.proofs.Missing.{missing_ascends}
 use Rattle.net_world.specs.declared.events.Party.{Party}
 use Rattle.net_world.specs.declared.events.Party.TheVariants.{Master, Peer}
 use Rattle.net_world.specs.declared.events.Sent.{Sent}
-use Rattle.net_world.specs.Members.{Every, Stands}
+use Rattle.net_world.specs.Members.{Every}
 use Rattle.net_world.specs.Worlds.{want_at}
-use Rattle.net_world.specs.Reach.{Failures, MayAnswer, Reaches, first_world}
 use Rattle.links.specs.Honesty.{task_job}
 use Rattle.net_world.specs.Laws.{FitsFrame, IsReport}
 use Rattle.net_world.proofs.Bounds.{all_got}

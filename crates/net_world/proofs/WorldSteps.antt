@@ -5,7 +5,6 @@ use Rattle.std.specs.Option.{option_map}
 use Rattle.flow_types.specs.declared.job.Job.{Job}
 use Rattle.flow_types.specs.declared.job.Outcome.{Outcome}
 use Rattle.flow_types.specs.declared.job.Start.{Start}
-use Rattle.flow_types.specs.declared.job.Task.{Task}
 use Rattle.flow_types.specs.declared.numbers.LinkNo.{LinkNo}
 use Rattle.flow_types.specs.declared.records.Record.{Record}
 use Rattle.flow_types.specs.declared.messages.Message.{Message}

@@ -12,17 +12,12 @@ use Rattle.net_world.specs.declared.member.Home.{Home}
 use Rattle.net_world.specs.declared.member.Home.TheVariants.{AtForeman, AtMaster}
 use Rattle.net_world.specs.declared.member.Member.{Member}
 use Rattle.net_world.specs.declared.member.Member.TheVariants.{Leads, Works}
-use Rattle.net_world.specs.Peers.{Lead, Machine, gone_lead, gone_worker, least_job, next_below, told_to, up_from}
+use Rattle.net_world.specs.Peers.{Lead, Machine, least_job, next_below, told_to, up_from}
 
 -- the end of a link at which a worker's home is
 abbrev pub party_of : Home → Party
 party_of AtMaster = Master
 party_of (AtForeman f link) = Peer f
-
--- a peer that is gone
-abbrev pub gone : Member → Member
-gone (Works home machine) = Works home (gone_worker machine)
-gone (Leads lead) = Leads (gone_lead lead)
 
 -- the job that a peer runs next
 abbrev pub next_job : Option Member → Option Job

@@ -6,7 +6,7 @@ use Rattle.flow_types.specs.declared.job.Job.{Job}
 use Rattle.flow_types.specs.declared.job.Outcome.{Outcome}
 use Rattle.flow_types.specs.declared.messages.Message.{Message}
 use Rattle.flow_types.specs.declared.messages.Message.TheVariants as messages
-use Rattle.worker_core.specs.Workers.{Acted, hears}
+use Rattle.worker_core.specs.Workers.{hears}
 use Rattle.foreman_core.specs.Foremen.{each_amount, largest_by, total_by}
 use Rattle.foreman_core.specs.Steps.{Led, hears_down, hears_up, loses as loses_worker}
 use Rattle.net_world.specs.declared.doing.Doing.{Doing}

@@ -7,14 +7,16 @@ use Rattle.run_history.specs.declared.options.Options.{Options}
 use Rattle.net_world.specs.declared.events.WorldEvent.{WorldEvent}
 use Rattle.net_world.specs.declared.world.World.{World as WorldValue}
 use Rattle.net_world.specs.Worlds.{World}
-use Rattle.net_world.specs.Reach.{Failures, Reaches, first_world}
+use Rattle.net_world.specs.Reach.{Failures, first_world}
+use Rattle.net_world.specs.Due.{Plays}
 use Rattle.net_world.specs.Laws.{IsTrueWorld}
 use Rattle.net_world.specs.Results.{Shows, sources_in}
 
 -- The answer shows a world to which just these events lead, in their order, from the first one over
--- these sources; and what its records and its messages say is so.
+-- these sources, where each job that was to be run ran; and what its records and its messages say is
+-- so.
 abbrev pub EndsIn : Plan → Options → Function → Failures → List (List ℕ) → List WorldEvent → WorldValue → Type 0
 EndsIn P O gives may_fail sources events shown =
     (fresh : State)
-    → (w : World) × Reaches P O gives may_fail (first_world P O (sources_in P sources) fresh) events w
+    → (w : World) × Plays P O gives may_fail (first_world P O (sources_in P sources) fresh) events w
     × Shows P w shown × IsTrueWorld P gives may_fail (sources_in P sources) w

@@ -3,6 +3,7 @@ pub mod Peers
 pub mod Company
 pub mod Worlds
 pub mod Reach
+pub mod Due
 pub mod Runs
 pub mod Doings
 pub mod Plays

@@ -25,7 +25,8 @@ use Rattle.task_core.specs.States.{TableState}
 use Rattle.net_world.specs.declared.play.Play.{Play}
 use Rattle.net_world.specs.Members.{Every}
 use Rattle.net_world.specs.Worlds.{Connection, World, claim_logged, claimed_rule, claims, closes, dispatched_on, job_at, next_job, ran_on, rule_at, sent_out}
-use Rattle.net_world.specs.Reach.{Failures, MayAnswer}
+use Rattle.net_world.specs.Reach.{Failures}
+use Rattle.net_world.specs.Due.{RunsSo, peer_due}
 
 -- The table stands behind the moves of a run of this plan that was opened and that no stop ends,
 -- and these are their records.
@@ -78,11 +79,12 @@ abbrev pub Turns : (Plan → Options → World → World) → Play → Play → 
 Turns change old new =
     (P : Plan) (O : Options) (w : World) → IsShown P O w old → IsShown P O (change P O w) new
 
--- Machines that showed a world show it after a peer ran its least job, which ended as it may.
+-- Machines that showed a world show it after a peer that isn't gone ran its least job.
 abbrev pub RunsPeer : Function → Failures → ℕ → Play → Play → Type 0
 RunsPeer gives may_fail p old new =
     (P : Plan) (O : Options) (w : World) → IsShown P O w old
-    → (outcome : Outcome) × MayAnswer gives may_fail (next_job (slice_get w.peers p)) outcome
+    → (outcome : Outcome)
+    × RunsSo gives may_fail (next_job (slice_get w.peers p)) (peer_due (slice_get w.peers p)) outcome
     × IsShown P O (ran_on w p outcome (slice_get w.peers p)) new
 
 -- the outcome has the shape that the attempt's job asks for, if it ran

@@ -1,6 +1,6 @@
 //! A foreman of a world, as it runs.
-ghost use Rattle.std.specs.Prelude.{◌≡◌, ◌<◌, ◌+◌, ◌||◌, [], if◌then◌else◌, IfOk, None, OnOk};
-ghost use Rattle.std.specs.Prelude.{Some};
+ghost use Rattle.std.specs.Prelude.{◌≡◌, ◌<◌, ◌+◌, ◌||◌, [], if◌then◌else◌, IfOk, None, OnErr};
+ghost use Rattle.std.specs.Prelude.{OnOk, Some};
 ghost use Rattle.foreman_core.specs.Foremen.{each_amount, largest_by, total_by};
 ghost use Rattle.foreman_core.specs.Steps.{hears_down, hears_up, loses, sending};
 ghost use Rattle.net_world.specs.Peers.{gone_lead, is_open, most_came, new_lead, next_below};
@@ -54,6 +54,7 @@ impl Leader {
         ensures acts { IfOk result (λ acts. acts ≡ (hears_up self.old.foreman message).acts) }
         ensures lead { OnOk result (self.new
             ≡ stepped_lead self.old (hears_up self.old.foreman message)) }
+        ensures same { OnErr result (self.new ≡ self.old) }
     {
         match self.core.on_up(message) {
             Ok(acts) => Ok(self.takes(acts)),
@@ -69,6 +70,7 @@ impl Leader {
             ≡ (hears_down self.old.foreman link message.now).acts) }
         ensures lead { OnOk result (self.new
             ≡ stepped_lead self.old (hears_down self.old.foreman link message.now)) }
+        ensures same { OnErr result (self.new ≡ self.old) }
     {
         match self.core.on_down(link, message) {
             Ok(acts) => Ok(self.takes(acts)),
@@ -81,6 +83,7 @@ impl Leader {
         ensures acts { IfOk result (λ acts. acts ≡ (loses self.old.foreman link).acts) }
         ensures lead { OnOk result (self.new
             ≡ stepped_lead self.old (loses self.old.foreman link)) }
+        ensures same { OnErr result (self.new ≡ self.old) }
     {
         let acts = self.core.on_lost(link)?;
         Ok(self.takes(acts))

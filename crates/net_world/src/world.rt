@@ -55,6 +55,8 @@ pub fn run_world<F: Commands, R: Runner<F>>(
     ensures reached { IfOk result (λ shown. ((job : JobValue) → R.tells runner.old job)
         → EndsIn plan.now options.now F.gives F.may_fail sources.now events.now shown) }
     ensures cause { IsErrOf result WorldFault.Runner → R.count runner.old < R.count runner.new }
+    ensures later { R.count runner.old ≤ R.count runner.new }
+    ensures still_tells { (job : JobValue) → R.tells runner.old job → R.tells runner.new job }
 {
     let mut play = match Play::begin(alloc, plan, sources.as_slice(), options) {
         Ok(play) => play,

@@ -4,9 +4,10 @@ ghost use Rattle.flow_types.specs.declared.job.Job.{Job as JobValue};
 ghost use Rattle.flow_types.specs.declared.plan.Plan.{Plan as PlanValue};
 ghost use Rattle.outside.specs.Jobs.{IsShaped};
 ghost use Rattle.run_history.specs.declared.options.Options.{Options as OptionsValue};
+ghost use Rattle.net_world.specs.Due.{local_due};
 ghost use Rattle.net_world.specs.Plays.{IsShown};
 ghost use Rattle.net_world.specs.Reach.{EndsSo};
-ghost use Rattle.net_world.specs.Steps.{RunsAs, RunsLocally, job_in};
+ghost use Rattle.net_world.specs.Steps.{NoneDue, RunsAs, RunsLocally, job_in};
 ghost use Rattle.net_world.specs.Worlds.{World, job_at, runs_local};
 
 use crate::WorldFault;
@@ -23,6 +24,8 @@ impl Play {
         ensures inside { IfSome result (λ rule. rule.0 < length self.now.table.plan.rules) }
         ensures local { (P : PlanValue) (O : OptionsValue) (w : World) → IsShown P O w self.now
             → RunsLocally P w attempt result }
+        ensures due { (P : PlanValue) (O : OptionsValue) (w : World) → IsShown P O w self.now
+            → NoneDue P w attempt result }
     {
         let Some(rule) = rule_at(self.records.as_slice(), attempt) else {
             return None;
@@ -71,7 +74,7 @@ impl Play {
         runner: &mut R,
     ) -> Result<(), WorldFault>
         ensures ran { OnOk result (((job : JobValue) → R.tells runner.old job)
-            → RunsAs F.gives F.may_fail (λ P w. job_at P w attempt)
+            → RunsAs F.gives F.may_fail (λ P w. job_at P w attempt) (λ P w. local_due P w attempt)
             (λ P O w outcome. runs_local P w attempt outcome) self.old self.new) }
         ensures cause { IsErrOf result WorldFault.Runner → R.count runner.old < R.count runner.new }
         ensures later { R.count runner.old ≤ R.count runner.new }

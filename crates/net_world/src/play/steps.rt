@@ -2,6 +2,7 @@
 ghost use Rattle.std.specs.Prelude.{◌≡◌, ◌<◌, ◌≤◌, IsErrOf, OnOk};
 ghost use Rattle.flow_types.specs.declared.job.Job.{Job as JobValue};
 ghost use Rattle.net_world.specs.declared.events.WorldEvent.TheVariants as events;
+ghost use Rattle.net_world.specs.Due.{due_down, due_up};
 ghost use Rattle.net_world.specs.Plays.{Turns};
 ghost use Rattle.net_world.specs.Steps.{Leads, RunsAs, StepsBy, in_world};
 ghost use Rattle.net_world.specs.Worlds.{claim_logged, claimed_rule, cut_short, happens_down};
@@ -26,6 +27,7 @@ impl Play {
     fn cut<F: Commands, R: Runner<F>>(&mut self, cut: Cut, runner: &mut R) -> Result<(), WorldFault>
         ensures ran { OnOk result (((job : JobValue) → R.tells runner.old job)
             → RunsAs F.gives F.may_fail (λ P w. job_run P w (events.Crash cut))
+            (λ P w. due_up P w (events.Crash cut))
             (λ P O w outcome. cut_short P O w cut outcome) self.old self.new) }
         ensures cause { IsErrOf result WorldFault.Runner → R.count runner.old < R.count runner.new }
         ensures later { R.count runner.old ≤ R.count runner.new }
@@ -50,6 +52,7 @@ impl Play {
     ) -> Result<(), WorldFault>
         ensures ran { OnOk result (((job : JobValue) → R.tells runner.old job)
             → RunsAs F.gives F.may_fail (λ P w. job_run P w (events.Crash cut))
+            (λ P w. due_up P w (events.Crash cut))
             (λ P O w outcome. happens_up P O w (events.Crash cut) outcome) self.old self.new) }
         ensures cause { IsErrOf result WorldFault.Runner → R.count runner.old < R.count runner.new }
         ensures later { R.count runner.old ≤ R.count runner.new }
@@ -67,7 +70,7 @@ impl Play {
     ) -> Result<(), WorldFault>
         ensures ran { OnOk result (((job : JobValue) → R.tells runner.old job)
             → RunsAs F.gives F.may_fail (λ P w. job_run P w event)
-            (λ P O w outcome. happens_up P O w event outcome) self.old self.new) }
+            (λ P w. due_up P w event) (λ P O w outcome. happens_up P O w event outcome) self.old self.new) }
         ensures cause { IsErrOf result WorldFault.Runner → R.count runner.old < R.count runner.new }
         ensures later { R.count runner.old ≤ R.count runner.new }
         ensures still_tells { (job : JobValue) → R.tells runner.old job → R.tells runner.new job }
@@ -95,7 +98,7 @@ impl Play {
     ) -> Result<(), WorldFault>
         ensures ran { OnOk result (((job : JobValue) → R.tells runner.old job)
             → RunsAs F.gives F.may_fail (λ P w. job_run P w event)
-            (λ P O w outcome. happens_down P O w event outcome) self.old self.new) }
+            (λ P w. due_down w event) (λ P O w outcome. happens_down P O w event outcome) self.old self.new) }
         ensures cause { IsErrOf result WorldFault.Runner → R.count runner.old < R.count runner.new }
         ensures later { R.count runner.old ≤ R.count runner.new }
         ensures still_tells { (job : JobValue) → R.tells runner.old job → R.tells runner.new job }
@@ -144,6 +147,7 @@ impl Play {
             → Leads F.gives F.may_fail events.now self.old self.new) }
         ensures cause { IsErrOf result WorldFault.Runner → R.count runner.old < R.count runner.new }
         ensures later { R.count runner.old ≤ R.count runner.new }
+        ensures still_tells { (job : JobValue) → R.tells runner.old job → R.tells runner.new job }
     {
         for event in events {
             self.step(*event, runner)?;

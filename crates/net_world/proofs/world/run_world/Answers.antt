@@ -1,9 +1,11 @@
 use Rattle.std.proofs.Common.{subst}
 use Rattle.net_world.specs.Plays.{IsShown}
-use Rattle.net_world.specs.Reach.{Reaches, first_world}
+use Rattle.net_world.specs.Due.{Plays}
+use Rattle.net_world.specs.Reach.{first_world}
 use Rattle.net_world.specs.Results.{sources_in}
 use Rattle.net_world.proofs.BeginShows.{are_sources}
 use Rattle.net_world.proofs.Reached.{every_world}
+use Rattle.net_world.proofs.Runs.{plays_reach}
 use Rattle.net_world.proofs.world.run_world.Goals as goal
 
 pub returns-in-Ok-into_world-clause-reached : goal.returns-in-Ok-into_world-clause-reached
@@ -14,10 +16,11 @@ returns-in-Ok-into_world-clause-reached g c tells fresh =
     let gives = g.F.Commands.gives in
     let first = subst (λ s. IsShown P O (first_world P O (sources_in P s) fresh) c.in-Ok.play) c.as_slice.ensures (c.in-Ok.ensures fresh) in
     let did = c.in_ok-play.ensures.ran tells P O (first_world P O (sources_in P sources) fresh) first in
-    let reached = subst (λ es. Reaches P O gives g.F.Commands.may_fail (first_world P O (sources_in P sources) fresh) es did.0) c.as_slice-2.ensures did.1 in (
+    let played = subst (λ es. Plays P O gives g.F.Commands.may_fail (first_world P O (sources_in P sources) fresh) es did.0) c.as_slice-2.ensures did.1 in (
       did.0,
-      reached,
+      played,
       c.in-Ok-into_world.ensures P O did.0 did.2,
       every_world gives g.F.Commands.may_fail P O (sources_in P sources) fresh c.args.events.now did.0 c.requires.valid
-          (are_sources P sources c.requires.sources) reached,
+          (are_sources P sources c.requires.sources)
+          (plays_reach P O gives g.F.Commands.may_fail c.args.events.now (first_world P O (sources_in P sources) fresh) did.0 played),
     )

@@ -1,4 +1,4 @@
-use Rattle.std.proofs.Common.{rules, ◌≡◌, ◌≤◌, ◌+◌, ap, sym, ◌∙◌, length, arith, length-append}
+use Rattle.std.proofs.Common.{rules, ◌+◌, ap, sym, ◌∙◌, length, length-append}
 use Rattle.std.specs.Prelude.{filter, ◌∷◌, []}
 use Rattle.flow_types.specs.Plans.{is_source, numbers}
 use Rattle.net_world.proofs.LinkShows.{numbers_more}

@@ -1,5 +1,5 @@
 use Rattle.std.proofs.Common.{arith}
-use Rattle.net_world.proofs.Runs.{next_reaches}
+use Rattle.net_world.proofs.Runs.{next_plays}
 use Rattle.net_world.proofs.play.Play.play.Goals as goal
 
 pub loop-event-preserved : goal.loop-event-preserved
@@ -13,6 +13,6 @@ loop-event-preserved g c =
           let did = c.in_ok-step.ensures.ran (λ job. was.tells job (told job)) P O here.0 here.1 in (
             _,
             did.2,
-            λ v reached. here.2 v (next_reaches P O g.F.Commands.gives g.F.Commands.may_fail here.0 c.args.events.now c.loop-event.event-index _ did.0 v c.loop-event-test.true did.1 reached),
+            λ v reached. here.2 v (next_plays P O g.F.Commands.gives g.F.Commands.may_fail here.0 c.args.events.now c.loop-event.event-index _ did.0 v c.loop-event-test.true did.1 reached),
           );
     }

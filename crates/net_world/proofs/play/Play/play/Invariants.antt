@@ -3,7 +3,7 @@ use Rattle.flow_types.specs.declared.job.Job.{Job}
 use Rattle.flow_types.specs.declared.plan.Plan.{Plan}
 use Rattle.run_history.specs.declared.options.Options.{Options}
 use Rattle.net_world.specs.Plays.{IsShown}
-use Rattle.net_world.specs.Reach.{Reaches}
+use Rattle.net_world.specs.Due.{Plays}
 use Rattle.net_world.specs.Worlds.{World}
 use Rattle.net_world.proofs.play.Play.play.Given as goal
 
@@ -14,5 +14,5 @@ invariant-loop-event g l = record {
   tells : (job : Job) → g.R.Runner.tells l.fn.runner job → g.R.Runner.tells l.runner job;
   leads : ((job : Job) → g.R.Runner.tells l.fn.runner job) → (P : Plan) (O : Options) (w : World) → IsShown P O w l.fn.self
       → (u : World) × IsShown P O u l.self
-      × ((v : World) → Reaches P O g.F.Commands.gives g.F.Commands.may_fail u (drop l.event-index l.events) v → Reaches P O g.F.Commands.gives g.F.Commands.may_fail w l.events v);
+      × ((v : World) → Plays P O g.F.Commands.gives g.F.Commands.may_fail u (drop l.event-index l.events) v → Plays P O g.F.Commands.gives g.F.Commands.may_fail w l.events v);
 }

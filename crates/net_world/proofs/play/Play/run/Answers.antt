@@ -1,6 +1,5 @@
 use Rattle.std.proofs.Common.{refl}
-use Rattle.std.proofs.lemmas.Option.{slice_get_past}
-use Rattle.net_world.proofs.PeerShows.{absent_shown, item_at, member_at, member_put, ran_shown}
+use Rattle.net_world.proofs.PeerShows.{item_at, member_at, member_put, ran_shown}
 use Rattle.net_world.proofs.play.Play.run.Goals as goal
 
 pub returns-in-Ok-clause-ran : goal.returns-in-Ok-clause-ran

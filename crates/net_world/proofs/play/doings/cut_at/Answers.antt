@@ -1,4 +1,4 @@
-use Rattle.std.proofs.Common.{rules, ◌≡◌, ◌<◌, ap, ◌∙◌, length, arith}
+use Rattle.std.proofs.Common.{◌<◌, ap, ◌∙◌, length, arith}
 use Rattle.std.specs.Prelude.{slice_set}
 use Rattle.net_world.specs.Worlds.{cut_if, is_at}
 use Rattle.net_world.proofs.DoingShows.{mapped_step}
