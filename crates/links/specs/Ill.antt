@@ -111,5 +111,5 @@ pub data IsIll (limit : ℕ) (honest : Type 0) (handed_back : List Account) (a :
   misspeaks : Misspeaks a.sent a.received → IsIll limit honest handed_back a
   too_many_links : a.number ≡ None → 33 ≤ length handed_back
       → IsIll limit honest handed_back a
-  too_many_offers : (n : ℕ) → a.number ≡ None → 1000000 ≤ n → OffersCame handed_back n
+  too_many_offers : (n : ℕ) → 1000000 ≤ n → OffersCame handed_back n
       → IsIll limit honest handed_back a

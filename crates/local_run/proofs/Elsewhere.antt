@@ -1,9 +1,9 @@
 -- Links that are named by moves, and attempts that were started there.
-use Rattle.std.proofs.Common.{◌≡◌, ◌≢◌, ◌∙◌, ℕ, Bool, true, false, cond, ◌&&◌, List, [], ◌∷◌, ◌++◌, Option, Some, None, refl, sym, ap, subst, true≢false}
+use Rattle.std.proofs.Common.{◌≡◌, ◌≢◌, ◌∙◌, ⊎_elim, ℕ, Bool, true, false, cond, ◌&&◌, List, [], ◌∷◌, ◌++◌, Option, Some, None, refl, sym, ap, subst, true≢false}
 use Rattle.std.specs.Prelude.{◌==◌, ◌||◌, filter, is_some, not, unwrap_or}
 use Rattle.std.specs.List.{last_or, list_any}
 use Rattle.std.specs.Option.{option_and_then, option_map_or}
-use Rattle.std.proofs.lemmas.Bool.{and_parts, eqb-false, eqb-true, false_from_ne_true, or_left, or_parts, or_right}
+use Rattle.std.proofs.lemmas.Bool.{and_parts, eqb-false, eqb-true, false_from_ne_true, or_cases, or_left, or_parts, or_right}
 use Rattle.std.proofs.lemmas.List.Folds.{list_any-append}
 use Rattle.flow_types.specs.declared.plan.Plan.{Plan}
 use Rattle.flow_types.specs.declared.records.Record.{Record}
@@ -20,7 +20,7 @@ use Rattle.run_history.proofs.Along.{kept-legal}
 use Rattle.run_history.proofs.Steps.{running-opened, running-push}
 use Rattle.desk.specs.State.{is_place, runs_with}
 use Rattle.local_run.specs.Links.{link_moves}
-use Rattle.local_run.specs.Losses.{starts_away}
+use Rattle.local_run.specs.Losses.{starts_away, starts_on}
 
 itself : (n : ℕ) → (n == n) ≡ true
 itself n = by_itself (n == n) refl
@@ -82,12 +82,12 @@ live_links O M k = ap (λ (l : List Move). is_some (cond (k == 0) (Some (local_r
 
 -- ---- attempts that were started
 
--- each attempt that runs on a link other than the local place was started there
-abbrev StartedAway : List Record → Type 0
-StartedAway H = (r : ℕ) (p : Place) → p.1.0 ≢ 0 → running_in H r ≡ Some p → list_any (starts_away r p.0.0) H ≡ true
+-- each attempt that runs was started on its link
+abbrev StartedThere : List Record → Type 0
+StartedThere H = (r : ℕ) (p : Place) → running_in H r ≡ Some p → list_any (starts_on p.1.0 r p.0.0) H ≡ true
 
-first_started : (H : List Record) → part H ≡ [] → StartedAway H
-first_started H first r p beyond some =
+first_started : (H : List Record) → part H ≡ [] → StartedThere H
+first_started H first r p some =
     let none : running_in H r ≡ None = ap (λ (xs : List Record). unwrap_or (last_said (running_says r) (after_last is_opening xs)) None) first in
     absurd (true≢false (sym (ap is_some (sym none ∙ some))))
 
@@ -107,51 +107,80 @@ named_place true place q is = (
 )
 named_place false place q is = absurd (true≢false (sym (ap is_some is)))
 
-all_so : (a b c : Bool) → a ≡ true → b ≡ true → c ≡ false → (a && b && not c) ≡ true
-all_so true true false one two three = refl
+all_so : (a b c : Bool) → a ≡ true → b ≡ true → c ≡ true → (a && b && c) ≡ true
+all_so true true true one two three = refl
 all_so false b c one two three = absurd (true≢false (sym one))
 all_so true false c one two three = absurd (true≢false (sym two))
-all_so true true true one two three = absurd (true≢false three)
+all_so true true false one two three = absurd (true≢false (sym three))
 
 -- a record that has an attempt run on a link starts it there
-said_start : (x : Record) (r : ℕ) (q : Place) → q.1.0 ≢ 0 → running_says r x ≡ Some (Some q) → starts_away r q.0.0 x ≡ true
-said_start (records.Opened moment run retries limit plan sources) r q beyond says = absurd (silent _ q refl says)
-said_start (records.Resumed moment run retries limit) r q beyond says = absurd (silent _ q refl says)
-said_start (records.Started moment rule attempt link) r q beyond says =
+said_start : (x : Record) (r : ℕ) (q : Place) → running_says r x ≡ Some (Some q) → starts_on q.1.0 r q.0.0 x ≡ true
+said_start (records.Opened moment run retries limit plan sources) r q says = absurd (silent _ q refl says)
+said_start (records.Resumed moment run retries limit) r q says = absurd (silent _ q refl says)
+said_start (records.Started moment rule attempt link) r q says =
     let is = named_place (rule.0 == r) (attempt, link) q says in
-    all_so (rule.0 == r) (attempt.0 == q.0.0) (link.0 == 0) is.0 (ap (λ (n : ℕ). n == q.0.0) is.1 ∙ itself q.0.0) (false_from_ne_true (link.0 == 0) (λ zero. beyond (sym is.2 ∙ eqb-true link.0 0 zero)))
-said_start (records.Done moment rule attempt outs) r q beyond says = absurd (silent _ q (closed (rule.0 == r)) says)
-said_start (records.Failed moment rule attempt why) r q beyond says = absurd (silent _ q (closed (rule.0 == r)) says)
-said_start (records.Lost moment rule attempt) r q beyond says = absurd (silent _ q (closed (rule.0 == r)) says)
-said_start (records.Dropped moment file) r q beyond says = absurd (silent _ q refl says)
-said_start (records.Ended moment kind) r q beyond says = absurd (silent _ q refl says)
+    all_so (rule.0 == r) (attempt.0 == q.0.0) (link.0 == q.1.0) is.0 (ap (λ (n : ℕ). n == q.0.0) is.1 ∙ itself q.0.0) (ap (λ (n : ℕ). n == q.1.0) is.2 ∙ itself q.1.0)
+said_start (records.Done moment rule attempt outs) r q says = absurd (silent _ q (closed (rule.0 == r)) says)
+said_start (records.Failed moment rule attempt why) r q says = absurd (silent _ q (closed (rule.0 == r)) says)
+said_start (records.Lost moment rule attempt) r q says = absurd (silent _ q (closed (rule.0 == r)) says)
+said_start (records.Dropped moment file) r q says = absurd (silent _ q refl says)
+said_start (records.Ended moment kind) r q says = absurd (silent _ q refl says)
 
 by_says : (says : Option (Option Place)) (old : Option Place) (p : Place) (Q : Type 0) → option_map_or (λ o. o) says old ≡ Some p → (says ≡ Some (Some p) → Q) → (old ≡ Some p → Q) → Q
 by_says None old p Q is said was = was is
 by_says (Some o) old p Q is said was = said (ap (λ (place : Option Place). Some place) is)
 
-step_started : (P : Plan) (digest : List ℕ) (H : List Record) (x : Record) → is_cleaned x ≡ false → is_allowed P digest H x ≡ true → StartedAway H → StartedAway (H ++ (x ∷ []))
-step_started P digest H x more allowed was r p beyond some = by_kind (is_opening x) refl
+step_started : (P : Plan) (digest : List ℕ) (H : List Record) (x : Record) → is_cleaned x ≡ false → is_allowed P digest H x ≡ true → StartedThere H → StartedThere (H ++ (x ∷ []))
+step_started P digest H x more allowed was r p some = by_kind (is_opening x) refl
   where
-    whole : list_any (starts_away r p.0.0) (H ++ (x ∷ [])) ≡ (list_any (starts_away r p.0.0) H || (starts_away r p.0.0 x || false))
-    whole = list_any-append (starts_away r p.0.0) H (x ∷ [])
+    whole : list_any (starts_on p.1.0 r p.0.0) (H ++ (x ∷ [])) ≡ (list_any (starts_on p.1.0 r p.0.0) H || (starts_on p.1.0 r p.0.0 x || false))
+    whole = list_any-append (starts_on p.1.0 r p.0.0) H (x ∷ [])
 
-    by_kind : (b : Bool) → is_opening x ≡ b → list_any (starts_away r p.0.0) (H ++ (x ∷ [])) ≡ true
+    by_kind : (b : Bool) → is_opening x ≡ b → list_any (starts_on p.1.0 r p.0.0) (H ++ (x ∷ [])) ≡ true
     by_kind true opens = absurd (true≢false (sym (ap is_some (sym (running-opened H x r more opens) ∙ some))))
     by_kind false stays =
-        by_says (running_says r x) (running_in H r) p (list_any (starts_away r p.0.0) (H ++ (x ∷ [])) ≡ true) (sym (running-push H x r more stays) ∙ some)
-        (λ says. whole ∙ or_right (list_any (starts_away r p.0.0) H) (starts_away r p.0.0 x || false) (or_left (starts_away r p.0.0 x) false (said_start x r p beyond says)))
-        (λ old. whole ∙ or_left (list_any (starts_away r p.0.0) H) (starts_away r p.0.0 x || false) (was r p beyond old))
+        by_says (running_says r x) (running_in H r) p (list_any (starts_on p.1.0 r p.0.0) (H ++ (x ∷ [])) ≡ true) (sym (running-push H x r more stays) ∙ some)
+        (λ says. whole ∙ or_right (list_any (starts_on p.1.0 r p.0.0) H) (starts_on p.1.0 r p.0.0 x || false) (or_left (starts_on p.1.0 r p.0.0 x) false (said_start x r p says)))
+        (λ old. whole ∙ or_left (list_any (starts_on p.1.0 r p.0.0) H) (starts_on p.1.0 r p.0.0 x || false) (was r p old))
 
--- in a legal history an attempt that runs on a link other than the local place was started there
-pub runs_started_away : (P : Plan) (digest : List ℕ) (H : List Record) (r number link : ℕ) → is_legal P digest H ≡ true → link ≢ 0 → runs_with H r number link ≡ true → list_any (starts_away r number) H ≡ true
-runs_started_away P digest H r number link legal beyond runs =
+-- in a legal history an attempt that runs was started on its link
+pub runs_started_on : (P : Plan) (digest : List ℕ) (H : List Record) (r number link : ℕ) → is_legal P digest H ≡ true → runs_with H r number link ≡ true → list_any (starts_on link r number) H ≡ true
+runs_started_on P digest H r number link legal runs =
     by_place (running_in H r) refl (and_parts (is_running H r) (option_map_or (is_place number link) (running_in H r) false) runs).1
   where
-    by_place : (o : Option Place) → running_in H r ≡ o → option_map_or (is_place number link) o false ≡ true → list_any (starts_away r number) H ≡ true
+    by_place : (o : Option Place) → running_in H r ≡ o → option_map_or (is_place number link) o false ≡ true → list_any (starts_on link r number) H ≡ true
     by_place None is at = absurd (true≢false (sym at))
     by_place (Some p) is at =
         let parts = and_parts (p.0.0 == number) (p.1.0 == link) at in
-        let there : p.1.0 ≡ link = eqb-true p.1.0 link parts.1 in
-        subst (λ (n : ℕ). list_any (starts_away r n) H ≡ true) (eqb-true p.0.0 number parts.0)
-        (kept-legal P digest StartedAway (record { start = first_started; step = step_started P digest }) H legal r p (λ zero. beyond (sym there ∙ zero)) is)
+        subst (λ (k : ℕ). list_any (starts_on k r number) H ≡ true) (eqb-true p.1.0 link parts.1)
+        (subst (λ (n : ℕ). list_any (starts_on p.1.0 r n) H ≡ true) (eqb-true p.0.0 number parts.0)
+        (kept-legal P digest StartedThere (record { start = first_started; step = step_started P digest }) H legal r p is))
+
+any_weaker : {A : Type 0} (p q : A → Bool) → ((x : A) → p x ≡ true → q x ≡ true) → (xs : List A) → list_any p xs ≡ true → list_any q xs ≡ true
+any_weaker p q weaker [] any = any
+any_weaker p q weaker (x ∷ xs) any =
+    ⊎_elim (λ here. or_left (q x) (list_any q xs) (weaker x here)) (λ rest. or_right (q x) (list_any q xs) (any_weaker p q weaker xs rest)) (or_cases (p x) (list_any p xs) any)
+
+away_so : (a b c d : Bool) → (a && b && c) ≡ true → (c ≡ true → d ≡ false) → (a && b && not d) ≡ true
+away_so false b c d all away = all
+away_so true false c d all away = all
+away_so true true true true all away = absurd (true≢false (away refl))
+away_so true true true false all away = refl
+away_so true true false d all away = absurd (true≢false (sym all))
+
+on_away : (link r number : ℕ) → link ≢ 0 → (x : Record) → starts_on link r number x ≡ true → starts_away r number x ≡ true
+on_away link r number beyond (records.Opened moment run retries limit plan sources) is = is
+on_away link r number beyond (records.Resumed moment run retries limit) is = is
+on_away link r number beyond (records.Started moment rule attempt at) is =
+    away_so (rule.0 == r) (attempt.0 == number) (at.0 == link) (at.0 == 0) is
+    (λ there. false_from_ne_true (at.0 == 0) (λ zero. beyond (sym (eqb-true at.0 link there) ∙ eqb-true at.0 0 zero)))
+on_away link r number beyond (records.Done moment rule attempt outs) is = is
+on_away link r number beyond (records.Failed moment rule attempt why) is = is
+on_away link r number beyond (records.Lost moment rule attempt) is = is
+on_away link r number beyond (records.Dropped moment file) is = is
+on_away link r number beyond (records.Ended moment kind) is = is
+
+-- the same of one that runs on a link other than the local place
+pub runs_started_away : (P : Plan) (digest : List ℕ) (H : List Record) (r number link : ℕ) → is_legal P digest H ≡ true → link ≢ 0 → runs_with H r number link ≡ true → list_any (starts_away r number) H ≡ true
+runs_started_away P digest H r number link legal beyond runs =
+    any_weaker (starts_on link r number) (starts_away r number) (on_away link r number beyond) H (runs_started_on P digest H r number link legal runs)

@@ -39,3 +39,4 @@ pub mod AwayClosed
 pub mod AwayBegun
 pub mod AwayLeft
 pub mod Linked
+pub mod Sparing

@@ -1,8 +1,13 @@
 -- Attempts that are given up.
-use Rattle.std.specs.Prelude.{◌≡◌, ℕ, Bool, true, false, not, ◌&&◌, ◌==◌, List}
+use Rattle.std.specs.Prelude.{◌≡◌, ℕ, Bool, true, false, not, ◌&&◌, ◌==◌, List, [], ◌∷◌, ◌++◌}
 use Rattle.std.specs.List.{list_any}
 use Rattle.flow_types.specs.declared.records.Record.{Record}
 use Rattle.flow_types.specs.declared.records.Record.TheVariants as records
+use Rattle.run_history.specs.declared.moves.Move.{Move}
+use Rattle.run_history.specs.declared.moves.Move.TheVariants as moves
+use Rattle.run_history.specs.Links.{records_of}
+use Rattle.run_history.specs.Moves.{joins_and_changes}
+use Rattle.desk.specs.declared.attempt.Attempt.{Attempt}
 
 -- an attempt was given up
 abbrev pub is_lost : Record → Bool
@@ -18,3 +23,21 @@ starts_away r number _ = false
 abbrev pub LosesAway : List Record → Record → Type 0
 LosesAway H (records.Lost moment rule attempt) = list_any (starts_away rule.0 attempt.0) H ≡ true
 LosesAway H _ = Unit {0}
+
+-- the record starts this attempt of the rule on this link
+abbrev pub starts_on : ℕ → ℕ → ℕ → Record → Bool
+starts_on link r number (records.Started moment rule attempt at) = (rule.0 == r) && (attempt.0 == number) && (at.0 == link)
+starts_on link r number _ = false
+
+-- More moves stand behind these. None of them gives an attempt up, and by none a link joins or changes its amounts.
+pub record SparesAll (M all : List Move) : Type 0 where
+  pub more : List Move
+  pub are : all ≡ M ++ more
+  pub none : list_any is_lost (records_of more) ≡ false
+  pub quiet : joins_and_changes more ≡ 0
+
+-- One move more stands behind these, which gives the attempt up. It was started on its link.
+pub record LosesIt (M : List Move) (a : Attempt) (all : List Move) : Type 0 where
+  pub moment : ℕ
+  pub are : all ≡ M ++ (moves.Logged (records.Lost moment a.rule a.number) ∷ [])
+  pub started : list_any (starts_on a.link.0 a.rule.0 a.number.0) (records_of M) ≡ true

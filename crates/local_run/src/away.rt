@@ -16,6 +16,7 @@ ghost use Rattle.local_run.specs.declared.halt.Halt.{Halt as HaltValue};
 ghost use Rattle.local_run.specs.Beyond.{IsClaimed};
 ghost use Rattle.local_run.specs.Beyond.{changed_by, claimed_by, done_by, failed_by, joined_by};
 ghost use Rattle.local_run.specs.Beyond.{left_by, lost_by};
+ghost use Rattle.local_run.specs.Losses.{LosesIt, SparesAll};
 ghost use Rattle.local_run.specs.Underway.{AwayState, IsSurePool, NoneOn, RunsAt, Underway};
 ghost use Rattle.local_run.specs.Underway.{halt_after};
 
@@ -120,6 +121,7 @@ pub fn claim_away<B: PoolTerms, F: Commands, S: Site, T: Terms>(
         desk.new held waiting None heard (halt_after result None) }
     ensures told { IfOk result (λ claim. IsFine desk.new.trouble
         × IsClaimed desk.new link claim) }
+    ensures spares { OnOk result (SparesAll desk.old.moves desk.new.moves) }
 {
     let _works = desk.works();
     match desk.claim(link, moment) {
@@ -178,6 +180,7 @@ pub fn finish_away<B: PoolTerms, F: Commands, S: Site, T: Terms>(
         → Underway T.trust F.gives F.may_fail T.sources S.tells T.kept (IsSurePool B.fits)
         S.files S.may_leave S.moment S.images_since (done_by (front ++ back) away) first
         desk.new held waiting None heard (halt_after result halt) }
+    ensures spares { OnOk result (SparesAll desk.old.moves desk.new.moves) }
 {
     finish::<B, F, S, T>(desk, attempt, outs, moment)
 }
@@ -206,6 +209,7 @@ pub fn fail_away<B: PoolTerms, F: Commands, S: Site, T: Terms>(
         → Underway T.trust F.gives F.may_fail T.sources S.tells T.kept (IsSurePool B.fits)
         S.files S.may_leave S.moment S.images_since (failed_by (front ++ back) away) first
         desk.new held waiting None heard (halt_after result halt) }
+    ensures spares { OnOk result (SparesAll desk.old.moves desk.new.moves) }
 {
     match desk.fail(attempt, why, moment) {
         Ok(_) => Ok(()),
@@ -235,6 +239,7 @@ pub fn lose_away<B: PoolTerms, F: Commands, S: Site, T: Terms>(
         → Underway T.trust F.gives F.may_fail T.sources S.tells T.kept (IsSurePool B.fits)
         S.files S.may_leave S.moment S.images_since (lost_by (front ++ back) away) first
         desk.new held waiting None heard (halt_after result halt) }
+    ensures loses { OnOk result (LosesIt desk.old.moves attempt desk.new.moves) }
 {
     let _works = desk.works();
     match desk.lose(attempt, moment) {

@@ -1,6 +1,6 @@
 //! The ends of an attempt.
 ghost use Rattle.std.specs.Prelude.{◌≡◌, ◌<◌, ◌++◌, ◌∷◌, [], List, None, Option, Some};
-ghost use Rattle.std.specs.Prelude.{length, slice_get, true};
+ghost use Rattle.std.specs.Prelude.{OnOk, length, slice_get, true};
 ghost use Rattle.flow_types.specs.declared.job.Outcome.TheVariants as outcomes;
 ghost use Rattle.flow_types.specs.declared.job.Start.{Start as StartValue};
 ghost use Rattle.flow_types.specs.declared.plan.Rule.{Rule};
@@ -14,6 +14,7 @@ ghost use Rattle.desk.specs.declared.attempt.Attempt.{Attempt as AttemptValue};
 ghost use Rattle.desk.specs.State.{AreOutputs, DeskState, IsDue, IsFine};
 ghost use Rattle.local_run.specs.declared.halt.Halt.{Halt as HaltValue};
 ghost use Rattle.local_run.specs.Course.{GivesUp};
+ghost use Rattle.local_run.specs.Losses.{SparesAll};
 ghost use Rattle.local_run.specs.Underway.{AwayState};
 ghost use Rattle.local_run.specs.Underway.{IsSurePool, MayStop, RunsAt, Underway, halt_after};
 
@@ -78,6 +79,7 @@ pub(crate) fn finish<B: PoolTerms, F: Commands, S: Site, T: Terms>(
         S.files S.may_leave S.moment S.images_since away first
         desk.new held waiting None heard
         (halt_after result halt) }
+    ensures spares { OnOk result (SparesAll desk.old.moves desk.new.moves) }
 {
     match desk.finish(attempt, outs, moment) {
         Ok(()) => Ok(()),
@@ -111,6 +113,7 @@ pub(crate) fn fail<B: PoolTerms, F: Commands, S: Site, T: Terms>(
         S.files S.may_leave S.moment S.images_since away first
         desk.new held waiting None
         (plus heard (tally_of (outcomes.Failed why))) (halt_after result halt) }
+    ensures spares { OnOk result (SparesAll desk.old.moves desk.new.moves) }
 {
     match desk.fail(attempt, why, moment) {
         Ok(_) => Ok(()),

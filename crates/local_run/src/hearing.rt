@@ -1,5 +1,5 @@
 //! How a start that the pool had has ended.
-ghost use Rattle.std.specs.Prelude.{◌≡◌, List, None, Option, Some, false};
+ghost use Rattle.std.specs.Prelude.{◌≡◌, List, None, OnOk, Option, Some, false};
 ghost use Rattle.flow_types.specs.declared.job.Start.{Start as StartValue};
 ghost use Rattle.flow_types.specs.Plans.{IsValid};
 ghost use Rattle.flow_types.specs.Serial.{serial};
@@ -11,6 +11,7 @@ ghost use Rattle.desk.specs.declared.attempt.Attempt.{Attempt as AttemptValue};
 ghost use Rattle.desk.specs.State.{DeskState, IsFine};
 ghost use Rattle.local_run.specs.declared.halt.Halt.{Halt as HaltValue};
 ghost use Rattle.local_run.specs.Course.{TellsJobs};
+ghost use Rattle.local_run.specs.Losses.{SparesAll};
 ghost use Rattle.local_run.specs.Underway.{AwayState};
 ghost use Rattle.local_run.specs.Underway.{IsOutcomeAt, IsShapedPool, IsSurePool, RunsAt, ToldOf};
 ghost use Rattle.local_run.specs.Underway.{Underway, halt_after};
@@ -45,6 +46,7 @@ fn close<B: PoolTerms, F: Commands, S: Site, T: Terms, C: Clock>(
         S.files S.may_leave S.moment S.images_since away first
         desk.new held waiting None (plus heard (tally_of outcome))
         (halt_after result halt) }
+    ensures spares { OnOk result (SparesAll desk.old.moves desk.new.moves) }
 {
     match outcome {
         Outcome::Success(outs) => finish::<B, F, S, T>(desk, attempt, &outs, clock.now()),
@@ -77,6 +79,8 @@ pub fn hear<B: PoolTerms, F: Commands, S: Site, T: Terms, C: Clock>(
         S.files S.may_leave S.moment S.images_since away first desk.new held.new.attempts
         pool.new.waiting None pool.new.heard held.new.halt }
     ensures line { pool.new.line ≡ pool.old.line }
+    ensures spares { held.new.halt ≡ None
+        → (held.old.halt ≡ None) × SparesAll desk.old.moves desk.new.moves }
 {
     let Some(report) = pool.hear() else {
         return false;

@@ -1,6 +1,6 @@
 //! What a run does next: it starts a rule, or drops the file that is to go first.
 ghost use Rattle.std.specs.Prelude.{◌≡◌, ◌≤◌, ◌<◌, ◌+◌, Err, IfOk, List, None, Some};
-ghost use Rattle.std.specs.Prelude.{false, length, true};
+ghost use Rattle.std.specs.Prelude.{OnOk, false, length, true};
 ghost use Rattle.std.specs.List.{list_all};
 ghost use Rattle.flow_types.specs.declared.job.Start.{Start as StartValue};
 ghost use Rattle.flow_types.specs.Plans.{IsValid, takes};
@@ -12,6 +12,7 @@ ghost use Rattle.desk.specs.declared.attempt.Attempt.{Attempt as AttemptValue};
 ghost use Rattle.desk.specs.State.{DeskState, IsFine};
 ghost use Rattle.local_run.specs.Course.{HasNothing, is_collect_first};
 ghost use Rattle.local_run.specs.Jobs.{halt_by};
+ghost use Rattle.local_run.specs.Losses.{SparesAll};
 ghost use Rattle.local_run.specs.Underway.{AwayState};
 ghost use Rattle.local_run.specs.Underway.{IsSurePool, Underway, halt_after};
 
@@ -75,6 +76,7 @@ fn make_way<B: PoolTerms, F: Commands, S: Site, C: Clock, T: Terms>(
     ensures grew { IfOk result (λ dropped. dropped ≡ true
         → length (records_of desk.old.moves) + 1 ≤ length (records_of desk.new.moves)) }
     ensures rests { IfOk result (λ dropped. dropped ≡ false → HasNothing desk.new) }
+    ensures spares { OnOk result (SparesAll desk.old.moves desk.new.moves) }
 {
     if !is_collect_first(why) {
         return Ok(false);
@@ -120,8 +122,7 @@ fn begin<B: PoolTerms, W: Wait, F: Commands, S: Site, T: Terms, C: Clock>(
         S.files S.may_leave S.moment S.images_since away first desk.new held.new.attempts
         pool.new.waiting None pool.new.heard held.new.halt }
     ensures line { pool.new.line ≡ pool.old.line }
-    ensures stays { held.new.halt ≡ None
-        → records_of desk.new.moves ≡ records_of desk.old.moves }
+    ensures stays { held.new.halt ≡ None → desk.new.moves ≡ desk.old.moves }
 {
     let job = match job_for(alloc, desk, &attempt) {
         Ok(job) => job,
@@ -178,6 +179,7 @@ pub(crate) fn next<B: PoolTerms, W: Wait, F: Commands, S: Site, T: Terms, C: Clo
     ensures grew { result ≡ true → held.new.halt ≡ None
         → length (records_of desk.old.moves) + 1 ≤ length (records_of desk.new.moves) }
     ensures rests { result ≡ false → HasNothing desk.new }
+    ensures spares { held.new.halt ≡ None → SparesAll desk.old.moves desk.new.moves }
 {
     let _works = desk.works();
     match desk.claim(LinkNo(0), clock.now()) {

@@ -1,6 +1,6 @@
 //! The caller's thread of a run, beside those of its runners.
 ghost use Rattle.std.specs.Prelude.{◌≡◌, ◌≤◌, ◌<◌, ◌+◌, [], List, None, Option, false, length};
-ghost use Rattle.std.specs.Prelude.{sum_by, true};
+ghost use Rattle.std.specs.Prelude.{OnOk, sum_by, true};
 ghost use Rattle.crossbeam_queue.specs.Passes.{view, IsPassOf, IsSamePass};
 ghost use Rattle.flow_types.specs.declared.job.Start.{Start as StartValue};
 ghost use Rattle.flow_types.specs.Plans.{IsValid};
@@ -16,6 +16,7 @@ ghost use Rattle.worker_pool.specs.Tickets.{fresh};
 ghost use Rattle.desk.specs.State.{DeskState, IsFine};
 ghost use Rattle.local_run.specs.declared.halt.Halt.{Halt as HaltValue};
 ghost use Rattle.local_run.specs.Course.{HasNothing, TellsJobs};
+ghost use Rattle.local_run.specs.Losses.{SparesAll};
 ghost use Rattle.local_run.specs.Underway.{AwayState};
 ghost use Rattle.local_run.specs.Underway.{ComesTo, IsShapedPool, IsSurePool, IsWant, IsWantHalt};
 ghost use Rattle.local_run.specs.Underway.{ToldOf, Underway, settled};
@@ -64,6 +65,8 @@ pub fn go_on<B: PoolTerms, W: Wait, F: Commands, S: Site, T: Terms, C: Clock>(
         → length (records_of desk.old.moves) + 1 ≤ length (records_of desk.new.moves) }
     ensures rests { result ≡ false → held.new.halt ≡ None → length pool.new.waiting < most
         → HasNothing desk.new }
+    ensures spares { held.new.halt ≡ None
+        → (held.old.halt ≡ None) × SparesAll desk.old.moves desk.new.moves }
 {
     if !held.is_going() {
         return false;
@@ -184,6 +187,7 @@ pub fn settle<B: PoolTerms, F: Commands, S: Site, T: Terms, C: Clock>(
         desk.new [] [] None heard halt }
     ensures same { held.attempts ≡ [] → (desk.new ≡ desk.old) × (result ≡ settled held.halt) }
     ensures wants { IsWantHalt held.halt → IsFine desk.new.trouble → IsWant result }
+    ensures rests { OnOk result ((held.halt ≡ None) × (desk.new ≡ desk.old)) }
 {
     let mut held = held;
     while let Some(attempt) = held.pop() {

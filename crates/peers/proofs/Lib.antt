@@ -7,3 +7,4 @@ pub mod Sending
 pub mod Calm
 pub mod Providing
 pub mod Owing
+pub mod Receiving

@@ -1,5 +1,5 @@
 -- What a peer is to a contract, and what a call leaves of its link.
-use Rattle.std.specs.Prelude.{◌≡◌, ◌≤◌, ◌<◌, ◌+◌, ℕ, Bool, true, List, [], Result, IfErr, OnOk}
+use Rattle.std.specs.Prelude.{◌≡◌, ◌≤◌, ◌<◌, ◌+◌, ℕ, Bool, true, List, [], ◌++◌, Result, IfErr, OnOk}
 use Rattle.flow_types.specs.declared.numbers.Amounts.{Amounts}
 use Rattle.links.specs.declared.passing.Passed.{Passed}
 use Rattle.links.specs.Honesty.{OwesNothing}
@@ -32,6 +32,10 @@ pub record GoesOn {L : Type 0} (honest sure : L → Type 0) (offers : L → Amou
   pub honestly : honest old → honest new
   pub surely : sure old → sure new
   pub offering : (amounts : Amounts) → offers old amounts → offers new amounts
+
+-- What was received stays, and more may stand behind it.
+abbrev pub ReceivesOn : List Passed → List Passed → Type 0
+ReceivesOn old new = (more : List ℕ) × (received_in new ≡ received_in old ++ more)
 
 -- why a call that sends may leave its link: the link failed in it, or memory was wanting
 abbrev pub FailsAs : ℕ → ℕ → Leave → Type 0

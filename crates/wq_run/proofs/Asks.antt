@@ -1,8 +1,8 @@
 -- Attempts at a worker that begin, and what is sent for them.
-use Rattle.std.proofs.Common.{◌≡◌, ◌≢◌, ◌<◌, ℕ, true, false, List, [], ◌∷◌, ◌++◌, Option, Some, None, Result, Ok, Err, length, map, refl, sym, ap, ◌∙◌, subst, arith, true≢false}
+use Rattle.std.proofs.Common.{◌≡◌, ◌<◌, ℕ, true, false, List, [], ◌∷◌, ◌++◌, Option, Some, None, map, refl, sym, ap, ◌∙◌, subst, true≢false}
 use Rattle.std.specs.Prelude.{is_some, option_map, slice_get, unwrap_or}
 use Rattle.std.specs.List.{AllByRecursion}
-use Rattle.std.proofs.lemmas.List.{append-nil, append_assoc}
+use Rattle.std.proofs.lemmas.List.{append_assoc}
 use Rattle.flow_types.specs.declared.plan.Plan.{Plan}
 use Rattle.flow_types.specs.declared.plan.Rule.{Rule}
 use Rattle.flow_types.specs.declared.numbers.AttemptNo.{AttemptNo}
@@ -27,8 +27,8 @@ use Rattle.local_run.specs.declared.halt.Halt.{Halt}
 use Rattle.local_run.specs.declared.halt.Halt.TheVariants as halts
 use Rattle.local_run.specs.Underway.{AreAway, AwayState, HeldState, NoneHas, Underway}
 use Rattle.local_run.proofs.StandsBegun.{wants_on}
-use Rattle.wq_run.specs.Seats.{AreOn, AtPlace, AtSeat, IsAtSeat, IsOpenAt, KeepsSeat, LeavesSeat, SeatState, Stays, Suits, seat_with}
-use Rattle.wq_run.proofs.Closes.{inside, lives_linked, placed, seat_less, stands}
+use Rattle.wq_run.specs.Seats.{AreOn, AtSeat, IsAtSeat, IsOpenAt, KeepsSeat, SeatState, Suits, seat_with}
+use Rattle.wq_run.proofs.Closes.{lives_linked, placed, stands}
 use Rattle.wq_run.proofs.Places.{none_left, none_right, not_open, on_more, opens_alone, opens_more, split_in, unique_back, unique_front}
 use Rattle.wq_run.proofs.Shares.{keeps_by}
 
@@ -98,6 +98,11 @@ module _ {S : Type 0} (trust : Type 0) (gives : Function) (may_fail : Job → Fa
   -- memory is wanting
   pub stops_want : (d : DeskState S) (held : HeldState) → GoesBy d d held (record held { halt = Some halts.Memory })
   stops_want d held away first waiting heard u = wants_on trust gives may_fail sources tells kept sure files may_leave moment images_since away first d held.attempts waiting None heard held.halt u
+
+  module _ {L : Type 0} where
+    -- and the seat stays as it is
+    pub keeps_want : (d : DeskState S) (held held_now : HeldState) (s : SeatState L) → held_now ≡ record held { halt = Some halts.Memory } → IsAt d held s → Keeps d d held held_now s s
+    keeps_want d held held_now s stopped is = keeps_still d d held held_now s s refl refl refl (λ was. was) (subst (GoesBy d d held) (sym stopped) (stops_want d held)) is
 
   -- An attempt begins there.
   abbrev pub Begins : DeskState S → DeskState S → HeldState → Attempt → Type 0

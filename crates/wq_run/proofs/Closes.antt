@@ -1,9 +1,8 @@
 -- Attempts at a worker that end.
-use Rattle.std.proofs.Common.{◌≡◌, ◌≢◌, ◌<◌, ℕ, true, false, List, [], ◌∷◌, ◌++◌, Option, Some, None, Result, Ok, Err, length, refl, sym, ap, ◌∙◌, subst, arith}
+use Rattle.std.proofs.Common.{◌≡◌, ◌<◌, ℕ, true, false, List, ◌∷◌, ◌++◌, Option, None, sym, ap, ◌∙◌, subst, arith}
 use Rattle.std.specs.List.{AllByRecursion}
 use Rattle.flow_types.specs.declared.plan.Plan.{Plan}
 use Rattle.flow_types.specs.declared.numbers.AttemptNo.{AttemptNo}
-use Rattle.flow_types.specs.declared.numbers.LinkNo.{LinkNo}
 use Rattle.flow_types.specs.declared.job.Job.{Job}
 use Rattle.flow_types.specs.declared.job.Failure.{Failure}
 use Rattle.flow_types.specs.declared.job.Start.{Start}
@@ -22,7 +21,7 @@ use Rattle.local_run.specs.Links.{link_moves}
 use Rattle.local_run.specs.Underway.{AreAway, AwayState, HeldState, RunsAt, Underway}
 use Rattle.local_run.proofs.AwayClosed.{away_at}
 use Rattle.local_run.proofs.Linked.{lives_by}
-use Rattle.wq_run.specs.Seats.{AreOn, AtPlace, AtSeat, IsAtPlace, IsAtSeat, IsInside, IsOpenAt, IsPlaced, KeepsSeat, SeatState, Stays, seat_with}
+use Rattle.wq_run.specs.Seats.{AreOn, AtPlace, AtSeat, IsAtSeat, IsInside, IsOpenAt, KeepsSeat, SeatState, seat_with}
 use Rattle.wq_run.proofs.Places.{inside_all, on_at, on_less, opens_less, split_in, split_out}
 
 module _ {S : Type 0} (trust : Type 0) (gives : Function) (may_fail : Job → Failure → Type 0) (sources : Contents) (tells kept sure : Type 0) (files : S → Files) (may_leave : S → Outcomes) (moment : S → ℕ)

@@ -50,6 +50,7 @@ module _ {L : Type 0} where
     later = omega arith;
     idles_later = omega arith;
     fails = λ is. inl (sym fails ∙ is);
+    stays = λ is. fails ∙ is;
     counted = λ is. (sym loses ∙ is, record { more = []; are = sym (append-nil got); many = (let same = like.links in omega (arith, same)) });
     numbers = numbers_like got inside inside_now like;
   }
@@ -61,6 +62,7 @@ module _ {L : Type 0} where
     later = omega arith;
     idles_later = omega arith;
     fails = λ is. inl (sym fails ∙ is);
+    stays = λ is. fails ∙ is;
     counted = λ is. (sym loses ∙ is, record { more = []; are = sym (append-nil got); many = omega (arith, same) });
     numbers = numbers;
   }
@@ -73,6 +75,7 @@ module _ {L : Type 0} where
     later = met.later;
     idles_later = met.idles_later;
     fails = λ is. ⊎_elim (λ before. inl (sym same ∙ before)) (λ rose. inr rose) (met.fails (sym now ∙ is));
+    stays = λ is. now ∙ met.stays (same ∙ is);
     counted = λ is. absurd (true≢false is);
     numbers = numbers;
   }
@@ -95,6 +98,7 @@ back_met {L} {count} {count_now} {got} {got_now} {given} {given_now} {idles} {id
       later = omega (arith, counts);
       idles_later = omega (arith, idle);
       fails = λ is. inl is;
+      stays = λ is. is;
       counted = λ none. (none, record { more = x ∷ []; are = gots; many = omega (arith, one, givens) });
       numbers = numbers_back got got_now inside x gots;
     }
@@ -106,6 +110,7 @@ unback_met {L} {count} {count_now} {got} {got_now} {given} {given_now} {idles} {
   later = omega (arith, counts);
   idles_later = omega (arith, idle);
   fails = λ is. inl (sym fails ∙ is);
+  stays = λ is. fails ∙ is;
   counted = λ none. absurd (true≢false (sym loses ∙ none));
   numbers = numbers_lost got got_now inside inside_now link gots newest fewer;
 }
@@ -374,12 +379,13 @@ set_seated xs at x y is same k =
     ap (seats_under k) (split.set y) ∙ seated_as k split.before split.behind x y same ∙ sym (ap (seats_under k) split.are)
 
 -- The hall failed.
-pub failed_met : {L : Type 0} {count count_now : ℕ} {got got_now : List (Option LinkNo × L)} {given given_now idles idles_now : ℕ} {inside inside_now : Inside} {failed failed_now lost lost_now : Bool} → count < count_now → got_now ≡ got → given_now ≡ given → idles ≤ idles_now → IsLike inside inside_now → lost_now ≡ lost
+pub failed_met : {L : Type 0} {count count_now : ℕ} {got got_now : List (Option LinkNo × L)} {given given_now idles idles_now : ℕ} {inside inside_now : Inside} {failed failed_now lost lost_now : Bool} → failed_now ≡ true → count < count_now → got_now ≡ got → given_now ≡ given → idles ≤ idles_now → IsLike inside inside_now → lost_now ≡ lost
     → Meets count count_now got got_now given given_now idles idles_now inside inside_now failed failed_now lost lost_now
-failed_met {L} {count} {count_now} {got} {got_now} {given} {given_now} {idles} {idles_now} {inside} {inside_now} {failed} {failed_now} {lost} {lost_now} more gots givens idle like loses = record {
+failed_met {L} {count} {count_now} {got} {got_now} {given} {given_now} {idles} {idles_now} {inside} {inside_now} {failed} {failed_now} {lost} {lost_now} sets more gots givens idle like loses = record {
   later = omega (arith, more);
   idles_later = idle;
   fails = λ is. inr more;
+  stays = λ is. sets;
   counted = λ is. (sym loses ∙ is, record { more = []; are = gots ∙ sym (append-nil got); many = (let same = like.links in omega (arith, same, givens)) });
   numbers = subst (λ (xs : List (Option LinkNo × L)). KeepsNumbers got xs inside inside_now) (sym gots) (numbers_like got inside inside_now like);
 }
@@ -391,6 +397,7 @@ lacking_met {L} {count} {count_now} {got} {got_now} {given} {given_now} {idles} 
   later = later;
   idles_later = idle;
   fails = λ is. inl (sym fails ∙ is);
+  stays = λ is. fails ∙ is;
   counted = λ none. absurd (true≢false (sym loses ∙ none));
   numbers = subst (λ (xs : List (Option LinkNo × L)). KeepsNumbers got xs inside inside_now) (sym gots) (numbers_like got inside inside_now like);
 }

@@ -1,6 +1,6 @@
 -- What calls make of the hall and of the links that the run has, one behind another.
-use Rattle.std.proofs.Common.{◌≡◌, ◌≢◌, ◌≤◌, ◌<◌, ◌+◌, ◌⊎◌, inl, inr, ⊎_elim, ℕ, Bool, true, false, List, [], ◌∷◌, ◌++◌, Option, Some, None, length, refl, sym, ap, ◌∙◌, subst, arith, length-append}
-use Rattle.std.specs.Prelude.{◌==◌, cond, nat_le, sum_by}
+use Rattle.std.proofs.Common.{◌≡◌, ◌≢◌, ◌≤◌, ◌<◌, ◌+◌, inl, inr, ⊎_elim, ℕ, Bool, true, false, List, [], ◌∷◌, ◌++◌, Option, Some, refl, sym, ap, ◌∙◌, arith, length-append}
+use Rattle.std.specs.Prelude.{◌==◌, cond, nat_le}
 use Rattle.std.proofs.lemmas.Bool.{eqb-true, leb-true, leb-false}
 use Rattle.std.proofs.lemmas.List.{append-nil, append_assoc}
 use Rattle.std.proofs.lemmas.List.Sums.{sum_by-append, sum_by-cons}
@@ -132,6 +132,7 @@ module _ {L : Type 0} where
     later = omega arith;
     idles_later = omega arith;
     fails = λ is. inl is;
+    stays = λ is. is;
     counted = λ is. (is, count_none got given inside.links);
     numbers = numbers_none got inside;
   }
@@ -145,6 +146,7 @@ module _ {L : Type 0} where
     later = (let a = one.later in let b = two.later in omega (arith, a, b));
     idles_later = (let a = one.idles_later in let b = two.idles_later in omega (arith, a, b));
     fails = λ is. ⊎_elim (λ was. ⊎_elim (λ first. inl first) (λ rose. inr (let b = two.later in omega (arith, rose, b))) (one.fails was)) (λ rose. inr (let a = one.later in omega (arith, rose, a))) (two.fails is);
+    stays = λ is. two.stays (one.stays is);
     counted = λ is.
         let b = two.counted is in
         let a = one.counted b.0 in

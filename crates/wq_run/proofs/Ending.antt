@@ -1,5 +1,5 @@
 -- What an end of a run leaves and answers, where a stop may have been set.
-use Rattle.std.proofs.Common.{◌≡◌, ◌∙◌, ⊎_elim, ℕ, Bool, true, false, cond, not, ◌&&◌, ◌||◌, List, [], ◌∷◌, ◌++◌, Option, Some, None, Result, Ok, Err, refl, sym, ap, subst, true≢false}
+use Rattle.std.proofs.Common.{◌≡◌, ◌∙◌, ℕ, Bool, true, false, cond, not, ◌&&◌, ◌||◌, List, [], ◌∷◌, ◌++◌, Option, Some, None, Ok, Err, refl, sym, ap, subst, true≢false}
 use Rattle.std.specs.Prelude.{filter, find, is_none, is_some, unwrap_or}
 use Rattle.std.specs.List.{before_last, list_all, list_any}
 use Rattle.std.specs.Option.{option_and_then, option_map_or}
@@ -19,7 +19,7 @@ use Rattle.run_history.specs.declared.answers.Stop.TheVariants as stops
 use Rattle.run_history.specs.declared.moves.Move.{Move}
 use Rattle.run_history.specs.declared.moves.Move.TheVariants as moves
 use Rattle.run_history.specs.declared.options.Options.{Options}
-use Rattle.run_history.specs.Answers.{before_end, end_of, end_over, failed_answer, has_ended, has_link, is_in_vain, is_waited_end, kind_of, last_why, log_full, logged_end, of_least, or_else, rule_no, stop_at_end, where_so, first_of, collected_count, passes_inputs, no_room, where_none}
+use Rattle.run_history.specs.Answers.{before_end, end_of, end_over, failed_answer, has_ended, is_in_vain, is_waited_end, kind_of, last_why, log_full, logged_end, of_least, rule_no, stop_at_end, where_so, first_of, collected_count, passes_inputs, no_room, where_none}
 use Rattle.run_history.specs.History.{is_cleaned_kind, is_end, since_opening}
 use Rattle.run_history.specs.Legal.{has_places}
 use Rattle.run_history.specs.Links.{records_of}
@@ -30,16 +30,12 @@ use Rattle.task_core.proofs.Standing.{before-this}
 use Rattle.desk.specs.declared.answers.EndRefused.{EndRefused}
 use Rattle.desk.specs.declared.answers.EndRefused.TheVariants as refused
 use Rattle.desk.specs.Ends.{Ends, EndsBy}
-use Rattle.desk.specs.State.{Breaks, DeskState, IsFine}
+use Rattle.desk.specs.State.{Breaks, DeskState}
 use Rattle.outside.specs.Files.{Files}
-use Rattle.local_run.specs.declared.ended.Stopped.{Stopped}
-use Rattle.local_run.specs.declared.ended.Stopped.TheVariants as stopped
-use Rattle.local_run.specs.declared.halt.Halt.{Halt}
 use Rattle.local_run.specs.declared.halt.Halt.TheVariants as halts
-use Rattle.local_run.specs.Course.{IsBroken}
 use Rattle.local_run.proofs.Closings.{ends_fine, is_broken}
 use Rattle.local_run.specs.Links.{link_moves}
-use Rattle.local_run.specs.Losses.{LosesAway}
+use Rattle.local_run.specs.Losses.{LosesAway, is_lost}
 use Rattle.wq_run.specs.Ends.{IsOver, LosesOnLinks}
 use Rattle.wq_run.specs.Works.{EndsAt, HaltedBy, HasEnd}
 
@@ -94,11 +90,11 @@ lost_by {S} d moment (Some kind) after h = record {
 
 -- the moves of an end are its record alone, or none
 abbrev EndsBeside : List Move → List Move → Type 0
-EndsBeside before all = (more : List Move) × (all ≡ before ++ more) × (link_moves more ≡ [])
+EndsBeside before all = (more : List Move) × (all ≡ before ++ more) × (link_moves more ≡ []) × (list_any is_lost (records_of more) ≡ false)
 
 beside_by : {S : Type 0} (d : DeskState S) (moment : ℕ) (kind : Option EndKind) (after : DeskState S) → EndsBy kind d moment after → EndsBeside d.moves after.moves
-beside_by {S} d moment None after h = ([], ap (λ (a : DeskState S). a.moves) h ∙ sym (append-nil d.moves), refl)
-beside_by {S} d moment (Some kind) after h = (moves.Logged (records.Ended moment kind) ∷ [], ap (λ (a : DeskState S). a.moves) h, refl)
+beside_by {S} d moment None after h = ([], ap (λ (a : DeskState S). a.moves) h ∙ sym (append-nil d.moves), refl, refl)
+beside_by {S} d moment (Some kind) after h = (moves.Logged (records.Ended moment kind) ∷ [], ap (λ (a : DeskState S). a.moves) h, refl, refl)
 
 -- an end that was reached
 pub ends_at : {S : Type 0} (count : S → ℕ) (d : DeskState S) (moment : ℕ) (check : Check) (after : DeskState S) → has_ended (records_of d.moves) ≡ false → IsOver check → Ends count d moment (Ok check) after
@@ -119,6 +115,7 @@ ends_at {S} count d moment check after unended over h =
       more = beside.0;
       are = beside.1;
       none = beside.2;
+      spared = beside.3;
       lost = lost_by d moment (logged_end d.plan d.options d.moves d.stop) after h.2;
     }
 

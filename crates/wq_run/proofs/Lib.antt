@@ -16,3 +16,6 @@ pub mod Working
 pub mod Trusts
 pub mod Called
 pub mod Turns
+pub mod Heards
+pub mod Fares
+pub mod Duly

@@ -1,6 +1,6 @@
 -- Attempts at one worker, among those at all.
-use Rattle.std.proofs.Common.{◌≡◌, ◌≢◌, ◌≤◌, ◌<◌, ℕ, zero, suc, Bool, true, false, List, [], ◌∷◌, ◌++◌, Option, Some, None, length, map, refl, sym, ap, ◌∙◌, subst, arith, true≢false}
-use Rattle.std.specs.Prelude.{is_some, slice_get, sum_by, unwrap_or}
+use Rattle.std.proofs.Common.{◌≡◌, ◌≢◌, ◌<◌, ℕ, zero, suc, true, false, List, [], ◌∷◌, ◌++◌, Option, Some, None, length, map, refl, sym, ap, ◌∙◌, subst, arith, true≢false}
+use Rattle.std.specs.Prelude.{is_some, slice_get, unwrap_or}
 use Rattle.std.specs.List.{AllByRecursion}
 use Rattle.std.proofs.lemmas.List.{append_assoc}
 use Rattle.flow_types.specs.declared.plan.Plan.{Plan}
@@ -20,12 +20,12 @@ use Rattle.link_session.specs.declared.open.Open.{Open}
 use Rattle.link_session.specs.Fits.{outcome_fits}
 use Rattle.link_session.specs.Sessions.{is_open}
 use Rattle.peers.proofs.Fits.{fits_by}
-use Rattle.peers.proofs.Opens.{IsOther, all_append, all_map, all_with, others}
-use Rattle.local_run.specs.Underway.{AreAway, IsHeld, NoneHas, NoneOn, RunsAway}
+use Rattle.peers.proofs.Opens.{IsOther, all_map, all_with, others}
+use Rattle.local_run.specs.Underway.{AreAway, IsHeld, NoneHas}
 use Rattle.local_run.proofs.HeldClosed.{none_at}
 use Rattle.local_run.proofs.Outputs.{failure_fits, outputs_fit}
 use Rattle.wq_run.specs.Seats.{AreOn, IsInside, IsOpenAt, MayEnd, MayEndAs, Suits, SuitsIts}
-use Rattle.wq_run.proofs.Told.{Ends, Stands}
+use Rattle.wq_run.proofs.Told.{Ends}
 
 -- ---- lists of attempts
 

@@ -1,6 +1,6 @@
 -- What a service comes to, from its beginning to its end.
 use Rattle.flow_types.specs.declared.numbers.LinkNo.{LinkNo}
-use Rattle.std.proofs.Common.{◌≡◌, ◌≤◌, ◌+◌, ◌∙◌, ℕ, Bool, List, [], ◌∷◌, length, Option, Some, None, Result, Ok, Err, refl, sym, ap, subst, arith}
+use Rattle.std.proofs.Common.{◌≡◌, ◌≤◌, ◌+◌, ◌∙◌, ℕ, Bool, List, [], length, Option, Some, None, Result, Ok, Err, refl, sym, ap, subst, arith}
 use Rattle.flow_types.specs.declared.job.Job.{Job}
 use Rattle.flow_types.specs.declared.job.Failure.{Failure}
 use Rattle.flow_types.specs.declared.job.Start.{Start}
@@ -19,6 +19,7 @@ use Rattle.desk.specs.declared.answers.Trouble.{Trouble}
 use Rattle.local_run.specs.Course.{IsHalt}
 use Rattle.local_run.specs.Underway.{AwayState, ComesTo, HeldState, Underway, none_away, settled}
 use Rattle.local_run.proofs.RunsServed.{begins_at, comes_want}
+use Rattle.local_run.proofs.StandsBegun.{wants_on}
 use Rattle.wq_run.specs.Comes.{ComesOn, Finished}
 use Rattle.wq_run.specs.Seats.{AreSeats, CompanyState, Manned, Meets, SeatState, gathered, Inside, inside_of}
 use Rattle.wq_run.proofs.Counting.{meets_none, meets_then}
@@ -205,3 +206,23 @@ module _ {S : Type 0} (trust : Type 0) (gives : Function) (may_fail : Job → Fa
       (subst (λ (x : List Start). Manned trust gives may_fail sources tells kept sure files may_leave moment images_since first d held x told rest) w
       (subst (λ (x : Tally). Manned trust gives may_fail sources tells kept sure files may_leave moment images_since first d held waiting x rest) t
       (subst (λ (x : List (SeatState L)). Manned trust gives may_fail sources tells kept sure files may_leave moment images_since first d held waiting heard x) s m)))
+
+-- a run that memory was wanting for, where nothing had stopped it
+pub wanting_halts : (held held_now : HeldState) → (held.halt ≡ None → held_now ≡ record held { halt = Some halts.Memory }) → ((why : Halt) → held.halt ≡ Some why → held_now ≡ held) → (why : Halt) × (held_now.halt ≡ Some why)
+wanting_halts held held_now wants stays = by_halt held.halt refl
+  where
+    by_halt : (h : Option Halt) → held.halt ≡ h → (why : Halt) × (held_now.halt ≡ Some why)
+    by_halt None is = (halts.Memory, ap (λ (x : HeldState). x.halt) (wants is))
+    by_halt (Some why) is = (why, ap (λ (x : HeldState). x.halt) (stays why is) ∙ is)
+
+module _ {S L : Type 0} (trust : Type 0) (gives : Function) (may_fail : Job → Failure → Type 0) (sources : Contents) (tells kept sure : Type 0) (files : S → Files) (may_leave : S → Outcomes) (moment : S → ℕ)
+    (images_since : S → ℕ → Files → Type 0) where
+  pub manned_want : (first d : DeskState S) (held held_now : HeldState) (waiting : List Start) (heard : Tally) (seats : List (SeatState L)) → (held.halt ≡ None → held_now ≡ record held { halt = Some halts.Memory }) → ((why : Halt) → held.halt ≡ Some why → held_now ≡ held)
+      → Manned trust gives may_fail sources tells kept sure files may_leave moment images_since first d held waiting heard seats → Manned trust gives may_fail sources tells kept sure files may_leave moment images_since first d held_now waiting heard seats
+  manned_want first d held held_now waiting heard seats wants stays m = by_halt held.halt refl
+    where
+      by_halt : (h : Option Halt) → held.halt ≡ h → Manned trust gives may_fail sources tells kept sure files may_leave moment images_since first d held_now waiting heard seats
+      by_halt None is = manned_on trust gives may_fail sources tells kept sure files may_leave moment images_since first d d held held_now waiting waiting heard heard seats m
+          (subst (λ (h : HeldState). Underway trust gives may_fail sources tells kept sure files may_leave moment images_since m.away first d h.attempts waiting None heard h.halt) (sym (wants is))
+          (wants_on trust gives may_fail sources tells kept sure files may_leave moment images_since m.away first d held.attempts waiting None heard held.halt m.under))
+      by_halt (Some why) is = subst (λ (h : HeldState). Manned trust gives may_fail sources tells kept sure files may_leave moment images_since first d h waiting heard seats) (sym (stays why is)) m

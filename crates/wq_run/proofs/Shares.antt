@@ -1,5 +1,5 @@
 -- Seats among others, and what a run with workers has come to.
-use Rattle.std.proofs.Common.{◌≡◌, ◌≢◌, ◌<◌, ℕ, true, false, List, [], ◌∷◌, ◌++◌, Option, Some, None, length, refl, sym, ap, ◌∙◌, subst}
+use Rattle.std.proofs.Common.{◌≡◌, ◌≢◌, ◌<◌, ℕ, true, List, [], ◌∷◌, ◌++◌, Option, None, refl, sym, ap, ◌∙◌, subst}
 use Rattle.std.specs.List.{AllByRecursion}
 use Rattle.std.proofs.lemmas.List.{append_assoc}
 use Rattle.flow_types.specs.declared.plan.Plan.{Plan}
@@ -20,7 +20,7 @@ use Rattle.link_session.specs.Sessions.{State}
 use Rattle.local_run.specs.declared.halt.Halt.{Halt}
 use Rattle.local_run.specs.Underway.{AwayState, HeldState, NoneOn, Underway}
 use Rattle.local_run.proofs.Linked.{lives_by}
-use Rattle.wq_run.specs.Seats.{AreOn, AreSeats, AtPlace, AtSeat, IsOpenAt, IsPlaced, IsSeat, IsUnseated, KeepsSeat, LeavesSeat, Manned, Parts, SeatState, Stays, gathered}
+use Rattle.wq_run.specs.Seats.{AreOn, AreSeats, AtPlace, AtSeat, IsOpenAt, IsSeat, IsUnseated, KeepsSeat, LeavesSeat, Manned, Parts, SeatState, Stays, gathered}
 
 -- ---- lists of seats
 

@@ -1,5 +1,5 @@
 -- One of a list, by its place.
-use Rattle.std.proofs.Common.{◌≡◌, ◌<◌, ◌+◌, ℕ, zero, suc, List, [], ◌∷◌, ◌++◌, Option, Some, None, length, refl, sym, ap, ◌∙◌, subst, arith, true≢false}
+use Rattle.std.proofs.Common.{◌≡◌, ◌<◌, ℕ, zero, suc, List, [], ◌∷◌, ◌++◌, Option, Some, length, refl, sym, ap, arith, true≢false}
 use Rattle.std.specs.Prelude.{is_some, remove, slice_get, slice_set, unwrap_or}
 
 -- It stands between these, also once it is replaced, and these are left where it is removed.

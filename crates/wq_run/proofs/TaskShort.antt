@@ -1,6 +1,6 @@
 -- The task of a rule can be sent.
-use Rattle.std.proofs.Common.{◌≡◌, ◌≤◌, ◌<◌, ◌+◌, ◌*◌, ◌∙◌, ℕ, zero, suc, Bool, true, false, ◌&&◌, List, [], ◌∷◌, ◌++◌, length, map, Option, Some, None, refl, sym, ap, subst, arith, true≢false}
-use Rattle.std.specs.Prelude.{◌==◌, flat_map, is_some, nat_le, not, option_map, slice_get, sum_by, unwrap_or, IsTrue}
+use Rattle.std.proofs.Common.{◌≡◌, ◌≤◌, ◌+◌, ◌*◌, ◌∙◌, ℕ, zero, suc, Bool, true, ◌&&◌, List, [], ◌∷◌, ◌++◌, length, map, Option, Some, None, refl, sym, ap, subst, arith, true≢false}
+use Rattle.std.specs.Prelude.{flat_map, is_some, nat_le, not, option_map, slice_get, unwrap_or}
 use Rattle.std.specs.List.{list_all}
 use Rattle.std.proofs.lemmas.Bool.{and_parts, leb-true}
 use Rattle.std.proofs.lemmas.List.{length-append, length-map}
@@ -10,7 +10,6 @@ use Rattle.byteorder.specs.Numbers.{length-bytes_high_first}
 use Rattle.byte_fields.specs.Spelling.{counted, rows}
 use Rattle.flow_types.specs.declared.flow.Pair.{Pair}
 use Rattle.flow_types.specs.declared.job.Task.{Task}
-use Rattle.flow_types.specs.declared.job.Want.{Want}
 use Rattle.flow_types.specs.declared.messages.Message.TheVariants as messages
 use Rattle.flow_types.specs.declared.numbers.AttemptNo.{AttemptNo}
 use Rattle.flow_types.specs.declared.numbers.Needs.{Needs}

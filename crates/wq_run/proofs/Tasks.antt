@@ -1,5 +1,5 @@
 -- The task of one of some attempts.
-use Rattle.std.proofs.Common.{◌≡◌, ◌≤◌, ◌∙◌, ℕ, suc, List, ◌∷◌, ◌++◌, length, Option, Some, None, Result, Ok, Err, get_or, take, drop, sym, ap, subst}
+use Rattle.std.proofs.Common.{◌≡◌, ◌≤◌, ◌∙◌, ℕ, suc, List, ◌∷◌, ◌++◌, length, Option, Some, Result, Ok, Err, get_or, take, drop, sym, ap, subst}
 use Rattle.std.specs.Prelude.{◌==◌}
 use Rattle.std.specs.List.{position}
 use Rattle.std.specs.Option.{IfSome}
@@ -14,7 +14,7 @@ use Rattle.wq_messages.specs.Spelling.{HasCounts, most_body, spelling}
 use Rattle.desk.specs.declared.attempt.Attempt.{Attempt}
 use Rattle.desk.specs.Tasks.{task_of}
 use Rattle.local_run.proofs.PlacesClosed.{taken_at}
-use Rattle.wq_run.proofs.TaskShort.{CanSend, can_send}
+use Rattle.wq_run.proofs.TaskShort.{can_send}
 
 pub ok_as : {A E : Type 0} (r : Result A E) (o : Option A) (Q R : A → Type 0) → o ≡ result_ok r → IfOk r Q → ((x : A) → Q x → R x) → IfSome o R
 ok_as (Ok x) o Q R is so step = subst (λ (p : Option _). IfSome p R) (sym is) (step x so)

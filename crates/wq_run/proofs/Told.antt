@@ -1,6 +1,6 @@
 -- What a session's words say of the attempts that were open.
-use Rattle.std.proofs.Common.{◌≡◌, ℕ, Bool, true, false, List, [], ◌∷◌, Option, Some, None, Result, Ok, Err, refl, sym, ap, ◌∙◌, subst}
-use Rattle.std.specs.Prelude.{slice_get, slice_set, remove, nat_lt}
+use Rattle.std.proofs.Common.{◌≡◌, ℕ, Bool, true, false, List, Option, Some, None, Result, Ok, Err, refl, sym, ap, ◌∙◌, subst}
+use Rattle.std.specs.Prelude.{slice_get, nat_lt}
 use Rattle.std.specs.List.{AllByRecursion}
 use Rattle.flow_types.specs.declared.numbers.AttemptNo.{AttemptNo}
 use Rattle.flow_types.specs.declared.numbers.FileNo.{FileNo}
@@ -16,11 +16,11 @@ use Rattle.link_session.specs.declared.word.Word.TheVariants as words
 use Rattle.link_session.specs.declared.word.SessionFault.{SessionFault}
 use Rattle.link_session.specs.Fits.{has_all, outcome_fits}
 use Rattle.link_session.specs.Laws.{Closes, ended_by_word}
-use Rattle.link_session.specs.Sessions.{State, Told, closed_at, ended_at, ended_by, greets, hears, is_open, lacked_at, lacked_by, missed, most_misses, place, says, told, told_by, word_of}
+use Rattle.link_session.specs.Sessions.{State, Told, closed_at, ended_at, ended_by, greets, hears, is_open, lacked_at, lacked_by, missed, most_misses, place, says, told_by, word_of}
 use Rattle.peers.specs.declared.leave.Leave.{Leave}
 use Rattle.peers.specs.declared.told.Told.{Told as Saying}
 use Rattle.peers.specs.declared.told.Told.TheVariants as tell
-use Rattle.peers.specs.Hears.{Hears, Means, made_in, told_as}
+use Rattle.peers.specs.Hears.{Hears, Means, told_as}
 use Rattle.peers.proofs.Opens.{Placed, all_get, all_left, all_set, placed}
 use Rattle.wq_frames.specs.Streams.{Stream}
 

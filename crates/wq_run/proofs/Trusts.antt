@@ -1,5 +1,5 @@
--- What was said to workers, where links are honest.
-use Rattle.std.proofs.Common.{◌≡◌, ◌≢◌, ◌≤◌, ◌<◌, ◌+◌, ◌-◌, ◌⊎◌, inl, inr, ◌∙◌, ℕ, zero, suc, Bool, true, false, List, [], ◌∷◌, ◌++◌, Option, Some, None, Result, Ok, Err, refl, sym, ap, subst, arith, true≢false, take, drop, sum_by}
+-- What was said to workers, where links tell their bytes.
+use Rattle.std.proofs.Common.{◌≡◌, ◌≢◌, ◌≤◌, ◌<◌, ◌+◌, ◌-◌, ◌⊎◌, inl, inr, ◌∙◌, ℕ, zero, suc, Bool, true, false, List, [], ◌∷◌, ◌++◌, Option, Some, None, Result, Ok, Err, refl, sym, ap, subst, arith, true≢false, take, drop}
 use Rattle.std.specs.Prelude.{◌||◌, IfOk, OnOk, cond, count_by, is_some, option_map, remove, slice_get, unwrap_or}
 use Rattle.std.specs.List.{AllByRecursion, list_any}
 use Rattle.std.proofs.lemmas.List.Sums.{sum_by-append, sum_by-cons}
@@ -17,20 +17,19 @@ use Rattle.flow_types.specs.declared.messages.Key.{Key}
 use Rattle.flow_types.specs.declared.messages.Message.{Message}
 use Rattle.flow_types.specs.declared.messages.Message.TheVariants as messages
 use Rattle.flow_types.specs.declared.records.Record.{Record}
-use Rattle.flow_types.specs.Serial.{Contents, Function, given_by, job_of, serial}
+use Rattle.flow_types.specs.Serial.{Contents, Function, job_of, serial}
 use Rattle.run_history.specs.declared.moves.Move.{Move}
 use Rattle.run_history.specs.History.{is_cleaned, is_opening, next_run}
 use Rattle.run_history.specs.Links.{records_of}
 use Rattle.outside.specs.Disk.{Outcomes}
 use Rattle.outside.specs.Files.{Files}
-use Rattle.outside.specs.Jobs.{IsHonest}
 use Rattle.link_session.specs.declared.open.Open.{Open}
 use Rattle.link_session.specs.Sessions.{State}
 use Rattle.links.specs.declared.passing.Passed.{Passed}
 use Rattle.links.specs.Honesty.{task_job}
 use Rattle.message_forms.specs.Streams.{IsAmong}
 use Rattle.worker_pool.specs.declared.hand.Tally.{Tally}
-use Rattle.worker_pool.specs.Courses.{EndsAsTold, IfRun}
+use Rattle.worker_pool.specs.Courses.{EndsAsTold}
 use Rattle.desk.specs.declared.attempt.Attempt.{Attempt}
 use Rattle.desk.specs.State.{DeskState, IsFine}
 use Rattle.desk.specs.Tasks.{task_of, task_with}
@@ -38,13 +37,13 @@ use Rattle.peers.specs.declared.leave.Leave.{Leave}
 use Rattle.peers.specs.declared.told.Told.{Told}
 use Rattle.peers.specs.declared.told.Told.TheVariants as tell
 use Rattle.peers.specs.Hears.{Hears, IsResult, ServesOn, Tells}
-use Rattle.peers.specs.Serves.{AreDue, DueStaysDue, IsDueSay, IsNew, Serves, WasHonest}
+use Rattle.peers.specs.Serves.{AreDue, DueStaysDue, IsNew, Serves, WasHonest}
 use Rattle.peers.specs.States.{PeerState, new_peer}
-use Rattle.peers.proofs.Serving.{among_last, among_left, among_or}
+use Rattle.peers.proofs.Serving.{among_left, among_or}
 use Rattle.local_run.specs.Course.{GoesOn, TellsJobs, begins_anew}
 use Rattle.local_run.specs.Underway.{AreAway, HeldState, NoneHas}
 use Rattle.local_run.proofs.Going.{records_grown}
-use Rattle.wq_run.specs.Seats.{IsAtSeat, IsGuest, IsManned, IsServed, KeepsManned, KeepsSeat, KeepsServed, Manned, SeatState, seat_with}
+use Rattle.wq_run.specs.Seats.{IsAtSeat, IsGuest, IsManned, IsServed, KeepsManned, KeepsSeat, KeepsServed, SeatState, seat_with}
 use Rattle.wq_run.specs.Trusted.{EndsDue, IsHonestGuest, IsMeant, IsOf, IsOwn, IsTrusted, IsUpTo, MayAsk, MayOpen, SaysOwn, SpokenTo, TellsDue, WasAsked, own_task}
 use Rattle.wq_run.proofs.Closes.{placed, stands}
 use Rattle.wq_run.proofs.Places.{all_at, none_left, none_right, unique_back, unique_front}
@@ -243,18 +242,18 @@ newer_none newest number is t up = absurd (subst (λ (o : Option AttemptNo). IsU
 
 -- ---- seats
 
-module _ {L : Type 0} (gives : Function) (may_fail : Job → Failure → Type 0) (history : L → List Passed) (honest : L → Type 0) (P : Plan) (run : ℕ) (due : Contents) where
+module _ {L : Type 0} (holds : Type 0) (gives : Function) (may_fail : Job → Failure → Type 0) (history : L → List Passed) (honest : L → Type 0) (P : Plan) (run : ℕ) (due : Contents) where
   abbrev pub Spoken : SeatState L → List Message → List Message → Option Task → Type 0
-  Spoken s said heard waiting = SpokenTo gives may_fail history honest P run due s said heard waiting
+  Spoken s said heard waiting = SpokenTo holds gives may_fail history honest P run due s said heard waiting
 
   abbrev pub Trusted : SeatState L → Type 0
-  Trusted s = IsTrusted gives may_fail history honest P run due s
+  Trusted s = IsTrusted holds gives may_fail history honest P run due s
 
   abbrev pub Asks : SeatState L → Task → Type 0
-  Asks s task = MayAsk gives may_fail history honest P run due s task
+  Asks s task = MayAsk holds gives may_fail history honest P run due s task
 
   abbrev pub Opens : SeatState L → AttemptNo → Type 0
-  Opens s number = MayOpen gives may_fail history honest P run due s number
+  Opens s number = MayOpen holds gives may_fail history honest P run due s number
 
   -- the peer is served with these
   abbrev pub ServesBy : PeerState L → List Message → List Message → Option Task → Type 0
@@ -265,11 +264,11 @@ module _ {L : Type 0} (gives : Function) (may_fail : Job → Failure → Type 0)
   guest_trusted p link guest = record {
     said = [];
     heard = guest.heard;
-    spoken = record { serves = guest.serves; put = λ key content is. absurd is; asked = tt; older = λ t is. absurd is; honestly = guest.honestly };
+    spoken = record { serves = guest.serves; put = λ held key content is. absurd is; asked = tt; older = λ t is. absurd is; honestly = guest.honestly };
   }
 
   -- A message more was said.
-  said_more : (s : SeatState L) (p : PeerState L) (m : Message) (said heard : List Message) (waiting waiting_now : Option Task) → Spoken s said heard waiting → ServesBy p (said ++ (m ∷ [])) heard waiting_now → AreDue due (said ++ (m ∷ []))
+  said_more : (s : SeatState L) (p : PeerState L) (m : Message) (said heard : List Message) (waiting waiting_now : Option Task) → Spoken s said heard waiting → ServesBy p (said ++ (m ∷ [])) heard waiting_now → (holds → AreDue due (said ++ (m ∷ [])))
       → ((t : Task) → messages.Task t ≡ m → AllByRecursion (IsOwn P run t) s.attempts × IsUpTo s.newest t.attempt) → honest p.way → Spoken (record s { peer = p }) (said ++ (m ∷ [])) heard waiting_now
   said_more s p m said heard waiting waiting_now spoken serves put task on = record {
     serves = serves;
@@ -300,23 +299,23 @@ module _ {L : Type 0} (gives : Function) (may_fail : Job → Failure → Type 0)
       is_task (messages.Task x) = true
       is_task m = false
 
-  put_spoken : (s : SeatState L) (p : PeerState L) (key : Key) (content : List ℕ) (said heard : List Message) (waiting : Option Task) → DueStaysDue → due key.file.0 ≡ Some content → Spoken s said heard waiting
+  put_spoken : (s : SeatState L) (p : PeerState L) (key : Key) (content : List ℕ) (said heard : List Message) (waiting : Option Task) → DueStaysDue → (holds → due key.file.0 ≡ Some content) → Spoken s said heard waiting
       → ServesBy p (said ++ (messages.Put key content ∷ [])) heard waiting → honest p.way → Spoken (record s { peer = p }) (said ++ (messages.Put key content ∷ [])) heard waiting
   put_spoken s p key content said heard waiting stays is spoken serves on =
-      said_more s p (messages.Put key content) said heard waiting waiting spoken serves (stays due said (messages.Put key content) spoken.put is) (λ t same. absurd (task_no_put key content t same)) on
+      said_more s p (messages.Put key content) said heard waiting waiting spoken serves (λ held. stays due said (messages.Put key content) (spoken.put held) (is held)) (λ t same. absurd (task_no_put key content t same)) on
 
   -- what a call that puts a content does
   abbrev pub Puts : PeerState L → PeerState L → Key → List ℕ → Type 0
   Puts p p_now key content = (said heard : List Message) (waiting : Option Task) → honest p.way → ServesBy p said heard waiting → ServesBy p_now (said ++ (messages.Put key content ∷ [])) heard waiting
 
-  pub put_trusted : (s : SeatState L) (p : PeerState L) (key : Key) (content : List ℕ) → DueStaysDue → due key.file.0 ≡ Some content → Puts s.peer p key content → (honest s.peer.way → honest p.way) → Trusted s → Trusted (record s { peer = p })
+  pub put_trusted : (s : SeatState L) (p : PeerState L) (key : Key) (content : List ℕ) → DueStaysDue → (holds → due key.file.0 ≡ Some content) → Puts s.peer p key content → (honest s.peer.way → honest p.way) → Trusted s → Trusted (record s { peer = p })
   put_trusted s p key content stays is puts on was = record {
     said = was.said ++ (messages.Put key content ∷ []);
     heard = was.heard;
     spoken = put_spoken s p key content was.said was.heard None stays is was.spoken (puts was.said was.heard None was.spoken.honestly was.spoken.serves) (on was.spoken.honestly);
   }
 
-  pub put_asks : (s : SeatState L) (p : PeerState L) (key : Key) (content : List ℕ) (task : Task) → DueStaysDue → due key.file.0 ≡ Some content → Puts s.peer p key content → (honest s.peer.way → honest p.way) → Asks s task → Asks (record s { peer = p }) task
+  pub put_asks : (s : SeatState L) (p : PeerState L) (key : Key) (content : List ℕ) (task : Task) → DueStaysDue → (holds → due key.file.0 ≡ Some content) → Puts s.peer p key content → (honest s.peer.way → honest p.way) → Asks s task → Asks (record s { peer = p }) task
   put_asks s p key content task stays is puts on may = record {
     said = may.said ++ (messages.Put key content ∷ []);
     heard = may.heard;
@@ -351,7 +350,7 @@ module _ {L : Type 0} (gives : Function) (may_fail : Job → Failure → Type 0)
   ask_trusted s p task stays first again on may = record {
     said = may.said ++ (messages.Task task ∷ []);
     heard = may.heard;
-    spoken = said_more s p (messages.Task task) may.said may.heard may.waiting None may.spoken (served may.may) (stays due may.said (messages.Task task) may.spoken.put tt) own (on may.spoken.honestly);
+    spoken = said_more s p (messages.Task task) may.said may.heard may.waiting None may.spoken (served may.may) (λ held. stays due may.said (messages.Task task) (may.spoken.put held) tt) own (on may.spoken.honestly);
   }
     where
       served : (may.waiting ≡ Some task) ⊎ ((may.waiting ≡ None) × IsAmong (messages.Task task) may.said) → ServesBy p (may.said ++ (messages.Task task ∷ [])) may.heard None
@@ -487,18 +486,18 @@ module _ {L : Type 0} (gives : Function) (may_fail : Job → Failure → Type 0)
       (λ a says at row there. result_at said number (outcomes.Failed why) r.task r.of_attempt r.asked (λ (job : Job). EndsAsTold gives may_fail job (outcomes.Failed why)) (r.honest due put was) a says at row there) xs own
 
   -- What is told is due.
-  pub heard_due : (s : SeatState L) (p : PeerState L) (t : Told) → HearsAs s.peer p t → (honest s.peer.way → honest p.way) → (honest p.way → WasHonest gives may_fail (history p.way)) → Trusted s → TellsDue gives may_fail history honest P run due (record s { peer = p }) t
+  pub heard_due : (s : SeatState L) (p : PeerState L) (t : Told) → HearsAs s.peer p t → (honest s.peer.way → honest p.way) → (holds → honest p.way → WasHonest gives may_fail (history p.way)) → Trusted s → TellsDue holds gives may_fail history honest P run due (record s { peer = p }) t
   heard_due s p t hears on past was = by_told t (hears was.said was.heard was.spoken.honestly was.spoken.serves)
     where
       on_now : honest p.way
       on_now = on was.spoken.honestly
 
-      by_told : (t : Told) → (let r : Result Told Leave = Ok t in ServesOn gives may_fail (history p.way) was.said was.heard r p.feed p.session) → TellsDue gives may_fail history honest P run due (record s { peer = p }) t
+      by_told : (t : Told) → (let r : Result Told Leave = Ok t in ServesOn gives may_fail (history p.way) was.said was.heard r p.feed p.session) → TellsDue holds gives may_fail history honest P run due (record s { peer = p }) t
       by_told tell.Nothing serves = tt
       by_told (tell.Joined total largest cache) tells = tt
       by_told (tell.Changed total largest cache) tells = tt
-      by_told (tell.Finish attempt outs) tells = success_due (history p.way) was.said attempt outs s.attempts was.spoken.put (past on_now) was.spoken.asked tells.is_so
-      by_told (tell.Fail attempt why) tells = failure_due (history p.way) was.said attempt why s.attempts was.spoken.put (past on_now) was.spoken.asked tells.is_so
+      by_told (tell.Finish attempt outs) tells = λ held. success_due (history p.way) was.said attempt outs s.attempts (was.spoken.put held) (past held on_now) was.spoken.asked tells.is_so
+      by_told (tell.Fail attempt why) tells = λ held. failure_due (history p.way) was.said attempt why s.attempts (was.spoken.put held) (past held on_now) was.spoken.asked tells.is_so
       by_told (tell.Lose attempt) tells = tt
       by_told (tell.PutAgain attempt files) tells = record {
         said = was.said;
@@ -512,7 +511,7 @@ module _ {L : Type 0} (gives : Function) (may_fail : Job → Failure → Type 0)
 
   -- A task that was asked may be asked again.
   pub again_asks : (s : SeatState L) (number : AttemptNo) (f : List Attempt) (a : Attempt) (b : List Attempt) (task : Task) → s.attempts ≡ f ++ (a ∷ b) → a.number ≡ number → NoneHas a.number f × NoneHas a.number b → own_task P run a ≡ Some task
-      → WasAsked gives may_fail history honest P run due s number → Asks s task
+      → WasAsked holds gives may_fail history honest P run due s number → Asks s task
   again_asks s number f a b task split at alone is was =
       let says : SaysOwn P run was.said a = all_at (SaysOwn P run was.said) f a b (subst (AllByRecursion (SaysOwn P run was.said)) split was.spoken.asked) in
       let one : was.task ≡ task = some_task was.task task (sym (says was.task was.among (was.of_attempt ∙ sym at)) ∙ is) in

@@ -15,7 +15,7 @@ use Rattle.worker_pool.specs.Pools.{PoolState}
 use Rattle.desk.specs.State.{DeskState}
 use Rattle.local_run.specs.declared.halt.Halt.{Halt}
 use Rattle.local_run.specs.Underway.{HeldState, IsWantHalt}
-use Rattle.wq_run.specs.Seats.{CompanyState, Meets, SeatState, inside_of}
+use Rattle.wq_run.specs.Seats.{CompanyState, Meets, inside_of}
 use Rattle.wq_run.specs.Trusted.{IsOpen}
 use Rattle.wq_run.specs.Turns.{MayServe}
 

@@ -1,5 +1,5 @@
 -- Seats that are visited, left and taken.
-use Rattle.std.proofs.Common.{◌≡◌, ◌≢◌, ◌<◌, ◌⊎◌, inl, inr, ⊎_elim, ℕ, Bool, true, false, List, [], ◌∷◌, ◌++◌, Option, Some, None, Result, Ok, Err, length, refl, sym, ap, ◌∙◌, subst, arith, true≢false}
+use Rattle.std.proofs.Common.{◌≡◌, ◌≢◌, ◌<◌, ℕ, Bool, true, false, List, [], ◌∷◌, ◌++◌, Option, None, Result, Ok, Err, refl, sym, ap, ◌∙◌, subst, arith}
 use Rattle.std.specs.Prelude.{◌==◌, is_some, slice_set}
 use Rattle.std.specs.List.{AllByRecursion}
 use Rattle.std.proofs.lemmas.Bool.{eq-eqb, eqb-true}
@@ -17,7 +17,6 @@ use Rattle.run_history.specs.declared.moves.Move.{Move}
 use Rattle.run_history.specs.declared.moves.Move.TheVariants as moves
 use Rattle.run_history.specs.declared.options.Options.{Options}
 use Rattle.run_history.specs.Links.{is_live, names_link, row_in}
-use Rattle.run_history.specs.Moves.{next_link}
 use Rattle.outside.specs.Disk.{Outcomes}
 use Rattle.outside.specs.Files.{Files}
 use Rattle.worker_pool.specs.declared.hand.Tally.{Tally}
@@ -29,10 +28,10 @@ use Rattle.link_session.specs.declared.open.Open.{Open}
 use Rattle.peers.specs.States.{PeerState}
 use Rattle.peers.proofs.Opens.{all_map}
 use Rattle.local_run.specs.declared.halt.Halt.{Halt}
-use Rattle.local_run.specs.Beyond.{changed_by, joined_by, left_by}
+use Rattle.local_run.specs.Beyond.{joined_by, left_by}
 use Rattle.local_run.specs.Underway.{AwayState, HeldState, NoneOn, Underway}
-use Rattle.wq_run.specs.Seats.{AreOn, AreSeats, AtPlace, AtSeat, IsAtPlace, IsAtSeat, IsGuest, IsManned, IsOpenAt, IsParting, IsPartingAt, IsPlaced, IsSeat, IsUnseated, KeepsManned, KeepsSeat, LeavesSeat, Manned, Parts, PartsAt, SeatState, Stays, gathered}
-use Rattle.wq_run.proofs.Shares.{Among, from_place, from_seat, gathered_append, none_on, seats_join, seats_live, seats_spared, to_seat}
+use Rattle.wq_run.specs.Seats.{AreOn, AreSeats, AtPlace, IsAtPlace, IsAtSeat, IsGuest, IsManned, IsOpenAt, IsParting, IsUnseated, KeepsManned, KeepsSeat, LeavesSeat, Manned, Parts, PartsAt, SeatState, Stays, gathered}
+use Rattle.wq_run.proofs.Shares.{from_place, from_seat, gathered_append, none_on, seats_join, seats_live, seats_spared, to_seat}
 use Rattle.wq_run.proofs.Splits.{SplitAt}
 
 -- ---- links that live

@@ -1,5 +1,5 @@
 -- What rounds of a run come to, one behind another, to its end.
-use Rattle.std.proofs.Common.{◌≡◌, ◌≤◌, ◌<◌, ◌+◌, ◌-◌, ◌∙◌, ⊎_elim, ℕ, Bool, true, false, List, [], ◌∷◌, ◌++◌, length, Option, Some, None, Result, Ok, Err, refl, sym, ap, subst, arith, true≢false}
+use Rattle.std.proofs.Common.{◌≡◌, ◌≤◌, ◌<◌, ◌+◌, ◌-◌, ◌∙◌, ⊎_elim, ℕ, Bool, true, false, List, [], ◌++◌, length, Option, Some, None, Result, Ok, Err, refl, sym, ap, subst, arith, true≢false}
 use Rattle.std.specs.Prelude.{◌⊎◌, All, IfOk, OnOk, cond, is_some}
 use Rattle.std.proofs.lemmas.List.{append-nil, append_assoc}
 use Rattle.std.proofs.lemmas.List.Elements.{All-append, All-weaker}
@@ -16,13 +16,13 @@ use Rattle.run_history.specs.declared.answers.Stop.{Stop}
 use Rattle.run_history.specs.declared.answers.Stop.TheVariants as stops
 use Rattle.run_history.specs.declared.moves.Move.{Move}
 use Rattle.run_history.specs.declared.options.Options.{Options}
-use Rattle.run_history.specs.Answers.{before_end, end_over, has_ended, is_in_vain, stop_of}
+use Rattle.run_history.specs.Answers.{before_end, end_over, is_in_vain, stop_of}
 use Rattle.run_history.specs.Links.{is_live, records_of}
 use Rattle.run_history.specs.Storage.{running_rules}
 use Rattle.outside.specs.Disk.{IsImage, Outcomes}
 use Rattle.outside.specs.Files.{Files}
 use Rattle.desk.specs.declared.answers.Trouble.{Trouble}
-use Rattle.desk.specs.State.{DeskState, IsFine}
+use Rattle.desk.specs.State.{DeskState}
 use Rattle.local_run.specs.declared.ended.Stopped.{Stopped}
 use Rattle.local_run.specs.declared.ended.Stopped.TheVariants as stopped
 use Rattle.local_run.specs.declared.halt.Halt.{Halt}
@@ -42,7 +42,7 @@ use Rattle.local_run.specs.Links.{link_moves}
 use Rattle.wq_run.proofs.Shares.{seats_live}
 use Rattle.wq_run.specs.Seats.{AreSeats, CompanyState, Meets, SeatState, back_under, inside_of, links_in, one_under, seats_under}
 use Rattle.peers.specs.States.{PeerState}
-use Rattle.wq_run.specs.Works.{EndedBy, EndsAt, EndsNow, HaltedBy, HasEnd, IsOn, Rounds, TurnsTo, Works, with_check}
+use Rattle.wq_run.specs.Works.{EndedBy, EndsNow, HaltedBy, HasEnd, IsOn, Rounds, TurnsTo, Works, with_check}
 use Rattle.wq_run.proofs.Services.{halt_by_count}
 
 -- ---- why it stopped

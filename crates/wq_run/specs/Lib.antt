@@ -3,5 +3,7 @@ pub mod Seats
 pub mod Comes
 pub mod Works
 pub mod Trusted
+pub mod Losses
+pub mod Dues
 pub mod Calls
 pub mod Turns

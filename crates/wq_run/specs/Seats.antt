@@ -259,6 +259,7 @@ pub record Meets {L : Type 0} (count count_now : ℕ) (got got_now : List (Optio
   pub later : count ≤ count_now
   pub idles_later : idles ≤ idles_now
   pub fails : failed_now ≡ true → (failed ≡ true) ⊎ (count < count_now)
+  pub stays : failed ≡ true → failed_now ≡ true
   pub counted : lost_now ≡ false → (lost ≡ false) × KeepsCount got got_now given given_now inside.links inside_now.links
   pub numbers : KeepsNumbers got got_now inside inside_now
 

@@ -1,4 +1,4 @@
--- What was said to a worker and heard of it, where its link is honest.
+-- What was said to a worker and heard of it, where its link tells its bytes.
 use Rattle.std.specs.Prelude.{◌≡◌, ◌≤◌, ◌<◌, ◌-◌, ◌⊎◌, ℕ, List, [], Option, Some, None, option_map, slice_get}
 use Rattle.std.specs.List.{AllByRecursion}
 use Rattle.flow_types.specs.declared.plan.Plan.{Plan}
@@ -43,6 +43,16 @@ pub record IsOpen (holds listens honest : Type 0) : Type 0 where
 abbrev pub StaysOpen : Type 0 → Type 0 → Type 0 → Type 0 → Type 0 → Type 0
 StaysOpen holds listens honest listens_now honest_now = IsOpen holds listens honest → IsOpen holds listens_now honest_now
 
+-- ---- links
+
+-- The link tells its bytes, and where that is relied on it is honest.
+abbrev pub IsFair : {L : Type 0} → Type 0 → Type 0 → (L → Type 0) → L → Type 0
+IsFair holds tells honest way = tells × (holds → honest way)
+
+-- Links tell their bytes, or it is relied on that they are honest, so that they do.
+abbrev pub IsHeard : Type 0 → Type 0 → Type 0
+IsHeard holds tells = tells ⊎ holds
+
 -- ---- tasks
 
 -- the task of the attempt, in this run
@@ -64,42 +74,42 @@ IsUpTo (Some newest) number = number.0 ≤ newest.0
 
 -- ---- seats
 
--- The seat's peer is served with these messages said and heard, over an honest link: each content that was put is the one that is due, and each task of an attempt that runs there is the attempt's.
-pub record SpokenTo {L : Type 0} (gives : Function) (may_fail : Job → Failure → Type 0) (history : L → List Passed) (honest : L → Type 0) (P : Plan) (run : ℕ) (due : Contents) (s : SeatState L) (said heard : List Message) (waiting : Option Task) : Type 0 where
+-- The seat's peer is served with these messages said and heard, over a link of which this is so: each task of an attempt that runs there is the attempt's, and where that is relied on each content that was put is the one that is due.
+pub record SpokenTo {L : Type 0} (holds : Type 0) (gives : Function) (may_fail : Job → Failure → Type 0) (history : L → List Passed) (honest : L → Type 0) (P : Plan) (run : ℕ) (due : Contents) (s : SeatState L) (said heard : List Message) (waiting : Option Task) : Type 0 where
   pub serves : Serves gives may_fail (history s.peer.way) s.peer.feed s.peer.session said heard waiting
-  pub put : AreDue due said
+  pub put : holds → AreDue due said
   pub asked : AllByRecursion (SaysOwn P run said) s.attempts
   pub older : (t : Task) → IsAmong (messages.Task t) said → IsUpTo s.newest t.attempt
   pub honestly : honest s.peer.way
 
 -- It is so of some messages, and no task waits to be said.
-pub record IsTrusted {L : Type 0} (gives : Function) (may_fail : Job → Failure → Type 0) (history : L → List Passed) (honest : L → Type 0) (P : Plan) (run : ℕ) (due : Contents) (s : SeatState L) : Type 0 where
+pub record IsTrusted {L : Type 0} (holds : Type 0) (gives : Function) (may_fail : Job → Failure → Type 0) (history : L → List Passed) (honest : L → Type 0) (P : Plan) (run : ℕ) (due : Contents) (s : SeatState L) : Type 0 where
   pub said : List Message
   pub heard : List Message
-  pub spoken : SpokenTo gives may_fail history honest P run due s said heard None
+  pub spoken : SpokenTo holds gives may_fail history honest P run due s said heard None
 
 -- No task of this attempt, nor of a later one, was said.
-pub record MayOpen {L : Type 0} (gives : Function) (may_fail : Job → Failure → Type 0) (history : L → List Passed) (honest : L → Type 0) (P : Plan) (run : ℕ) (due : Contents) (s : SeatState L) (number : AttemptNo) : Type 0 where
+pub record MayOpen {L : Type 0} (holds : Type 0) (gives : Function) (may_fail : Job → Failure → Type 0) (history : L → List Passed) (honest : L → Type 0) (P : Plan) (run : ℕ) (due : Contents) (s : SeatState L) (number : AttemptNo) : Type 0 where
   pub said : List Message
   pub heard : List Message
-  pub spoken : SpokenTo gives may_fail history honest P run due s said heard None
+  pub spoken : SpokenTo holds gives may_fail history honest P run due s said heard None
   pub earlier : (t : Task) → IsAmong (messages.Task t) said → t.attempt.0 < number.0
 
 -- The task waits to be said, or was said and none waits; it is that of an attempt that runs there.
-pub record MayAsk {L : Type 0} (gives : Function) (may_fail : Job → Failure → Type 0) (history : L → List Passed) (honest : L → Type 0) (P : Plan) (run : ℕ) (due : Contents) (s : SeatState L) (task : Task) : Type 0 where
+pub record MayAsk {L : Type 0} (holds : Type 0) (gives : Function) (may_fail : Job → Failure → Type 0) (history : L → List Passed) (honest : L → Type 0) (P : Plan) (run : ℕ) (due : Contents) (s : SeatState L) (task : Task) : Type 0 where
   pub said : List Message
   pub heard : List Message
   pub waiting : Option Task
-  pub spoken : SpokenTo gives may_fail history honest P run due s said heard waiting
+  pub spoken : SpokenTo holds gives may_fail history honest P run due s said heard waiting
   pub may : (waiting ≡ Some task) ⊎ ((waiting ≡ None) × IsAmong (messages.Task task) said)
   pub own : AllByRecursion (IsOwn P run task) s.attempts
   pub newest : IsUpTo s.newest task.attempt
 
 -- A task of the attempt was said, and none waits.
-pub record WasAsked {L : Type 0} (gives : Function) (may_fail : Job → Failure → Type 0) (history : L → List Passed) (honest : L → Type 0) (P : Plan) (run : ℕ) (due : Contents) (s : SeatState L) (number : AttemptNo) : Type 0 where
+pub record WasAsked {L : Type 0} (holds : Type 0) (gives : Function) (may_fail : Job → Failure → Type 0) (history : L → List Passed) (honest : L → Type 0) (P : Plan) (run : ℕ) (due : Contents) (s : SeatState L) (number : AttemptNo) : Type 0 where
   pub said : List Message
   pub heard : List Message
-  pub spoken : SpokenTo gives may_fail history honest P run due s said heard None
+  pub spoken : SpokenTo holds gives may_fail history honest P run due s said heard None
   pub task : Task
   pub of_attempt : task.attempt ≡ number
   pub among : IsAmong (messages.Task task) said
@@ -111,20 +121,20 @@ abbrev pub EndsDue : Plan → Function → (Job → Failure → Type 0) → Cont
 EndsDue P gives may_fail due number outcome a = a.number ≡ number → (row : Rule) → slice_get P.rules a.rule.0 ≡ Some row → EndsAsTold gives may_fail (job_of P row due) outcome
 
 -- What is told of an attempt that runs there is what the commands say of its rule's job, and a task that is to be asked again was asked.
-abbrev pub TellsDue : {L : Type 0} → Function → (Job → Failure → Type 0) → (L → List Passed) → (L → Type 0) → Plan → ℕ → Contents → SeatState L → Told → Type 0
-TellsDue gives may_fail history honest P run due s (tell.Finish attempt outs) = AllByRecursion (EndsDue P gives may_fail due attempt (outcomes.Success outs)) s.attempts
-TellsDue gives may_fail history honest P run due s (tell.Fail attempt why) = AllByRecursion (EndsDue P gives may_fail due attempt (outcomes.Failed why)) s.attempts
-TellsDue gives may_fail history honest P run due s (tell.PutAgain attempt files) = WasAsked gives may_fail history honest P run due s attempt
-TellsDue gives may_fail history honest P run due s _ = Unit {0}
+abbrev pub TellsDue : {L : Type 0} → Type 0 → Function → (Job → Failure → Type 0) → (L → List Passed) → (L → Type 0) → Plan → ℕ → Contents → SeatState L → Told → Type 0
+TellsDue holds gives may_fail history honest P run due s (tell.Finish attempt outs) = holds → AllByRecursion (EndsDue P gives may_fail due attempt (outcomes.Success outs)) s.attempts
+TellsDue holds gives may_fail history honest P run due s (tell.Fail attempt why) = holds → AllByRecursion (EndsDue P gives may_fail due attempt (outcomes.Failed why)) s.attempts
+TellsDue holds gives may_fail history honest P run due s (tell.PutAgain attempt files) = WasAsked holds gives may_fail history honest P run due s attempt
+TellsDue holds gives may_fail history honest P run due s _ = Unit {0}
 
 -- ---- guests
 
--- Nothing was said to the peer yet, and its link is honest.
+-- Nothing was said to the peer yet, and this is so of its link.
 pub record IsHonestGuest {L : Type 0} (gives : Function) (may_fail : Job → Failure → Type 0) (history : L → List Passed) (honest : L → Type 0) (p : PeerState L) : Type 0 where
   pub heard : List Message
   pub serves : Serves gives may_fail (history p.way) p.feed p.session [] heard None
   pub honestly : honest p.way
 
--- It is so where that is relied on.
+-- It is so where anything is known of links.
 abbrev pub IsMeant : {L : Type 0} → Type 0 → Function → (Job → Failure → Type 0) → (L → List Passed) → (L → Type 0) → PeerState L → Type 0
-IsMeant holds gives may_fail history honest p = holds → IsHonestGuest gives may_fail history honest p
+IsMeant known gives may_fail history honest p = known → IsHonestGuest gives may_fail history honest p

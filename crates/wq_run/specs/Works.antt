@@ -1,5 +1,6 @@
 -- What rounds of a run with workers come to.
 use Rattle.std.specs.Prelude.{◌≡◌, ◌≤◌, ◌<◌, ◌-◌, ℕ, false, List, [], ◌++◌, length, Option, Some, None, Result, Ok, Err, OnOk}
+use Rattle.std.specs.List.{list_any}
 use Rattle.flow_types.specs.declared.job.Job.{Job}
 use Rattle.flow_types.specs.declared.job.Failure.{Failure}
 use Rattle.flow_types.specs.Serial.{Contents, Function}
@@ -18,6 +19,7 @@ use Rattle.local_run.specs.declared.halt.Halt.{Halt}
 use Rattle.local_run.specs.Course.{GoesOn, IsHalt}
 use Rattle.local_run.specs.Ends.{IsApart, IsFoundDamaged, IsSureHalt, IsWholeHalt}
 use Rattle.local_run.specs.Links.{link_moves}
+use Rattle.local_run.specs.Losses.{is_lost}
 use Rattle.wq_run.specs.declared.rounds.Turn.{Turn}
 use Rattle.wq_run.specs.declared.rounds.Turn.TheVariants as turns
 use Rattle.wq_run.specs.Ends.{EndsHere, IsOver, LosesOnLinks}
@@ -53,6 +55,12 @@ TurnsTo {S} tells kept sure files limit now count count_now hall hall_now idles 
 TurnsTo tells kept sure files limit now count count_now hall hall_now idles idles_now (Err why) =
     EndedBy tells kept sure files limit now count count_now hall hall_now idles idles_now (Err why)
 
+-- it tells that no round follows, or none but where the run can't be stopped
+abbrev pub IsLast : Turn → Type 0
+IsLast turns.Again = ⊥
+IsLast (turns.Vain n) = Unit {0}
+IsLast (turns.Over check) = Unit {0}
+
 -- What a round of a run comes to, whose runners' and hall's counts rise so.
 pub record Rounds {S : Type 0} (trust : Type 0) (gives : Function) (may_fail : Job → Failure → Type 0) (sources : Contents) (tells kept sure : Type 0) (files : S → Files) (may_leave : S → Outcomes) (moment : S → ℕ)
     (images_since : S → ℕ → Files → Type 0) (limit : ℕ) (d after : DeskState S) (count count_now failures failures_now hall hall_now idles idles_now : ℕ) (result : Result Turn Stopped) : Type 0 where
@@ -86,6 +94,7 @@ pub record EndsAt {S : Type 0} (after : DeskState S) (moves : List Move) (stop :
   pub more : List Move
   pub are : after.moves ≡ moves ++ more
   pub none : link_moves more ≡ []
+  pub spared : list_any is_lost (records_of more) ≡ false
   pub lost : LosesOnLinks (records_of moves) (records_of after.moves)
 
 -- What an end made of the desk, by what it tells.

@@ -1,5 +1,6 @@
 //! All workers of a run.
 ghost use Rattle.std.specs.Prelude.{◌≡◌, ◌<◌, [], false, true};
+ghost use Rattle.wq_run.specs.Dues.{left_lost};
 ghost use Rattle.wq_run.specs.Seats.{IsUnseated, gathered};
 
 mod guests;
@@ -13,7 +14,7 @@ use crate::seat::Seat;
 use flow_types::LinkNo;
 use links::Link;
 use outside::Commands;
-use peers::Peer;
+use peers::{Leave, Peer};
 pub(crate) use rounds::{disband, dismiss, round};
 use std::alloc::Global;
 use std::marker::Model;
@@ -41,7 +42,7 @@ pub(crate) struct Company<F: Commands, L: Link<F>, T: Trust> {
 
 impl<F: Commands, L: Link<F>, T: Trust> Model for Company<F, L, T> {
     ghost use Rattle.wq_run.specs.Seats.{AreGuests, CompanyState};
-    ghost use Rattle.wq_run.specs.Trusted.{IsMeant};
+    ghost use Rattle.wq_run.specs.Trusted.{IsFair, IsHeard, IsMeant};
 
     ghost Value = { CompanyState L };
 
@@ -53,7 +54,7 @@ impl<F: Commands, L: Link<F>, T: Trust> Model for Company<F, L, T> {
       newest = c.newest;
     } };
 
-    ghost invariant = { λ c. AreGuests (IsMeant T.holds F.gives F.may_fail L.history L.honest)
+    ghost invariant = { λ c. AreGuests (IsMeant (IsHeard T.holds L.tells) F.gives F.may_fail L.history (IsFair T.holds L.tells L.honest))
         c.guests.items };
 }
 
@@ -94,7 +95,12 @@ impl<F: Commands, L: Link<F>, T: Trust> Company<F, L, T> {
     }
 
     /// Whether nothing stands in the way of more.
-    pub fn is_going(&self) -> bool {
+    pub fn is_going(&self) -> bool
+        ensures fine { result ≡ true
+            → (self.now.failed ≡ false) × (self.now.lost ≡ false) }
+        ensures stands { result ≡ false
+            → self.now.failed ≡ false → self.now.lost ≡ false → ⊥ }
+    {
         !self.failed && !self.lost
     }
 
@@ -122,6 +128,16 @@ impl<F: Commands, L: Link<F>, T: Trust> Company<F, L, T> {
         ensures { self.new ≡ self.old }
     {
         self.quiet = moves;
+    }
+
+    /// A link is left for this. Where that is want of memory the run can't go on.
+    fn leaves(&mut self, leave: Leave)
+        ensures left { self.new
+            ≡ record self.old { lost = left_lost leave self.old.lost } }
+    {
+        if leave == Leave::Memory {
+            self.lost = true;
+        }
     }
 
     /// Ends it, with nobody left.

@@ -5,6 +5,7 @@ ghost use Rattle.flow_types.specs.Plans.{IsValid};
 ghost use Rattle.run_history.specs.declared.moves.Move.{Move};
 ghost use Rattle.run_history.specs.Answers.{has_ended};
 ghost use Rattle.run_history.specs.Links.{records_of};
+ghost use Rattle.run_history.specs.Moves.{joins_and_changes};
 ghost use Rattle.run_history.specs.Storage.{running_rules};
 ghost use Rattle.worker_pool.specs.Crews.{AllSure, AllTell};
 ghost use Rattle.desk.specs.State.{IsFine};
@@ -12,6 +13,7 @@ ghost use Rattle.local_run.specs.Course.{GoesOn, TellsJobs};
 ghost use Rattle.local_run.specs.Ends.{IsApart, IsWholeRun, RunDamage};
 ghost use Rattle.local_run.specs.Runs.{IsCutRun};
 ghost use Rattle.wq_run.specs.Ends.{AreBack, EndsHere, IsSparedRunners, LosesOnLinks, StopsBy};
+ghost use Rattle.wq_run.specs.Losses.{AreDueLosses};
 ghost use Rattle.wq_run.specs.Trusted.{IsOf};
 
 use crate::company::{Company, disband};
@@ -79,6 +81,10 @@ pub fn work<
         (H.idle_count hall.new - H.idle_count hall.old) desk.new.moves) }
     ensures back { (IsCutRun result → ⊥)
         → AreBack (H.got hall.old) (H.got hall.new) (H.given hall.old) (H.given hall.new) }
+    ensures due_losses { H.Way.tells → joins_and_changes desk.old.moves ≡ 0
+        → OnOk result (AreDueLosses F.gives F.may_fail H.Way.history H.Way.count
+        H.Way.idle_count H.Way.is_closed workers.limit (H.got hall.old) (H.got hall.new)
+        (records_of desk.old.moves) (records_of desk.new.moves)) }
 {
     match hall.listen(workers.port) {
         Ok(()) => {}

@@ -1,11 +1,14 @@
 //! The end of a service: nothing is held any more.
-ghost use Rattle.std.specs.Prelude.{◌≡◌, ◌<◌, ℕ, List};
+ghost use Rattle.std.specs.Prelude.{◌≡◌, ◌<◌, ℕ, List, None, Some};
 ghost use Rattle.flow_types.specs.declared.job.Start.{Start as StartValue};
 ghost use Rattle.flow_types.specs.Plans.{IsValid};
 ghost use Rattle.worker_pool.specs.declared.hand.Tally.{Tally};
 ghost use Rattle.desk.specs.State.{DeskState};
-ghost use Rattle.local_run.specs.Underway.{IsSurePool};
+ghost use Rattle.local_run.specs.declared.halt.Halt.{Halt as HaltValue};
+ghost use Rattle.local_run.specs.declared.halt.Halt.TheVariants as halts;
+ghost use Rattle.local_run.specs.Underway.{IsSurePool, halt_after};
 ghost use Rattle.wq_run.specs.Comes.{Finished};
+ghost use Rattle.wq_run.specs.Dues.{IsIllLink, KeepsDue};
 ghost use Rattle.wq_run.specs.Seats.{IsManned, Manned, Meets, inside_of};
 ghost use Rattle.wq_run.specs.Trusted.{StaysOpen};
 
@@ -17,6 +20,17 @@ use local_run::{Halt, Held, settle};
 use outside::{Clock, Commands, Site};
 use std::alloc::Global;
 use worker_pool::Terms as PoolTerms;
+
+/// Stops the run for want of memory, where nothing has stopped it.
+fn stop_wanting(held: &mut Held)
+    ensures wants { held.old.halt ≡ None
+        → held.new ≡ record held.old { halt = Some halts.Memory } }
+    ensures stays { (why : HaltValue) → held.old.halt ≡ Some why → held.new ≡ held.old }
+{
+    if held.is_going() {
+        held.stop(Halt::Memory);
+    }
+}
 
 /// Gives up what is still held, here or at a worker, which is something only where memory was
 /// wanting, and tells why the run stopped.
@@ -41,6 +55,10 @@ pub(crate) fn finish<B: PoolTerms, F: Commands, S: Site, H: Hall<F>, T: Terms + 
         company.new.seats result }
     ensures listens { StaysOpen T.holds (H.listens hall.old) (H.honest hall.old)
         (H.listens hall.new) (H.honest hall.new) }
+    ensures due { (limit : ℕ) → H.Way.tells → KeepsDue
+        (IsIllLink F.gives F.may_fail H.Way.history H.Way.count H.Way.idle_count H.Way.is_closed limit)
+        H.Way.history desk.old.moves desk.new.moves held.halt (halt_after result None) company.old
+        company.new (H.got hall.old) (H.got hall.new) }
     ensures met { Meets (H.count hall.old) (H.count hall.new) (H.got hall.old)
         (H.got hall.new) (H.given hall.old) (H.given hall.new) (H.idle_count hall.old)
         (H.idle_count hall.new) (inside_of company.old) (inside_of company.new)
@@ -50,6 +68,7 @@ pub(crate) fn finish<B: PoolTerms, F: Commands, S: Site, H: Hall<F>, T: Terms + 
     if company.is_idle() {
         return settle::<B, F, S, T, C>(desk, held, clock);
     }
+    stop_wanting(&mut held);
     dismiss::<B, F, S, H, T, C>(company, alloc, desk, &mut held, hall, clock);
     settle::<B, F, S, T, C>(desk, held, clock)
 }

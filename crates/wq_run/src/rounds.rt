@@ -1,5 +1,5 @@
 //! The rounds of a run with workers, until it ends.
-ghost use Rattle.std.specs.Prelude.{◌≡◌, ◌≤◌, ◌<◌, [], ℕ, length, sum_by, Some, false, true};
+ghost use Rattle.std.specs.Prelude.{◌≡◌, ◌≤◌, ◌<◌, [], ℕ, length, sum_by, IfOk, None, OnOk, Some, false, true};
 ghost use Rattle.flow_types.specs.declared.job.Job.{Job};
 ghost use Rattle.flow_types.specs.Plans.{IsValid};
 ghost use Rattle.run_history.specs.declared.answers.Stop.TheVariants as stops;
@@ -10,9 +10,10 @@ ghost use Rattle.worker_pool.specs.Crews.{AllSure, AllTell};
 ghost use Rattle.desk.specs.State.{IsFine};
 ghost use Rattle.local_run.specs.Course.{TellsJobs};
 ghost use Rattle.wq_run.specs.Ends.{IsOver};
+ghost use Rattle.wq_run.specs.Dues.{IsIllLink, KeepsDue};
 ghost use Rattle.wq_run.specs.Seats.{AreSeats, Meets, gathered, inside_of};
 ghost use Rattle.wq_run.specs.Trusted.{IsOf, IsOpen};
-ghost use Rattle.wq_run.specs.Works.{EndsNow, IsOn, Rounds, Works, with_check};
+ghost use Rattle.wq_run.specs.Works.{EndsNow, IsLast, IsOn, Rounds, Works, with_check};
 
 use crate::company::Company;
 use crate::reliance::Trust;
@@ -106,10 +107,16 @@ fn wait_round<W: Wait, F: Commands, S: Site, H: Hall<F>, C: Clock, T: Terms + Tr
     ensures listens { IsOpen T.holds (H.listens hall.new) (H.honest hall.new) }
     ensures seats { AreSeats desk.new.plan desk.new.options desk.new.moves company.new.seats }
     ensures none { gathered company.new.seats ≡ [] }
+    ensures due { H.Way.tells → OnOk result (KeepsDue
+        (IsIllLink F.gives F.may_fail H.Way.history H.Way.count H.Way.idle_count H.Way.is_closed limit)
+        H.Way.history desk.old.moves desk.new.moves None None company.old
+        company.new (H.got hall.old) (H.got hall.new)) }
     ensures met { Meets (H.count hall.old) (H.count hall.new) (H.got hall.old)
         (H.got hall.new) (H.given hall.old) (H.given hall.new) (H.idle_count hall.old)
         (H.idle_count hall.new) (inside_of company.old) (inside_of company.new)
         company.old.failed company.new.failed company.old.lost company.new.lost }
+    ensures sound { IfOk result (λ turn. IsLast turn
+        → (company.new.failed ≡ false) × (company.new.lost ≡ false)) }
 {
     let before = hall.idles();
     match wait::<Brand, W, F, S, H, T, C>(rt, alloc, desk, company, hall, limit, clock) {
@@ -117,7 +124,7 @@ fn wait_round<W: Wait, F: Commands, S: Site, H: Hall<F>, C: Clock, T: Terms + Tr
         Err(halt) => return Err(Stopped::Halted(halt)),
     }
     let idles = hall.idles() - before;
-    if idles >= u64::from(limit) {
+    if company.is_going() && idles >= u64::from(limit) {
         return Ok(Turn::Vain(idles));
     }
     Ok(Turn::Again)
@@ -165,11 +172,17 @@ fn go_round<
     ensures tells { (job : Job) → AllTell R.tells runners.old job → AllTell R.tells runners.new job }
     ensures seats { AreSeats desk.new.plan desk.new.options desk.new.moves company.new.seats }
     ensures none { gathered company.new.seats ≡ [] }
+    ensures due { H.Way.tells → OnOk result (KeepsDue
+        (IsIllLink F.gives F.may_fail H.Way.history H.Way.count H.Way.idle_count H.Way.is_closed limit)
+        H.Way.history desk.old.moves desk.new.moves None None company.old
+        company.new (H.got hall.old) (H.got hall.new)) }
     ensures met { Meets (H.count hall.old) (H.count hall.new) (H.got hall.old)
         (H.got hall.new) (H.given hall.old) (H.given hall.new) (H.idle_count hall.old)
         (H.idle_count hall.new) (inside_of company.old) (inside_of company.new)
         company.old.failed company.new.failed company.old.lost company.new.lost }
     ensures listens { IsOpen T.holds (H.listens hall.new) (H.honest hall.new) }
+    ensures sound { IfOk result (λ turn. IsLast turn
+        → (company.new.failed ≡ false) × (company.new.lost ≡ false)) }
 {
     match serve_all(rt, alloc, desk, company, hall, limit, runners, gate, clock) {
         Ok(()) => {}
@@ -250,10 +263,16 @@ pub(crate) fn run_all<
         n (H.count hall.new) (H.idle_count hall.old) (H.idle_count hall.new) result }
     ensures seats { AreSeats desk.new.plan desk.new.options desk.new.moves company.new.seats }
     ensures none { gathered company.new.seats ≡ [] }
+    ensures due { H.Way.tells → OnOk result (KeepsDue
+        (IsIllLink F.gives F.may_fail H.Way.history H.Way.count H.Way.idle_count H.Way.is_closed limit)
+        H.Way.history desk.old.moves desk.new.moves None None company.old
+        company.new (H.got hall.old) (H.got hall.new)) }
     ensures met { Meets (H.count hall.old) (H.count hall.new) (H.got hall.old)
         (H.got hall.new) (H.given hall.old) (H.given hall.new) (H.idle_count hall.old)
         (H.idle_count hall.new) (inside_of company.old) (inside_of company.new)
         company.old.failed company.new.failed company.old.lost company.new.lost }
+    ensures sound { OnOk result
+        ((company.new.failed ≡ false) × (company.new.lost ≡ false)) }
 {
     for _ in rt.forever() {
         match go_round(rt, alloc, desk, company, hall, limit, runners, gate, clock) {

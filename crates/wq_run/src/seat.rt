@@ -6,7 +6,7 @@ ghost use Rattle.flow_types.specs.Plans.{is_empty};
 ghost use Rattle.desk.specs.declared.attempt.Attempt.{Attempt as AttemptValue};
 ghost use Rattle.local_run.specs.Underway.{IsHeld};
 ghost use Rattle.wq_run.specs.Seats.{seat_with};
-ghost use Rattle.wq_run.specs.Trusted.{IsMeant, IsTrusted, MayOpen};
+ghost use Rattle.wq_run.specs.Trusted.{IsFair, IsHeard, IsMeant, IsTrusted, MayOpen};
 
 mod asking;
 mod closing;
@@ -39,7 +39,7 @@ pub(crate) struct Seat<F: Commands, L: Link<F>, T: Trust> {
 impl<F: Commands, L: Link<F>, T: Trust> Model for Seat<F, L, T> {
     ghost use Rattle.std.specs.Prelude.{◌≡◌, true};
     ghost use Rattle.wq_run.specs.Seats.{SeatState};
-    ghost use Rattle.wq_run.specs.Trusted.{IsTrusted};
+    ghost use Rattle.wq_run.specs.Trusted.{IsFair, IsHeard, IsTrusted};
 
     ghost Value = { SeatState L };
 
@@ -50,8 +50,8 @@ impl<F: Commands, L: Link<F>, T: Trust> Model for Seat<F, L, T> {
       newest = s.newest;
     } };
 
-    ghost invariant = { λ s. s.is_ready ≡ true → T.holds
-        → IsTrusted F.gives F.may_fail L.history L.honest T.plan T.run T.due (record {
+    ghost invariant = { λ s. s.is_ready ≡ true → IsHeard T.holds L.tells
+        → IsTrusted T.holds F.gives F.may_fail L.history (IsFair T.holds L.tells L.honest) T.plan T.run T.due (record {
           peer = s.peer;
           link = s.link;
           attempts = s.attempts.items;
@@ -71,7 +71,7 @@ fn place(attempts: &[Attempt], number: AttemptNo) -> Option<usize>
 impl<F: Commands, L: Link<F>, T: Trust> Seat<F, L, T> {
     /// A seat on which nothing runs.
     pub fn new(alloc: Global, peer: Peer<F, L>, link: LinkNo) -> Seat<F, L, T>
-        requires meant { IsMeant T.holds F.gives F.may_fail L.history L.honest peer }
+        requires meant { IsMeant (IsHeard T.holds L.tells) F.gives F.may_fail L.history (IsFair T.holds L.tells L.honest) peer }
         ensures { result ≡ record { peer = peer; link = link; attempts = []; newest = None } }
     {
         Seat {
@@ -100,7 +100,7 @@ impl<F: Commands, L: Link<F>, T: Trust> Seat<F, L, T> {
 
     // Whether what the peer tells may be taken.
     fn is_ready(&self) -> bool
-        ensures { result ≡ true → T.holds → IsTrusted F.gives F.may_fail L.history L.honest T.plan
+        ensures { result ≡ true → IsHeard T.holds L.tells → IsTrusted T.holds F.gives F.may_fail L.history (IsFair T.holds L.tells L.honest) T.plan
             T.run T.due self.now }
     {
         self.is_ready
@@ -108,7 +108,7 @@ impl<F: Commands, L: Link<F>, T: Trust> Seat<F, L, T> {
 
     // Whether no attempt of this number, nor of a later one, was opened there.
     fn is_new(&self, number: AttemptNo) -> bool
-        ensures { result ≡ true → T.holds → MayOpen F.gives F.may_fail L.history L.honest T.plan
+        ensures { result ≡ true → IsHeard T.holds L.tells → MayOpen T.holds F.gives F.may_fail L.history (IsFair T.holds L.tells L.honest) T.plan
             T.run T.due self.now number }
     {
         if !self.is_ready {

@@ -1,5 +1,5 @@
 //! The caller's thread of a run with workers, beside those of its runners.
-ghost use Rattle.std.specs.Prelude.{◌≡◌, ◌≤◌, ◌<◌, [], ℕ, List, length, sum_by, true};
+ghost use Rattle.std.specs.Prelude.{◌≡◌, ◌≤◌, ◌<◌, ◌⊎◌, [], ℕ, List, None, false, length, sum_by, true};
 ghost use Rattle.crossbeam_queue.specs.Passes.{view, IsPassOf, IsSamePass};
 ghost use Rattle.flow_types.specs.declared.job.Job.{Job};
 ghost use Rattle.flow_types.specs.Plans.{IsValid};
@@ -13,7 +13,9 @@ ghost use Rattle.worker_pool.specs.Tickets.{fresh};
 ghost use Rattle.desk.specs.State.{IsFine};
 ghost use Rattle.local_run.specs.Course.{TellsJobs};
 ghost use Rattle.local_run.specs.Underway.{IsShapedPool, IsSurePool, IsWantHalt, ToldOf};
+ghost use Rattle.local_run.specs.Underway.{halt_after};
 ghost use Rattle.wq_run.specs.Comes.{ComesOn};
+ghost use Rattle.wq_run.specs.Dues.{IsIllLink, KeepsDue};
 ghost use Rattle.wq_run.specs.Seats.{AreSeats, IsServed, KeepsServed, Meets};
 ghost use Rattle.wq_run.specs.Seats.{gathered, inside_of};
 ghost use Rattle.wq_run.specs.Trusted.{IsOf, IsOpen};
@@ -63,6 +65,10 @@ fn start_more<B: PoolTerms, W: Wait, F: Commands, S: Site, H: Hall<F>, T: Terms 
         company.old.seats company.new.seats }
     ensures line { pool.new.line ≡ pool.old.line }
     ensures listens { IsOpen T.holds (H.listens hall.new) (H.honest hall.new) }
+    ensures due { (limit : ℕ) → H.Way.tells → KeepsDue
+        (IsIllLink F.gives F.may_fail H.Way.history H.Way.count H.Way.idle_count H.Way.is_closed limit)
+        H.Way.history desk.old.moves desk.new.moves held.old.halt held.new.halt company.old
+        company.new (H.got hall.old) (H.got hall.new) }
     ensures met { Meets (H.count hall.old) (H.count hall.new) (H.got hall.old)
         (H.got hall.new) (H.given hall.old) (H.given hall.new) (H.idle_count hall.old)
         (H.idle_count hall.new) (inside_of company.old) (inside_of company.new)
@@ -112,6 +118,10 @@ fn turn<B: PoolTerms, W: Wait, F: Commands, S: Site, H: Hall<F>, T: Terms + Trus
         company.old.seats company.new.seats }
     ensures line { pool.new.line ≡ pool.old.line }
     ensures listens { IsOpen T.holds (H.listens hall.new) (H.honest hall.new) }
+    ensures due { H.Way.tells → KeepsDue
+        (IsIllLink F.gives F.may_fail H.Way.history H.Way.count H.Way.idle_count H.Way.is_closed limit)
+        H.Way.history desk.old.moves desk.new.moves held.old.halt held.new.halt company.old
+        company.new (H.got hall.old) (H.got hall.new) }
     ensures met { Meets (H.count hall.old) (H.count hall.new) (H.got hall.old)
         (H.got hall.new) (H.given hall.old) (H.given hall.new) (H.idle_count hall.old)
         (H.idle_count hall.new) (inside_of company.old) (inside_of company.new)
@@ -157,6 +167,12 @@ fn wind_down<B: PoolTerms, W: Wait, F: Commands, S: Site, H: Hall<F>, T: Terms +
         company.old.seats company.new.seats }
     ensures line { pool.new.line ≡ pool.old.line }
     ensures listens { IsOpen T.holds (H.listens hall.new) (H.honest hall.new) }
+    ensures due { (limit : ℕ) → H.Way.tells
+        → (held.old.halt ≡ None → company.old.failed ≡ false → company.old.lost ≡ false → ⊥)
+        → KeepsDue
+        (IsIllLink F.gives F.may_fail H.Way.history H.Way.count H.Way.idle_count H.Way.is_closed limit)
+        H.Way.history desk.old.moves desk.new.moves held.old.halt held.new.halt company.old
+        company.new (H.got hall.old) (H.got hall.new) }
     ensures met { Meets (H.count hall.old) (H.count hall.new) (H.got hall.old)
         (H.got hall.new) (H.given hall.old) (H.given hall.new) (H.idle_count hall.old)
         (H.idle_count hall.new) (inside_of company.old) (inside_of company.new)
@@ -205,6 +221,10 @@ fn serve<B: PoolTerms, W: Wait, F: Commands, S: Site, H: Hall<F>, T: Terms + Tru
         company.old.seats company.new.seats }
     ensures line { pool.new.line ≡ pool.old.line }
     ensures listens { IsOpen T.holds (H.listens hall.new) (H.honest hall.new) }
+    ensures due { H.Way.tells → KeepsDue
+        (IsIllLink F.gives F.may_fail H.Way.history H.Way.count H.Way.idle_count H.Way.is_closed limit)
+        H.Way.history desk.old.moves desk.new.moves held.old.halt held.new.halt company.old
+        company.new (H.got hall.old) (H.got hall.new) }
     ensures met { Meets (H.count hall.old) (H.count hall.new) (H.got hall.old)
         (H.got hall.new) (H.given hall.old) (H.given hall.new) (H.idle_count hall.old)
         (H.idle_count hall.new) (inside_of company.old) (inside_of company.new)
@@ -261,7 +281,9 @@ fn serve_and_close<
         S.moment S.images_since B.fits T.keen T.holds T.plan T.run T.due (H.listens hall.old)
         (H.honest hall.old) most desk.old held.old pool.old company.seats }
     ensures served { ServedOn T.trust F.gives F.may_fail T.sources S.tells T.kept S.files S.may_leave
-        S.moment S.images_since B.fits T.holds (H.listens hall.new) (H.honest hall.new)
+        S.moment S.images_since B.fits
+        (IsIllLink F.gives F.may_fail H.Way.history H.Way.count H.Way.idle_count H.Way.is_closed limit)
+        H.Way.tells H.Way.history T.holds (H.listens hall.new) (H.honest hall.new)
         (H.count hall.old) (H.count hall.new) (H.got hall.old) (H.got hall.new)
         (H.given hall.old) (H.given hall.new) (H.idle_count hall.old) (H.idle_count hall.new)
         desk.old desk.new held.old held.new pool.old pool.new company result }
@@ -340,6 +362,10 @@ fn serve_beside<
         company.old.seats company.new.seats }
     ensures line { pool.new.line ≡ pool.old.line }
     ensures listens { IsOpen T.holds (H.listens hall.new) (H.honest hall.new) }
+    ensures due { H.Way.tells → KeepsDue
+        (IsIllLink F.gives F.may_fail H.Way.history H.Way.count H.Way.idle_count H.Way.is_closed limit)
+        H.Way.history desk.old.moves desk.new.moves held.old.halt held.new.halt company.old
+        company.new (H.got hall.old) (H.got hall.new) }
     ensures met { Meets (H.count hall.old) (H.count hall.new) (H.got hall.old)
         (H.got hall.new) (H.given hall.old) (H.given hall.new) (H.idle_count hall.old)
         (H.idle_count hall.new) (inside_of company.old) (inside_of company.new)
@@ -362,7 +388,9 @@ fn serve_beside<
                 (H.listens hall.now) (H.honest hall.now) most desk.old held.now pool.now
                 company.seats }
             ensures served { ServedOn T.trust F.gives F.may_fail T.sources S.tells T.kept S.files
-                S.may_leave S.moment S.images_since B.fits T.holds (H.listens hall.exit.now)
+                S.may_leave S.moment S.images_since B.fits
+                (IsIllLink F.gives F.may_fail H.Way.history H.Way.count H.Way.idle_count
+                H.Way.is_closed limit) H.Way.tells H.Way.history T.holds (H.listens hall.exit.now)
                 (H.honest hall.exit.now) (H.count hall.entry.now) (H.count hall.exit.now)
                 (H.got hall.entry.now) (H.got hall.exit.now) (H.given hall.entry.now)
                 (H.given hall.exit.now) (H.idle_count hall.entry.now)
@@ -424,6 +452,10 @@ fn serve_in<
     ensures seats { AreSeats desk.new.plan desk.new.options desk.new.moves company.new.seats }
     ensures none { gathered company.new.seats ≡ [] }
     ensures listens { IsOpen T.holds (H.listens hall.new) (H.honest hall.new) }
+    ensures due { H.Way.tells → KeepsDue
+        (IsIllLink F.gives F.may_fail H.Way.history H.Way.count H.Way.idle_count H.Way.is_closed limit)
+        H.Way.history desk.old.moves desk.new.moves None (halt_after result None) company.old
+        company.new (H.got hall.old) (H.got hall.new) }
     ensures met { Meets (H.count hall.old) (H.count hall.new) (H.got hall.old)
         (H.got hall.new) (H.given hall.old) (H.given hall.new) (H.idle_count hall.old)
         (H.idle_count hall.new) (inside_of company.old) (inside_of company.new)
@@ -484,6 +516,10 @@ pub(crate) fn serve_all<
     ensures seats { AreSeats desk.new.plan desk.new.options desk.new.moves company.new.seats }
     ensures none { gathered company.new.seats ≡ [] }
     ensures listens { IsOpen T.holds (H.listens hall.new) (H.honest hall.new) }
+    ensures due { H.Way.tells → KeepsDue
+        (IsIllLink F.gives F.may_fail H.Way.history H.Way.count H.Way.idle_count H.Way.is_closed limit)
+        H.Way.history desk.old.moves desk.new.moves None (halt_after result None) company.old
+        company.new (H.got hall.old) (H.got hall.new) }
     ensures met { Meets (H.count hall.old) (H.count hall.new) (H.got hall.old)
         (H.got hall.new) (H.given hall.old) (H.given hall.new) (H.idle_count hall.old)
         (H.idle_count hall.new) (inside_of company.old) (inside_of company.new)

@@ -1,11 +1,12 @@
 //! Waiting for workers, while nothing runs.
-ghost use Rattle.std.specs.Prelude.{◌≡◌, ◌≤◌, ◌<◌, [], ℕ, length};
+ghost use Rattle.std.specs.Prelude.{◌≡◌, ◌≤◌, ◌<◌, [], ℕ, None, length};
 ghost use Rattle.flow_types.specs.Plans.{IsValid};
 ghost use Rattle.run_history.specs.Links.{records_of};
 ghost use Rattle.run_history.specs.Storage.{running_rules};
 ghost use Rattle.desk.specs.State.{IsFine};
-ghost use Rattle.local_run.specs.Underway.{IsSurePool};
+ghost use Rattle.local_run.specs.Underway.{IsSurePool, halt_after};
 ghost use Rattle.wq_run.specs.Comes.{ComesOn};
+ghost use Rattle.wq_run.specs.Dues.{IsIllLink, KeepsDue};
 ghost use Rattle.wq_run.specs.Seats.{AreSeats, IsManned, KeepsManned, Meets, gathered, inside_of};
 ghost use Rattle.wq_run.specs.Trusted.{IsOf, IsOpen};
 
@@ -42,6 +43,10 @@ fn look<B: PoolTerms, W: Wait, F: Commands, S: Site, H: Hall<F>, T: Terms + Trus
         S.files S.may_leave S.moment S.images_since desk.old desk.new
         held.old held.new company.old.seats company.new.seats }
     ensures listens { IsOpen T.holds (H.listens hall.new) (H.honest hall.new) }
+    ensures due { H.Way.tells → KeepsDue
+        (IsIllLink F.gives F.may_fail H.Way.history H.Way.count H.Way.idle_count H.Way.is_closed limit)
+        H.Way.history desk.old.moves desk.new.moves held.old.halt held.new.halt company.old
+        company.new (H.got hall.old) (H.got hall.new) }
     ensures met { Meets (H.count hall.old) (H.count hall.new) (H.got hall.old)
         (H.got hall.new) (H.given hall.old) (H.given hall.new) (H.idle_count hall.old)
         (H.idle_count hall.new) (inside_of company.old) (inside_of company.new)
@@ -93,6 +98,10 @@ pub(crate) fn wait<
     ensures seats { AreSeats desk.new.plan desk.new.options desk.new.moves company.new.seats }
     ensures none { gathered company.new.seats ≡ [] }
     ensures listens { IsOpen T.holds (H.listens hall.new) (H.honest hall.new) }
+    ensures due { H.Way.tells → KeepsDue
+        (IsIllLink F.gives F.may_fail H.Way.history H.Way.count H.Way.idle_count H.Way.is_closed limit)
+        H.Way.history desk.old.moves desk.new.moves None (halt_after result None) company.old
+        company.new (H.got hall.old) (H.got hall.new) }
     ensures met { Meets (H.count hall.old) (H.count hall.new) (H.got hall.old)
         (H.got hall.new) (H.given hall.old) (H.given hall.new) (H.idle_count hall.old)
         (H.idle_count hall.new) (inside_of company.old) (inside_of company.new)

@@ -1,8 +1,11 @@
 //! Peers that came and haven't joined yet.
-ghost use Rattle.std.specs.Prelude.{◌≡◌, ◌⊎◌, ◌++◌, ◌∷◌, [], None, OnOk};
+ghost use Rattle.std.specs.Prelude.{◌≡◌, ◌⊎◌, ◌++◌, ◌∷◌, [], ℕ, IfOk, IfSome, None, OnOk, Option};
+ghost use Rattle.std.specs.Prelude.{false};
+ghost use Rattle.local_run.specs.declared.halt.Halt.{Halt as HaltValue};
 ghost use Rattle.local_run.specs.Underway.{HeldState, IsSurePool};
+ghost use Rattle.wq_run.specs.Dues.{HasHeard, IsIllLink, KeepsDue};
 ghost use Rattle.wq_run.specs.Seats.{IsGuest, IsUnseated, KeepsManned, Meets, inside_of, with_hand};
-ghost use Rattle.wq_run.specs.Trusted.{IsHonestGuest, IsMeant, StaysOpen};
+ghost use Rattle.wq_run.specs.Trusted.{IsFair, IsHeard, IsHonestGuest, IsMeant, StaysOpen};
 
 use super::Company;
 use super::hall::hand_back;
@@ -13,7 +16,7 @@ use flow_types::Amounts;
 use links::{Hall, Link};
 use local_run::join;
 use outside::{Commands, Site};
-use peers::{Leave, Listened, Peer, Told, honest_links_were_honest};
+use peers::{Leave, Listened, Peer, Told};
 use std::alloc::Global;
 use worker_pool::Terms as PoolTerms;
 
@@ -29,17 +32,18 @@ struct Offer {
 }
 
 // Takes the bytes that a guest has sent, if there are some or it has its turn to be idle.
-fn listen<F: Commands, L: Link<F>>(
+fn listen<F: Commands, L: Link<F>, T: Trust>(
     peer: &mut Peer<F, L>,
     alloc: Global,
     is_turn: bool,
 ) -> Result<(), Leave>
     ensures session { peer.new.session ≡ peer.old.session }
     ensures going { peer.old.feed.stop ≡ None → peer.new.feed.stop ≡ None }
-    ensures honest { IsHonestGuest F.gives F.may_fail L.history L.honest peer.old
-        → OnOk result (IsHonestGuest F.gives F.may_fail L.history L.honest peer.new) }
+    ensures honest { IsHonestGuest F.gives F.may_fail L.history
+        (IsFair T.holds L.tells L.honest) peer.old
+        → OnOk result (IsHonestGuest F.gives F.may_fail L.history
+        (IsFair T.holds L.tells L.honest) peer.new) }
 {
-    honest_links_were_honest::<F, L>();
     if !peer.ready() && !is_turn {
         return Ok(());
     }
@@ -61,11 +65,12 @@ fn greet<F: Commands, L: Link<F>, T: Trust>(
     alloc: Global,
     is_turn: bool,
 ) -> Result<Option<Offer>, Leave>
-    requires guest { IsGuest (IsMeant T.holds F.gives F.may_fail L.history L.honest) peer.old }
-    ensures guest { OnOk result (IsGuest (IsMeant T.holds F.gives F.may_fail L.history L.honest) peer.new) }
+    requires guest { IsGuest (IsMeant (IsHeard T.holds L.tells) F.gives F.may_fail L.history (IsFair T.holds L.tells L.honest)) peer.old }
+    ensures guest { OnOk result (IsGuest (IsMeant (IsHeard T.holds L.tells) F.gives F.may_fail L.history (IsFair T.holds L.tells L.honest)) peer.new) }
+    ensures offered { IfOk result (λ offer. IfSome offer
+        (λ _. L.tells → HasHeard L.history peer.new 1)) }
 {
-    honest_links_were_honest::<F, L>();
-    match listen(peer, alloc, is_turn) {
+    match listen::<F, L, T>(peer, alloc, is_turn) {
         Ok(()) => {}
         Err(leave) => return Err(leave),
     }
@@ -94,7 +99,7 @@ fn stay<F: Commands, H: Hall<F>, T: Trust>(
     hall: &mut H,
     peer: Peer<F, H::Way>,
 )
-    requires guest { IsGuest (IsMeant T.holds F.gives F.may_fail H.Way.history H.Way.honest) peer }
+    requires guest { IsGuest (IsMeant (IsHeard T.holds H.Way.tells) F.gives F.may_fail H.Way.history (IsFair T.holds H.Way.tells H.Way.honest)) peer }
     ensures seats { company.new.seats ≡ company.old.seats }
     ensures listens { StaysOpen T.holds (H.listens hall.old) (H.honest hall.old)
         (H.listens hall.new) (H.honest hall.new) }
@@ -121,6 +126,8 @@ fn take_seat<F: Commands, H: Hall<F>, T: Trust>(
     ensures seats { (company.new.seats ≡ company.old.seats)
         ⊎ (IsUnseated seat.link.0 company.old.seats
         × (company.new.seats ≡ company.old.seats ++ seat ∷ [])) }
+    ensures seated { company.new.lost ≡ false
+        → company.new.seats ≡ company.old.seats ++ seat ∷ [] }
     ensures listens { StaysOpen T.holds (H.listens hall.old) (H.honest hall.old)
         (H.listens hall.new) (H.honest hall.new) }
     ensures met { Meets (H.count hall.old) (H.count hall.new) (H.got hall.old)
@@ -152,12 +159,17 @@ fn seat_guest<B: PoolTerms, F: Commands, S: Site, H: Hall<F>, T: Terms + Trust>(
     peer: Peer<F, H::Way>,
     offer: Offer,
 )
-    requires guest { IsGuest (IsMeant T.holds F.gives F.may_fail H.Way.history H.Way.honest) peer }
+    requires guest { IsGuest (IsMeant (IsHeard T.holds H.Way.tells) F.gives F.may_fail H.Way.history (IsFair T.holds H.Way.tells H.Way.honest)) peer }
+    requires offered { H.Way.tells → HasHeard H.Way.history peer 1 }
     ensures manned { (held : HeldState) → KeepsManned T.trust F.gives F.may_fail T.sources S.tells T.kept (IsSurePool B.fits)
         S.files S.may_leave S.moment S.images_since desk.old desk.new
         held held company.old.seats company.new.seats }
     ensures listens { StaysOpen T.holds (H.listens hall.old) (H.honest hall.old)
         (H.listens hall.new) (H.honest hall.new) }
+    ensures due { (limit : ℕ) (halt : Option HaltValue) → H.Way.tells → KeepsDue
+        (IsIllLink F.gives F.may_fail H.Way.history H.Way.count H.Way.idle_count H.Way.is_closed limit)
+        H.Way.history desk.old.moves desk.new.moves halt halt company.old
+        company.new (H.got hall.old) (H.got hall.new) }
     ensures met { Meets (H.count hall.old) (H.count hall.new) (H.got hall.old)
         (H.got hall.new) (H.given hall.old) (H.given hall.new) (H.idle_count hall.old)
         (H.idle_count hall.new) (with_hand None (inside_of company.old))
@@ -184,6 +196,10 @@ fn greet_next<B: PoolTerms, F: Commands, S: Site, H: Hall<F>, T: Terms + Trust>(
         held held company.old.seats company.new.seats }
     ensures listens { StaysOpen T.holds (H.listens hall.old) (H.honest hall.old)
         (H.listens hall.new) (H.honest hall.new) }
+    ensures due { (limit : ℕ) (halt : Option HaltValue) → H.Way.tells → KeepsDue
+        (IsIllLink F.gives F.may_fail H.Way.history H.Way.count H.Way.idle_count H.Way.is_closed limit)
+        H.Way.history desk.old.moves desk.new.moves halt halt company.old
+        company.new (H.got hall.old) (H.got hall.new) }
     ensures met { Meets (H.count hall.old) (H.count hall.new) (H.got hall.old)
         (H.got hall.new) (H.given hall.old) (H.given hall.new) (H.idle_count hall.old)
         (H.idle_count hall.new) (inside_of company.old) (inside_of company.new)
@@ -222,6 +238,10 @@ pub(super) fn greet_all<B: PoolTerms, F: Commands, S: Site, H: Hall<F>, T: Terms
         held held company.old.seats company.new.seats }
     ensures listens { StaysOpen T.holds (H.listens hall.old) (H.honest hall.old)
         (H.listens hall.new) (H.honest hall.new) }
+    ensures due { (limit : ℕ) (halt : Option HaltValue) → H.Way.tells → KeepsDue
+        (IsIllLink F.gives F.may_fail H.Way.history H.Way.count H.Way.idle_count H.Way.is_closed limit)
+        H.Way.history desk.old.moves desk.new.moves halt halt company.old
+        company.new (H.got hall.old) (H.got hall.new) }
     ensures met { Meets (H.count hall.old) (H.count hall.new) (H.got hall.old)
         (H.got hall.new) (H.given hall.old) (H.given hall.new) (H.idle_count hall.old)
         (H.idle_count hall.new) (inside_of company.old) (inside_of company.new)

@@ -1,14 +1,14 @@
 //! Where peers come and go.
-ghost use Rattle.std.specs.Prelude.{◌≡◌, [], IfOk, None};
+ghost use Rattle.std.specs.Prelude.{◌≡◌, ◌∷◌, ◌++◌, [], IfOk, None, false};
 ghost use Rattle.wq_run.specs.Seats.{IsGuest, Meets, inside_of, with_hand};
-ghost use Rattle.wq_run.specs.Trusted.{IsMeant, IsOpen, StaysOpen};
+ghost use Rattle.wq_run.specs.Trusted.{IsFair, IsHeard, IsMeant, IsOpen, StaysOpen};
 
 use super::Company;
 use crate::reliance::Trust;
 use flow_types::LinkNo;
 use links::{Came, Hall, Link};
 use outside::{Clock, Commands, Fault};
-use peers::Peer;
+use peers::{Peer, honest_links_were_honest};
 use std::alloc::Global;
 
 /// The most looks that find nothing before each link, and the place where peers come, has its turn
@@ -31,6 +31,9 @@ pub(super) fn hand_back<F: Commands, H: Hall<F>, T: Trust>(
 )
     ensures seats { company.new.seats ≡ company.old.seats }
     ensures guests { company.new.guests ≡ company.old.guests }
+    ensures failed { company.new.failed ≡ company.old.failed }
+    ensures back { company.new.lost ≡ false
+        → H.got hall.new ≡ H.got hall.old ++ (link, way) ∷ [] }
     ensures listens { StaysOpen T.holds (H.listens hall.old) (H.honest hall.old)
         (H.listens hall.new) (H.honest hall.new) }
     ensures met { Meets (H.count hall.old) (H.count hall.new) (H.got hall.old)
@@ -50,8 +53,9 @@ fn guest_at<F: Commands, L: Link<F>, T: Trust>(alloc: Global, way: L) -> Result<
     requires fresh { L.history way ≡ [] }
     requires honest { T.holds → L.honest way }
     ensures guest { IfOk result
-        (IsGuest (IsMeant T.holds F.gives F.may_fail L.history L.honest)) }
+        (IsGuest (IsMeant (IsHeard T.holds L.tells) F.gives F.may_fail L.history (IsFair T.holds L.tells L.honest))) }
 {
+    honest_links_were_honest::<F, L>();
     Peer::new(alloc, way, 0)
 }
 

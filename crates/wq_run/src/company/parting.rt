@@ -1,10 +1,11 @@
 //! Workers that are left.
-ghost use Rattle.std.specs.Prelude.{◌≡◌, ◌<◌, ◌++◌, ℕ, List, Some, length};
+ghost use Rattle.std.specs.Prelude.{◌≡◌, ◌<◌, ◌⊎◌, ◌∷◌, ◌++◌, ℕ, List, None, Some, false, length};
 ghost use Rattle.flow_types.specs.declared.job.Start.{Start as StartValue};
 ghost use Rattle.flow_types.specs.Plans.{IsValid};
 ghost use Rattle.worker_pool.specs.declared.hand.Tally.{Tally};
 ghost use Rattle.desk.specs.State.{DeskState};
 ghost use Rattle.local_run.specs.Underway.{IsSurePool};
+ghost use Rattle.wq_run.specs.Dues.{IsFull, IsIllLink, KeepsDueBut, MayLeaveAt};
 ghost use Rattle.wq_run.specs.Seats.{IsParting, IsPartingAt, Manned, Meets, Parts, PartsAt};
 ghost use Rattle.wq_run.specs.Seats.{SeatState, inside_of, with_hand};
 ghost use Rattle.wq_run.specs.Trusted.{StaysOpen};
@@ -47,6 +48,16 @@ pub(super) fn part<B: PoolTerms, F: Commands, S: Site, H: Hall<F>, T: Terms + Tr
     ensures guests { company.new.guests ≡ company.old.guests }
     ensures listens { StaysOpen T.holds (H.listens hall.old) (H.honest hall.old)
         (H.listens hall.new) (H.honest hall.new) }
+    ensures due { (limit : ℕ) → H.Way.tells → (before behind : List (SeatState H.Way))
+        → company.old.seats ≡ before ++ behind
+        → (held.old.halt ≡ None → company.old.failed ≡ false → company.old.lost ≡ false
+        → IsIllLink F.gives F.may_fail H.Way.history H.Way.count H.Way.idle_count H.Way.is_closed
+        limit seat.link seat.peer.way ⊎ IsFull desk.old.moves)
+        → KeepsDueBut
+        (IsIllLink F.gives F.may_fail H.Way.history H.Way.count H.Way.idle_count H.Way.is_closed limit)
+        H.Way.history (length before) desk.old.moves desk.new.moves held.old.halt held.new.halt
+        (record company.old { seats = before ++ seat ∷ behind }) company.new (H.got hall.old)
+        (H.got hall.new) }
     ensures met { Meets (H.count hall.old) (H.count hall.new) (H.got hall.old)
         (H.got hall.new) (H.given hall.old) (H.given hall.new) (H.idle_count hall.old)
         (H.idle_count hall.new) (with_hand (Some seat.link) (inside_of company.old))
@@ -87,6 +98,14 @@ pub(super) fn part_at<B: PoolTerms, F: Commands, S: Site, H: Hall<F>, T: Terms +
         waiting heard company.new.seats }
     ensures listens { StaysOpen T.holds (H.listens hall.old) (H.honest hall.old)
         (H.listens hall.new) (H.honest hall.new) }
+    ensures due { (limit : ℕ) → H.Way.tells
+        → (held.old.halt ≡ None → company.old.failed ≡ false → company.old.lost ≡ false
+        → MayLeaveAt (IsIllLink F.gives F.may_fail H.Way.history H.Way.count H.Way.idle_count
+        H.Way.is_closed limit) desk.old.moves at company.old.seats)
+        → KeepsDueBut
+        (IsIllLink F.gives F.may_fail H.Way.history H.Way.count H.Way.idle_count H.Way.is_closed limit)
+        H.Way.history at desk.old.moves desk.new.moves held.old.halt held.new.halt company.old
+        company.new (H.got hall.old) (H.got hall.new) }
     ensures met { Meets (H.count hall.old) (H.count hall.new) (H.got hall.old)
         (H.got hall.new) (H.given hall.old) (H.given hall.new) (H.idle_count hall.old)
         (H.idle_count hall.new) (inside_of company.old) (inside_of company.new)

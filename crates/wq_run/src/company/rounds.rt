@@ -1,8 +1,10 @@
 //! A look at all that workers tell, and the end of their service.
-ghost use Rattle.std.specs.Prelude.{◌≡◌, ◌<◌, ◌+◌, [], ℕ, false, length, true};
+ghost use Rattle.std.specs.Prelude.{◌≡◌, ◌<◌, ◌+◌, [], ℕ, List, None, false, length, true};
 ghost use Rattle.flow_types.specs.Plans.{IsValid};
+ghost use Rattle.run_history.specs.declared.moves.Move.{Move};
 ghost use Rattle.run_history.specs.Links.{records_of};
 ghost use Rattle.local_run.specs.Underway.{IsSurePool};
+ghost use Rattle.wq_run.specs.Dues.{IsIllLink, KeepsDue};
 ghost use Rattle.wq_run.specs.Seats.{IsManned, KeepsManned, Meets, gathered, inside_of};
 ghost use Rattle.wq_run.specs.Trusted.{IsOf, IsOpen, StaysOpen};
 
@@ -59,6 +61,10 @@ pub(crate) fn round<B: PoolTerms, F: Commands, S: Site, H: Hall<F>, T: Terms + T
         S.files S.may_leave S.moment S.images_since desk.old desk.new
         held.old held.new company.old.seats company.new.seats }
     ensures listens { IsOpen T.holds (H.listens hall.new) (H.honest hall.new) }
+    ensures due { H.Way.tells → KeepsDue
+        (IsIllLink F.gives F.may_fail H.Way.history H.Way.count H.Way.idle_count H.Way.is_closed limit)
+        H.Way.history desk.old.moves desk.new.moves held.old.halt held.new.halt company.old
+        company.new (H.got hall.old) (H.got hall.new) }
     ensures met { Meets (H.count hall.old) (H.count hall.new) (H.got hall.old)
         (H.got hall.new) (H.given hall.old) (H.given hall.new) (H.idle_count hall.old)
         (H.idle_count hall.new) (inside_of company.old) (inside_of company.new)
@@ -95,6 +101,12 @@ fn dismiss_last<B: PoolTerms, F: Commands, S: Site, H: Hall<F>, T: Terms + Trust
         held.old held.new company.old.seats company.new.seats }
     ensures listens { StaysOpen T.holds (H.listens hall.old) (H.honest hall.old)
         (H.listens hall.new) (H.honest hall.new) }
+    ensures due { (limit : ℕ) → H.Way.tells
+        → (held.old.halt ≡ None → company.old.failed ≡ false → company.old.lost ≡ false → ⊥)
+        → KeepsDue
+        (IsIllLink F.gives F.may_fail H.Way.history H.Way.count H.Way.idle_count H.Way.is_closed limit)
+        H.Way.history desk.old.moves desk.new.moves held.old.halt held.new.halt company.old
+        company.new (H.got hall.old) (H.got hall.new) }
     ensures met { Meets (H.count hall.old) (H.count hall.new) (H.got hall.old)
         (H.got hall.new) (H.given hall.old) (H.given hall.new) (H.idle_count hall.old)
         (H.idle_count hall.new) (inside_of company.old) (inside_of company.new)
@@ -133,6 +145,12 @@ pub(crate) fn dismiss<B: PoolTerms, F: Commands, S: Site, H: Hall<F>, T: Terms +
     ensures guests { company.new.guests ≡ [] }
     ensures listens { StaysOpen T.holds (H.listens hall.old) (H.honest hall.old)
         (H.listens hall.new) (H.honest hall.new) }
+    ensures due { (limit : ℕ) → H.Way.tells
+        → (held.old.halt ≡ None → company.old.failed ≡ false → company.old.lost ≡ false → ⊥)
+        → KeepsDue
+        (IsIllLink F.gives F.may_fail H.Way.history H.Way.count H.Way.idle_count H.Way.is_closed limit)
+        H.Way.history desk.old.moves desk.new.moves held.old.halt held.new.halt company.old
+        company.new (H.got hall.old) (H.got hall.new) }
     ensures met { Meets (H.count hall.old) (H.count hall.new) (H.got hall.old)
         (H.got hall.new) (H.given hall.old) (H.given hall.new) (H.idle_count hall.old)
         (H.idle_count hall.new) (inside_of company.old) (inside_of company.new)
@@ -153,6 +171,11 @@ pub(crate) fn disband<F: Commands, H: Hall<F>, T: Terms + Trust>(
     requires none { gathered company.old.seats ≡ [] }
     ensures seats { company.new.seats ≡ [] }
     ensures guests { company.new.guests ≡ [] }
+    ensures failed { company.new.failed ≡ company.old.failed }
+    ensures due { (limit : ℕ) (moves : List Move) → H.Way.tells → KeepsDue
+        (IsIllLink F.gives F.may_fail H.Way.history H.Way.count H.Way.idle_count H.Way.is_closed limit)
+        H.Way.history moves moves None None company.old company.new (H.got hall.old)
+        (H.got hall.new) }
     ensures met { Meets (H.count hall.old) (H.count hall.new) (H.got hall.old)
         (H.got hall.new) (H.given hall.old) (H.given hall.new) (H.idle_count hall.old)
         (H.idle_count hall.new) (inside_of company.old) (inside_of company.new)

@@ -3,6 +3,7 @@ ghost use Rattle.std.specs.Prelude.{◌≡◌, ◌<◌, ℕ, length};
 ghost use Rattle.flow_types.specs.Plans.{IsValid};
 ghost use Rattle.run_history.specs.Links.{records_of};
 ghost use Rattle.local_run.specs.Underway.{IsSurePool};
+ghost use Rattle.wq_run.specs.Dues.{DuesAt, IsIllLink, KeepsDue};
 ghost use Rattle.wq_run.specs.Seats.{IsManned, KeepsManned, Meets, SeatsAfter, inside_of, seats_under};
 ghost use Rattle.wq_run.specs.Trusted.{IsOf, StaysOpen};
 
@@ -37,6 +38,10 @@ fn hear_at<B: PoolTerms, F: Commands, S: Site, H: Hall<F>, T: Terms + Trust, C: 
     ensures manned { SeatsAfter T.trust F.gives F.may_fail T.sources S.tells T.kept (IsSurePool B.fits)
         S.files S.may_leave S.moment S.images_since at desk.old desk.new
         held.old held.new company.old.seats company.new.seats result }
+    ensures due { H.Way.tells → DuesAt
+        (IsIllLink F.gives F.may_fail H.Way.history H.Way.count H.Way.idle_count H.Way.is_closed limit)
+        H.Way.history at desk.old.moves desk.new.moves held.old.halt held.new.halt company.old
+        company.new result }
     ensures many { length company.new.seats ≡ length company.old.seats }
     ensures numbers { (k : ℕ) → seats_under k company.new.seats ≡ seats_under k company.old.seats }
     ensures newest { company.new.newest ≡ company.old.newest }
@@ -69,6 +74,10 @@ fn claim_at<B: PoolTerms, F: Commands, S: Site, H: Hall<F>, T: Terms + Trust, C:
     ensures manned { SeatsAfter T.trust F.gives F.may_fail T.sources S.tells T.kept (IsSurePool B.fits)
         S.files S.may_leave S.moment S.images_since at desk.old desk.new
         held.old held.new company.old.seats company.new.seats result }
+    ensures due { (limit : ℕ) → H.Way.tells → DuesAt
+        (IsIllLink F.gives F.may_fail H.Way.history H.Way.count H.Way.idle_count H.Way.is_closed limit)
+        H.Way.history at desk.old.moves desk.new.moves held.old.halt held.new.halt company.old
+        company.new result }
     ensures many { length company.new.seats ≡ length company.old.seats }
     ensures numbers { (k : ℕ) → seats_under k company.new.seats ≡ seats_under k company.old.seats }
     ensures newest { company.new.newest ≡ company.old.newest }
@@ -108,6 +117,10 @@ fn visit<B: PoolTerms, F: Commands, S: Site, H: Hall<F>, T: Terms + Trust, C: Cl
         held.old held.new company.old.seats company.new.seats }
     ensures listens { StaysOpen T.holds (H.listens hall.old) (H.honest hall.old)
         (H.listens hall.new) (H.honest hall.new) }
+    ensures due { H.Way.tells → KeepsDue
+        (IsIllLink F.gives F.may_fail H.Way.history H.Way.count H.Way.idle_count H.Way.is_closed limit)
+        H.Way.history desk.old.moves desk.new.moves held.old.halt held.new.halt company.old
+        company.new (H.got hall.old) (H.got hall.new) }
     ensures met { Meets (H.count hall.old) (H.count hall.new) (H.got hall.old)
         (H.got hall.new) (H.given hall.old) (H.given hall.new) (H.idle_count hall.old)
         (H.idle_count hall.new) (inside_of company.old) (inside_of company.new)
@@ -115,7 +128,8 @@ fn visit<B: PoolTerms, F: Commands, S: Site, H: Hall<F>, T: Terms + Trust, C: Cl
 {
     match hear_at::<B, F, S, H, T, C>(company, alloc, desk, held, at, is_turn, limit, clock) {
         Ok(did) => did,
-        Err(_) => {
+        Err(leave) => {
+            company.leaves(leave);
             part_at::<B, F, S, H, T, C>(company, alloc, desk, held, hall, at, clock);
             true
         }
@@ -143,6 +157,10 @@ fn ask<B: PoolTerms, F: Commands, S: Site, H: Hall<F>, T: Terms + Trust, C: Cloc
         held.old held.new company.old.seats company.new.seats }
     ensures listens { StaysOpen T.holds (H.listens hall.old) (H.honest hall.old)
         (H.listens hall.new) (H.honest hall.new) }
+    ensures due { (limit : ℕ) → H.Way.tells → KeepsDue
+        (IsIllLink F.gives F.may_fail H.Way.history H.Way.count H.Way.idle_count H.Way.is_closed limit)
+        H.Way.history desk.old.moves desk.new.moves held.old.halt held.new.halt company.old
+        company.new (H.got hall.old) (H.got hall.new) }
     ensures met { Meets (H.count hall.old) (H.count hall.new) (H.got hall.old)
         (H.got hall.new) (H.given hall.old) (H.given hall.new) (H.idle_count hall.old)
         (H.idle_count hall.new) (inside_of company.old) (inside_of company.new)
@@ -150,7 +168,8 @@ fn ask<B: PoolTerms, F: Commands, S: Site, H: Hall<F>, T: Terms + Trust, C: Cloc
 {
     match claim_at::<B, F, S, H, T, C>(company, alloc, desk, held, at, clock) {
         Ok(did) => did,
-        Err(_) => {
+        Err(leave) => {
+            company.leaves(leave);
             part_at::<B, F, S, H, T, C>(company, alloc, desk, held, hall, at, clock);
             true
         }
@@ -179,6 +198,10 @@ pub(super) fn visit_all<B: PoolTerms, F: Commands, S: Site, H: Hall<F>, T: Terms
         held.old held.new company.old.seats company.new.seats }
     ensures listens { StaysOpen T.holds (H.listens hall.old) (H.honest hall.old)
         (H.listens hall.new) (H.honest hall.new) }
+    ensures due { H.Way.tells → KeepsDue
+        (IsIllLink F.gives F.may_fail H.Way.history H.Way.count H.Way.idle_count H.Way.is_closed limit)
+        H.Way.history desk.old.moves desk.new.moves held.old.halt held.new.halt company.old
+        company.new (H.got hall.old) (H.got hall.new) }
     ensures met { Meets (H.count hall.old) (H.count hall.new) (H.got hall.old)
         (H.got hall.new) (H.given hall.old) (H.given hall.new) (H.idle_count hall.old)
         (H.idle_count hall.new) (inside_of company.old) (inside_of company.new)
@@ -213,6 +236,10 @@ pub(crate) fn ask_all<B: PoolTerms, F: Commands, S: Site, H: Hall<F>, T: Terms +
         held.old held.new company.old.seats company.new.seats }
     ensures listens { StaysOpen T.holds (H.listens hall.old) (H.honest hall.old)
         (H.listens hall.new) (H.honest hall.new) }
+    ensures due { (limit : ℕ) → H.Way.tells → KeepsDue
+        (IsIllLink F.gives F.may_fail H.Way.history H.Way.count H.Way.idle_count H.Way.is_closed limit)
+        H.Way.history desk.old.moves desk.new.moves held.old.halt held.new.halt company.old
+        company.new (H.got hall.old) (H.got hall.new) }
     ensures met { Meets (H.count hall.old) (H.count hall.new) (H.got hall.old)
         (H.got hall.new) (H.given hall.old) (H.given hall.new) (H.idle_count hall.old)
         (H.idle_count hall.new) (inside_of company.old) (inside_of company.new)

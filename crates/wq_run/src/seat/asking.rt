@@ -4,15 +4,17 @@ ghost use Rattle.std.specs.Prelude.{IfSome, OnErr, OnOk, false};
 ghost use Rattle.std.specs.List.{AllByRecursion};
 ghost use Rattle.flow_types.specs.declared.job.Task.{Task as TaskValue};
 ghost use Rattle.flow_types.specs.declared.messages.Message.TheVariants as messages;
-ghost use Rattle.flow_types.specs.Plans.{IsValid};
+ghost use Rattle.flow_types.specs.Plans.{IsValid, most_bytes};
 ghost use Rattle.run_history.specs.Links.{records_of};
 ghost use Rattle.wq_messages.specs.Spelling.{HasCounts, most_body, spelling};
 ghost use Rattle.desk.specs.declared.attempt.Attempt.{Attempt as AttemptValue};
 ghost use Rattle.desk.specs.Tasks.{task_of};
 ghost use Rattle.link_session.specs.Sessions.{is_open, started};
 ghost use Rattle.local_run.specs.Underway.{IsHeld, IsSurePool};
+ghost use Rattle.peers.specs.States.{MaySend, ReceivesOn};
+ghost use Rattle.wq_run.specs.Dues.{FaresSeat, IsIllLink};
 ghost use Rattle.wq_run.specs.Seats.{IsAtSeat, IsInside, SeatAfter, seat_with};
-ghost use Rattle.wq_run.specs.Trusted.{IsOf, IsOwn, MayAsk, MayOpen, WasAsked};
+ghost use Rattle.wq_run.specs.Trusted.{IsFair, IsHeard, IsOf, IsOwn, MayAsk, MayOpen, WasAsked};
 
 use super::Seat;
 use crate::reliance::Trust;
@@ -21,7 +23,7 @@ use flow_types::{AttemptNo, FileNo, Key, Memory, Rows, Task};
 use links::Link;
 use local_run::{Halt, Held, claim_away, lose_away, read_away};
 use outside::{Clock, Commands, Site};
-use peers::{Leave, honest_links_were_honest, what_is_due_stays_due};
+use peers::{Leave, what_is_due_stays_due};
 use std::alloc::Global;
 use worker_pool::Terms as PoolTerms;
 
@@ -69,20 +71,20 @@ impl<F: Commands, L: Link<F>, T: Terms + Trust> Seat<F, L, T> {
     // Sends a content, which is no larger than a file may be.
     fn send(&mut self, alloc: Global, key: Key, content: &[u8]) -> Result<(), Leave>
         requires due { T.holds → T.due key.file.0 ≡ Some content.now }
+        requires short { length content.now ≤ most_bytes }
         ensures link { self.new.link ≡ self.old.link }
         ensures attempts { self.new.attempts ≡ self.old.attempts }
         ensures session { self.new.peer.session ≡ self.old.peer.session }
         ensures feed { self.new.peer.feed ≡ self.old.peer.feed }
-        ensures asks { (task : TaskValue) → T.holds
-            → MayAsk F.gives F.may_fail L.history L.honest T.plan T.run T.due self.old task
+        ensures asks { (task : TaskValue) → IsHeard T.holds L.tells
+            → MayAsk T.holds F.gives F.may_fail L.history (IsFair T.holds L.tells L.honest) T.plan T.run T.due self.old task
             → OnOk result
-            (MayAsk F.gives F.may_fail L.history L.honest T.plan T.run T.due self.new task) }
+            (MayAsk T.holds F.gives F.may_fail L.history (IsFair T.holds L.tells L.honest) T.plan T.run T.due self.new task) }
+        ensures comes { L.tells
+            → ReceivesOn (L.history self.old.peer.way) (L.history self.new.peer.way) }
+        ensures cause { MaySend (L.count self.old.peer.way) (L.count self.new.peer.way) result }
     {
-        honest_links_were_honest::<F, L>();
         what_is_due_stays_due();
-        if content.len() > MOST_BYTES {
-            return Err(Leave::Unexpected);
-        }
         match self.peer.put(alloc, key, content) {
             Ok(()) => Ok(()),
             Err(leave) => {
@@ -96,14 +98,16 @@ impl<F: Commands, L: Link<F>, T: Terms + Trust> Seat<F, L, T> {
     fn ask(&mut self, alloc: Global, task: Task) -> Result<(), Leave>
         requires counts { HasCounts (messages.Task task) }
         requires short { length (spelling (messages.Task task)) ≤ most_body }
-        requires asks { T.holds
-            → MayAsk F.gives F.may_fail L.history L.honest T.plan T.run T.due self.old task }
+        requires asks { IsHeard T.holds L.tells
+            → MayAsk T.holds F.gives F.may_fail L.history (IsFair T.holds L.tells L.honest) T.plan T.run T.due self.old task }
         ensures link { self.new.link ≡ self.old.link }
         ensures attempts { self.new.attempts ≡ self.old.attempts }
         ensures session { self.new.peer.session ≡ self.old.peer.session }
         ensures feed { self.new.peer.feed ≡ self.old.peer.feed }
+        ensures comes { L.tells
+            → ReceivesOn (L.history self.old.peer.way) (L.history self.new.peer.way) }
+        ensures cause { MaySend (L.count self.old.peer.way) (L.count self.new.peer.way) result }
     {
-        honest_links_were_honest::<F, L>();
         what_is_due_stays_due();
         match self.peer.ask(alloc, task) {
             Ok(()) => {
@@ -122,23 +126,24 @@ impl<F: Commands, L: Link<F>, T: Terms + Trust> Seat<F, L, T> {
         requires fresh { is_open task.now.attempt self.old.peer.session.attempts ≡ false }
         ensures link { self.new.link ≡ self.old.link }
         ensures attempts { self.new.attempts ≡ self.old.attempts }
+        ensures way { self.new.peer.way ≡ self.old.peer.way }
         ensures feed { self.new.peer.feed ≡ self.old.peer.feed }
         ensures ok { OnOk result
             (self.new.peer.session ≡ started self.old.peer.session task.now) }
         ensures err { OnErr result (self.new.peer.session ≡ self.old.peer.session) }
-        ensures asks { T.holds → MayOpen F.gives F.may_fail L.history L.honest T.plan T.run T.due
+        ensures asks { IsHeard T.holds L.tells → MayOpen T.holds F.gives F.may_fail L.history (IsFair T.holds L.tells L.honest) T.plan T.run T.due
             self.old task.now.attempt
             → AllByRecursion (IsOwn T.plan T.run task.now) self.old.attempts
             → OnOk result
-            (MayAsk F.gives F.may_fail L.history L.honest T.plan T.run T.due self.new task.now) }
+            (MayAsk T.holds F.gives F.may_fail L.history (IsFair T.holds L.tells L.honest) T.plan T.run T.due self.new task.now) }
     {
-        honest_links_were_honest::<F, L>();
         self.is_ready = false;
         self.newest = Some(task.attempt);
         self.peer.open(task)
     }
 
-    // Puts a file at the peer, as it was logged. Where it can't be read the run stops.
+    // Puts a file at the peer, as it was logged. Where it can't be read the run stops, and so it does
+    // where it isn't present or is too large, which no input is.
     fn put<B: PoolTerms, S: Site>(
         &mut self,
         alloc: Global,
@@ -156,19 +161,29 @@ impl<F: Commands, L: Link<F>, T: Terms + Trust> Seat<F, L, T> {
             (IsSurePool B.fits) S.files S.may_leave S.moment S.images_since desk.old desk.new
             held.old held.new self.old self.new
             result }
-        ensures asks { (task : TaskValue) → T.holds
-            → MayAsk F.gives F.may_fail L.history L.honest T.plan T.run T.due self.old task
+        ensures asks { (task : TaskValue) → IsHeard T.holds L.tells
+            → MayAsk T.holds F.gives F.may_fail L.history (IsFair T.holds L.tells L.honest) T.plan T.run T.due self.old task
             → OnOk result
-            (MayAsk F.gives F.may_fail L.history L.honest T.plan T.run T.due self.new task) }
+            (MayAsk T.holds F.gives F.may_fail L.history (IsFair T.holds L.tells L.honest) T.plan T.run T.due self.new task) }
+        ensures fares { (limit : ℕ) → L.tells → FaresSeat
+            (IsIllLink F.gives F.may_fail L.history L.count L.idle_count L.is_closed limit)
+            L.history desk.old.moves desk.new.moves held.old.halt held.new.halt self.old self.new result }
     {
         if !held.is_going() {
             return Ok(());
         }
         if !desk.present(file) {
-            return Err(Leave::Unexpected);
+            held.stop(Halt::Memory);
+            return Ok(());
         }
         match read_away::<B, F, S, T>(alloc, desk, file) {
-            Ok(content) => self.send(alloc, Key { run, file }, content.as_slice()),
+            Ok(content) => {
+                if content.as_slice().len() > MOST_BYTES {
+                    held.stop(Halt::Memory);
+                    return Ok(());
+                }
+                self.send(alloc, Key { run, file }, content.as_slice())
+            }
             Err(why) => {
                 held.stop(why);
                 Ok(())
@@ -189,8 +204,8 @@ impl<F: Commands, L: Link<F>, T: Terms + Trust> Seat<F, L, T> {
         requires short { length (spelling (messages.Task task)) ≤ most_body }
         requires of { IsOf T.trust F.gives T.sources S.tells T.kept T.holds T.plan T.run T.due
             desk.old.plan (records_of desk.old.moves) }
-        requires asks { T.holds
-            → MayAsk F.gives F.may_fail L.history L.honest T.plan T.run T.due self.old task }
+        requires asks { IsHeard T.holds L.tells
+            → MayAsk T.holds F.gives F.may_fail L.history (IsFair T.holds L.tells L.honest) T.plan T.run T.due self.old task }
         requires at { IsAtSeat T.trust F.gives F.may_fail T.sources S.tells T.kept
             (IsSurePool B.fits) S.files S.may_leave S.moment S.images_since desk.old held.old
             self.old }
@@ -198,6 +213,9 @@ impl<F: Commands, L: Link<F>, T: Terms + Trust> Seat<F, L, T> {
             (IsSurePool B.fits) S.files S.may_leave S.moment S.images_since desk.old desk.new
             held.old held.new self.old self.new
             result }
+        ensures fares { (limit : ℕ) → L.tells → FaresSeat
+            (IsIllLink F.gives F.may_fail L.history L.count L.idle_count L.is_closed limit)
+            L.history desk.old.moves desk.new.moves held.old.halt held.new.halt self.old self.new result }
     {
         for file in files {
             match self.put::<B, S>(alloc, desk, held, task.run, *file) {
@@ -223,8 +241,8 @@ impl<F: Commands, L: Link<F>, T: Terms + Trust> Seat<F, L, T> {
         requires valid { IsValid desk.old.plan }
         requires of { IsOf T.trust F.gives T.sources S.tells T.kept T.holds T.plan T.run T.due
             desk.old.plan (records_of desk.old.moves) }
-        requires was { T.holds
-            → WasAsked F.gives F.may_fail L.history L.honest T.plan T.run T.due self.old number }
+        requires was { IsHeard T.holds L.tells
+            → WasAsked T.holds F.gives F.may_fail L.history (IsFair T.holds L.tells L.honest) T.plan T.run T.due self.old number }
         requires at { IsAtSeat T.trust F.gives F.may_fail T.sources S.tells T.kept
             (IsSurePool B.fits) S.files S.may_leave S.moment S.images_since desk.old held.old
             self.old }
@@ -232,10 +250,16 @@ impl<F: Commands, L: Link<F>, T: Terms + Trust> Seat<F, L, T> {
             (IsSurePool B.fits) S.files S.may_leave S.moment S.images_since desk.old desk.new
             held.old held.new self.old self.new
             result }
+        ensures fares { (limit : ℕ) → L.tells → FaresSeat
+            (IsIllLink F.gives F.may_fail L.history L.count L.idle_count L.is_closed limit)
+            L.history desk.old.moves desk.new.moves held.old.halt held.new.halt self.old self.new result }
     {
         match self.task(alloc, desk, number) {
             Some(task) => self.provide::<B, S>(alloc, desk, held, task, files),
-            None => Err(Leave::Memory),
+            None => {
+                held.stop(Halt::Memory);
+                Ok(())
+            }
         }
     }
 
@@ -250,8 +274,8 @@ impl<F: Commands, L: Link<F>, T: Terms + Trust> Seat<F, L, T> {
         requires valid { IsValid desk.old.plan }
         requires of { IsOf T.trust F.gives T.sources S.tells T.kept T.holds T.plan T.run T.due
             desk.old.plan (records_of desk.old.moves) }
-        requires opens { T.holds
-            → MayOpen F.gives F.may_fail L.history L.honest T.plan T.run T.due self.old number }
+        requires opens { IsHeard T.holds L.tells
+            → MayOpen T.holds F.gives F.may_fail L.history (IsFair T.holds L.tells L.honest) T.plan T.run T.due self.old number }
         requires fresh { is_open number self.old.peer.session.attempts ≡ false }
         requires at { IsAtSeat T.trust F.gives F.may_fail T.sources S.tells T.kept
             (IsSurePool B.fits) S.files S.may_leave S.moment S.images_since desk.old held.old
@@ -260,6 +284,9 @@ impl<F: Commands, L: Link<F>, T: Terms + Trust> Seat<F, L, T> {
             (IsSurePool B.fits) S.files S.may_leave S.moment S.images_since desk.old desk.new
             held.old held.new self.old self.new
             result }
+        ensures fares { (limit : ℕ) → L.tells → FaresSeat
+            (IsIllLink F.gives F.may_fail L.history L.count L.idle_count L.is_closed limit)
+            L.history desk.old.moves desk.new.moves held.old.halt held.new.halt self.old self.new result }
     {
         let Some(task) = self.task(alloc, desk, number) else {
             held.stop(Halt::Memory);
@@ -275,7 +302,7 @@ impl<F: Commands, L: Link<F>, T: Terms + Trust> Seat<F, L, T> {
     }
 
     // Hands an attempt out that has just begun there. Numbers of attempts only grow: with one that
-    // isn't new nothing is asked, since its task could be taken for another's.
+    // isn't new nothing is asked, since its task could be taken for another's, and the run stops.
     fn hand_out<B: PoolTerms, S: Site, C: Clock>(
         &mut self,
         alloc: Global,
@@ -296,13 +323,17 @@ impl<F: Commands, L: Link<F>, T: Terms + Trust> Seat<F, L, T> {
             (IsSurePool B.fits) S.files S.may_leave S.moment S.images_since desk.old desk.new
             held.old held.new (seat_with self.old (self.old.attempts ++ attempt ∷ [])) self.new
             result }
+        ensures fares { (limit : ℕ) → L.tells → FaresSeat
+            (IsIllLink F.gives F.may_fail L.history L.count L.idle_count L.is_closed limit)
+            L.history desk.old.moves desk.new.moves held.old.halt held.new.halt self.old self.new result }
     {
         let number = attempt.number();
         let is_new = self.is_new(number);
         match self.hold(attempt) {
             Ok(()) => {
                 if !is_new {
-                    return Err(Leave::Unexpected);
+                    held.stop(Halt::Memory);
+                    return Ok(());
                 }
                 self.start::<B, S>(alloc, desk, held, number)
             }
@@ -334,6 +365,9 @@ impl<F: Commands, L: Link<F>, T: Terms + Trust> Seat<F, L, T> {
             (IsSurePool B.fits) S.files S.may_leave S.moment S.images_since desk.old desk.new
             held.old held.new self.old self.new
             result }
+        ensures fares { (limit : ℕ) → L.tells → FaresSeat
+            (IsIllLink F.gives F.may_fail L.history L.count L.idle_count L.is_closed limit)
+            L.history desk.old.moves desk.new.moves held.old.halt held.new.halt self.old self.new result }
     {
         match claim_away::<B, F, S, T>(desk, self.link(), clock.now()) {
             Ok(Claim::Taken(attempt)) => {

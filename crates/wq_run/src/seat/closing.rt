@@ -1,6 +1,6 @@
 //! How attempts at a worker end.
 ghost use Rattle.std.specs.Prelude.{◌≡◌, ◌++◌, ◌∷◌, ◌<◌, ◌+◌, [], ℕ, List, None};
-ghost use Rattle.std.specs.Prelude.{Option, Some, false, length, slice_get};
+ghost use Rattle.std.specs.Prelude.{OnOk, Option, Some, false, length, slice_get};
 ghost use Rattle.std.specs.List.{AllByRecursion};
 ghost use Rattle.flow_types.specs.declared.job.Start.{Start as StartValue};
 ghost use Rattle.flow_types.specs.declared.plan.Rule.{Rule};
@@ -12,9 +12,13 @@ ghost use Rattle.worker_pool.specs.Courses.{EndsAsTold};
 ghost use Rattle.desk.specs.declared.attempt.Attempt.{Attempt as AttemptValue};
 ghost use Rattle.desk.specs.State.{DeskState, IsFine};
 ghost use Rattle.link_session.specs.Sessions.{is_open};
+ghost use Rattle.links.specs.Passings.{received_in};
+ghost use Rattle.peers.specs.declared.leave.Leave.{Leave};
+ghost use Rattle.peers.specs.States.{ReceivesOn};
 ghost use Rattle.local_run.specs.declared.halt.Halt.{Halt as HaltValue};
 ghost use Rattle.local_run.specs.Underway.{AwayState, IsHeld, IsSurePool, RunsAt, Underway};
 ghost use Rattle.local_run.specs.Underway.{halt_after};
+ghost use Rattle.wq_run.specs.Dues.{EndsWith, FaresSeat, GaveBackIf, GivesUp, IsIllLink, ended};
 ghost use Rattle.wq_run.specs.Seats.{AtPlace, IsAtPlace, IsAtSeat, KeepsSeat, MayEnd, MayEndAs};
 ghost use Rattle.wq_run.specs.Seats.{Stays};
 ghost use Rattle.wq_run.specs.Trusted.{EndsDue};
@@ -57,6 +61,7 @@ fn end_away<B: PoolTerms, F: Commands, S: Site, T: Terms>(
         × Underway T.trust F.gives F.may_fail T.sources S.tells T.kept (IsSurePool B.fits)
         S.files S.may_leave S.moment S.images_since next first
         desk.new held waiting None heard (halt_after result halt) }
+    ensures adds { OnOk result (EndsWith desk.old.moves attempt outcome desk.new.moves) }
 {
     match outcome {
         Outcome::Success(outs) => finish_away::<B, F, S, T>(desk, attempt, &outs, moment),
@@ -86,10 +91,16 @@ impl<F: Commands, L: Link<F>, T: Terms + Trust> Seat<F, L, T> {
         requires fits { AllByRecursion (MayEndAs desk.old.plan number outcome)
             self.old.attempts }
         requires gone { is_open number self.old.peer.session.attempts ≡ false }
+        requires back { L.tells
+            → GaveBackIf (received_in (L.history self.old.peer.way)) number outcome }
         ensures keeps { KeepsSeat T.trust F.gives F.may_fail T.sources S.tells T.kept
             (IsSurePool B.fits) S.files S.may_leave S.moment S.images_since desk.old desk.new
             held.old held.new self.old self.new }
         ensures fewer { length self.old.attempts ≡ length self.new.attempts + 1 }
+        ensures peer { self.new.peer ≡ self.old.peer }
+        ensures fares { (limit : ℕ) → L.tells → FaresSeat
+            (IsIllLink F.gives F.may_fail L.history L.count L.idle_count L.is_closed limit)
+            L.history desk.old.moves desk.new.moves held.old.halt held.new.halt self.old self.new (ended Leave) }
     {
         let attempt = self.take(number);
         if let Err(why) = end_away::<B, F, S, T>(desk, attempt, outcome, clock.now()) {
@@ -120,6 +131,8 @@ impl<F: Commands, L: Link<F>, T: Terms + Trust> Seat<F, L, T> {
         ensures stays { Stays desk.old desk.new self.old self.new }
         ensures peer { self.new.peer ≡ self.old.peer }
         ensures none { self.new.attempts ≡ [] }
+        ensures gives_up { GivesUp self.old.link.0 desk.old.moves desk.new.moves held.old.halt
+            held.new.halt }
     {
         while let Some(attempt) = self.pop() {
             if let Err(why) = lose_away::<B, F, S, T>(desk, attempt, clock.now()) {
@@ -132,6 +145,9 @@ impl<F: Commands, L: Link<F>, T: Terms + Trust> Seat<F, L, T> {
     pub fn farewell(&mut self, alloc: Global)
         ensures link { self.new.link ≡ self.old.link }
         ensures attempts { self.new.attempts ≡ self.old.attempts }
+        ensures feed { self.new.peer.feed ≡ self.old.peer.feed }
+        ensures comes { L.tells
+            → ReceivesOn (L.history self.old.peer.way) (L.history self.new.peer.way) }
     {
         self.is_ready = false;
         for attempt in &self.attempts {

@@ -1,20 +1,29 @@
 //! What a worker tells.
-ghost use Rattle.std.specs.Prelude.{◌≡◌, ◌<◌, ℕ, IfOk, None, true};
+ghost use Rattle.std.specs.Prelude.{◌≡◌, ◌<◌, ℕ, IfErr, IfOk, List, None, OnOk, Option, false, true};
+ghost use Rattle.flow_types.specs.declared.messages.Message.{Message};
+ghost use Rattle.flow_types.specs.declared.numbers.AttemptNo.{AttemptNo as AttemptNoValue};
 ghost use Rattle.flow_types.specs.Plans.{IsValid};
 ghost use Rattle.run_history.specs.Links.{is_live, records_of};
+ghost use Rattle.wq_frames.specs.Frames.{front, part};
 ghost use Rattle.peers.specs.Hears.{Hears};
+ghost use Rattle.peers.specs.Serves.{IsStillOwed, Serves};
+ghost use Rattle.peers.specs.States.{LeavesAs, ReceivesOn};
+ghost use Rattle.local_run.specs.declared.halt.Halt.{Halt as HaltValue};
 ghost use Rattle.local_run.specs.Underway.{HeldState, IsSurePool};
-ghost use Rattle.wq_run.specs.Seats.{IsAtSeat, SeatAfter};
-ghost use Rattle.wq_run.specs.Trusted.{IsOf, IsTrusted, TellsDue};
+ghost use Rattle.wq_run.specs.Dues.{FaresSeat, HearsOffer, IsIllLink, OffersMore, Shows};
+ghost use Rattle.wq_run.specs.Dues.{StaysHeard};
+ghost use Rattle.wq_run.specs.Seats.{IsAtSeat, SeatAfter, SeatState};
+ghost use Rattle.wq_run.specs.Trusted.{IsFair, IsHeard, IsOf, IsTrusted, TellsDue};
 
 use super::Seat;
 use crate::reliance::Trust;
 use desk::{Desk, Terms};
 use flow_types::{Amounts, Outcome};
 use links::Link;
-use local_run::{Held, change};
+use local_run::{Halt, Held, change};
 use outside::{Clock, Commands, Site};
 use peers::{Leave, Listened, Told, honest_links_were_honest};
+use run_history::JoinRefused;
 use std::alloc::Global;
 use worker_pool::Terms as PoolTerms;
 
@@ -23,26 +32,26 @@ const MOST_MESSAGES: u32 = 64;
 
 impl<F: Commands, L: Link<F>, T: Terms + Trust> Seat<F, L, T> {
     // Takes the bytes that are there, and answers whether there were some. Where it has its turn to
-    // be idle it is asked all the same. It is to be left where it was idle for too long while
-    // something runs there.
-    fn listen(&mut self, alloc: Global, is_turn: bool, limit: u32) -> Result<bool, Leave>
+    // be idle it is asked all the same.
+    fn listen(&mut self, alloc: Global, is_turn: bool) -> Result<bool, Leave>
         ensures link { self.new.link ≡ self.old.link }
         ensures attempts { self.new.attempts ≡ self.old.attempts }
         ensures session { self.new.peer.session ≡ self.old.peer.session }
         ensures going { self.old.peer.feed.stop ≡ None → self.new.peer.feed.stop ≡ None }
+        ensures comes { L.tells
+            → ReceivesOn (L.history self.old.peer.way) (L.history self.new.peer.way) }
+        ensures heard { L.tells → IsTrusted T.holds F.gives F.may_fail L.history
+            (IsFair T.holds L.tells L.honest) T.plan T.run T.due self.old
+            → OnOk result (StaysHeard L.history self.old.peer self.new.peer) }
+        ensures leaves { IfErr result (LeavesAs (L.is_closed self.new.peer.way)
+            (L.count self.old.peer.way) (L.count self.new.peer.way)) }
     {
         if !self.peer.ready() && !is_turn {
             return Ok(false);
         }
-        honest_links_were_honest::<F, L>();
         match self.peer.listen(alloc) {
             Ok(Listened::Piece) => Ok(true),
-            Ok(Listened::Idle(idles)) => {
-                if idles >= u64::from(limit) && !self.attempts.is_empty() {
-                    return Err(Leave::Closed);
-                }
-                Ok(false)
-            }
+            Ok(Listened::Idle(_)) => Ok(false),
             Err(leave) => {
                 self.is_ready = false;
                 Err(leave)
@@ -50,16 +59,53 @@ impl<F: Commands, L: Link<F>, T: Terms + Trust> Seat<F, L, T> {
         }
     }
 
+    // Whether an attempt that runs there is open at the peer.
+    fn has_open(&self) -> bool
+        ensures owed { (said heard : List Message) → L.tells
+            → Serves F.gives F.may_fail (L.history self.now.peer.way) self.now.peer.feed
+            self.now.peer.session said heard None
+            → front self.now.peer.feed.rest ≡ part → result ≡ true
+            → (number : AttemptNoValue)
+            × IsStillOwed F.gives F.may_fail (L.history self.now.peer.way) number }
+    {
+        for attempt in &self.attempts {
+            if self.peer.has(attempt.number()) {
+                return true;
+            }
+        }
+        false
+    }
+
+    // Whether it was idle for too long while something runs there.
+    fn is_silent(&self, limit: u32) -> bool
+        ensures ill { result ≡ true → L.tells → front self.now.peer.feed.rest ≡ part
+            → IsTrusted T.holds F.gives F.may_fail L.history
+            (IsFair T.holds L.tells L.honest) T.plan T.run T.due self.now
+            → IsIllLink F.gives F.may_fail L.history L.count L.idle_count L.is_closed limit
+            self.now.link self.now.peer.way }
+    {
+        self.peer.idles() >= u64::from(limit) && self.has_open()
+    }
+
     // What the next whole message tells, if one is there.
     fn next(&mut self, alloc: Global) -> Result<Told, Leave>
-        requires trusted { T.holds
-            → IsTrusted F.gives F.may_fail L.history L.honest T.plan T.run T.due self.old }
+        requires trusted { IsHeard T.holds L.tells
+            → IsTrusted T.holds F.gives F.may_fail L.history (IsFair T.holds L.tells L.honest) T.plan T.run T.due self.old }
         ensures link { self.new.link ≡ self.old.link }
         ensures attempts { self.new.attempts ≡ self.old.attempts }
         ensures hears { self.old.peer.feed.stop ≡ None → Hears self.old.peer.feed
             self.old.peer.session result self.new.peer.feed self.new.peer.session }
-        ensures due { IfOk result (λ told. T.holds
-            → TellsDue F.gives F.may_fail L.history L.honest T.plan T.run T.due self.new told) }
+        ensures due { IfOk result (λ told. IsHeard T.holds L.tells
+            → TellsDue T.holds F.gives F.may_fail L.history (IsFair T.holds L.tells L.honest) T.plan T.run T.due self.new told) }
+        ensures spoken { IfOk result (λ told. IsHeard T.holds L.tells
+            → IsTrusted T.holds F.gives F.may_fail L.history
+            (IsFair T.holds L.tells L.honest) T.plan T.run T.due self.new) }
+        ensures way { self.new.peer.way ≡ self.old.peer.way }
+        ensures shows { L.tells → Shows (L.history self.new.peer.way) result }
+        ensures heard { L.tells
+            → OnOk result (StaysHeard L.history self.old.peer self.new.peer) }
+        ensures offers { L.tells
+            → IfOk result (λ told. HearsOffer L.history self.old.peer self.new.peer told) }
     {
         honest_links_were_honest::<F, L>();
         match self.peer.hear(alloc) {
@@ -71,7 +117,7 @@ impl<F: Commands, L: Link<F>, T: Terms + Trust> Seat<F, L, T> {
         }
     }
 
-    // It offers something else from now on.
+    // It offers something else from now on. It is to be left where the desk takes no more changes.
     fn change<B: PoolTerms, S: Site>(
         &mut self,
         desk: &mut Desk<F, S, T>,
@@ -83,15 +129,22 @@ impl<F: Commands, L: Link<F>, T: Terms + Trust> Seat<F, L, T> {
         ensures keeps { (held : HeldState) → SeatAfter T.trust F.gives F.may_fail T.sources
             S.tells T.kept (IsSurePool B.fits) S.files S.may_leave S.moment S.images_since
             desk.old desk.new held held self.old self.new result }
+        ensures did { IfOk result (λ did. did ≡ true) }
+        ensures fares { (limit : ℕ) → (halt : Option HaltValue) → (before : SeatState L)
+            → L.tells → OffersMore L.history before self.old → FaresSeat
+            (IsIllLink F.gives F.may_fail L.history L.count L.idle_count L.is_closed limit)
+            L.history desk.old.moves desk.new.moves halt halt before self.new result }
     {
         match change::<B, F, S, T>(desk, self.link(), total, largest, cache) {
             Ok(()) => Ok(true),
+            Err(JoinRefused::Memory) => Err(Leave::Memory),
             Err(_) => Err(Leave::Unexpected),
         }
     }
 
-    // Does what the next whole message tells, and answers whether one was there. Nothing is heard
-    // where an attempt still waits to be asked for.
+    // Does what the next whole message tells, and answers whether one was there. Where an
+    // attempt still waits to be asked for nothing is heard and the run stops, and so it does where
+    // the peer joins again.
     fn hear<B: PoolTerms, S: Site, C: Clock>(
         &mut self,
         alloc: Global,
@@ -110,13 +163,24 @@ impl<F: Commands, L: Link<F>, T: Terms + Trust> Seat<F, L, T> {
             (IsSurePool B.fits) S.files S.may_leave S.moment S.images_since desk.old desk.new
             held.old held.new self.old self.new
             result }
+        ensures fares { (limit : ℕ) → L.tells → FaresSeat
+            (IsIllLink F.gives F.may_fail L.history L.count L.idle_count L.is_closed limit)
+            L.history desk.old.moves desk.new.moves held.old.halt held.new.halt self.old self.new result }
+        ensures rests { IfOk result (λ did. did ≡ false → held.new.halt ≡ None
+            → (front self.new.peer.feed.rest ≡ part) × (IsHeard T.holds L.tells
+            → IsTrusted T.holds F.gives F.may_fail L.history
+            (IsFair T.holds L.tells L.honest) T.plan T.run T.due self.new)) }
     {
         if !self.is_ready() {
-            return Err(Leave::Closed);
+            held.stop(Halt::Memory);
+            return Ok(false);
         }
         match self.next(alloc) {
             Ok(Told::Nothing) => Ok(false),
-            Ok(Told::Joined { .. }) => Err(Leave::Unexpected),
+            Ok(Told::Joined { .. }) => {
+                held.stop(Halt::Memory);
+                Ok(true)
+            }
             Ok(
                 Told::Changed {
                     total,
@@ -148,7 +212,9 @@ impl<F: Commands, L: Link<F>, T: Terms + Trust> Seat<F, L, T> {
         }
     }
 
-    /// Hears what is there, and answers whether anything was. After an error the link is to be left.
+    /// Hears what is there, and answers whether anything was. After an error the link is to be left,
+    /// as where it was idle for too long while something runs there. Where an attempt still waits to
+    /// be asked for the run stops.
     pub fn serve<B: PoolTerms, S: Site, C: Clock>(
         &mut self,
         alloc: Global,
@@ -169,8 +235,15 @@ impl<F: Commands, L: Link<F>, T: Terms + Trust> Seat<F, L, T> {
             (IsSurePool B.fits) S.files S.may_leave S.moment S.images_since desk.old desk.new
             held.old held.new self.old self.new
             result }
+        ensures fares { L.tells → FaresSeat
+            (IsIllLink F.gives F.may_fail L.history L.count L.idle_count L.is_closed limit)
+            L.history desk.old.moves desk.new.moves held.old.halt held.new.halt self.old self.new result }
     {
-        let came = match self.listen(alloc, is_turn, limit) {
+        if !self.is_ready() {
+            held.stop(Halt::Memory);
+            return Ok(false);
+        }
+        let came = match self.listen(alloc, is_turn) {
             Ok(came) => came,
             Err(leave) => return Err(leave),
         };
@@ -178,7 +251,12 @@ impl<F: Commands, L: Link<F>, T: Terms + Trust> Seat<F, L, T> {
         for _ in 0..MOST_MESSAGES {
             match self.hear::<B, S, C>(alloc, desk, held, clock) {
                 Ok(true) => did = true,
-                Ok(false) => break,
+                Ok(false) => {
+                    if self.is_silent(limit) {
+                        return Err(Leave::Closed);
+                    }
+                    return Ok(did);
+                }
                 Err(leave) => return Err(leave),
             }
         }

@@ -6,6 +6,7 @@ use Rattle.local_run.specs.Underway.{IsSurePool}
 use Rattle.local_run.proofs.Alone.{log_alone}
 use Rattle.local_run.proofs.AwayBegun.{claim_told, claims_away}
 use Rattle.local_run.proofs.GivenBegun.{broken_on, wanting_on}
+use Rattle.local_run.proofs.Sparing.{claims_spares}
 use Rattle.local_run.proofs.away.claim_away.Goals as goal
 
 pub returns-in-Ok-clause-underway : goal.returns-in-Ok-clause-underway
@@ -32,3 +33,6 @@ returns-in-Err-Memory-clause-underway g c away front back first held waiting hea
 pub returns-in-Ok-clause-told : goal.returns-in-Ok-clause-told
 returns-in-Ok-clause-told g c =
     claim_told g.S.Site.count c.args.desk.now c.claim.new.self c.in-Ok.claim c.args.link c.args.moment c.works-works.ensures.opened c.works-works.ensures.legal c.requires.lives c.in-Ok.ensures.reply
+
+pub returns-in-Ok-clause-spares : goal.returns-in-Ok-clause-spares
+returns-in-Ok-clause-spares g c = claims_spares g.S.Site.count c.args.desk.now c.claim.new.self c.args.link c.args.moment c.in-Ok.claim c.in-Ok.ensures.reply

@@ -1,7 +1,6 @@
 use Rattle.std.proofs.Common.{ℕ, List, Err, Ok, Some, subst, sym}
 use Rattle.run_history.specs.Links.{records_of}
 use Rattle.local_run.specs.declared.halt.Halt.{Halt}
-use Rattle.local_run.specs.Jobs.{halt_by}
 use Rattle.local_run.specs.Underway.{IsSurePool}
 use Rattle.local_run.proofs.GivenBegun.{reads_on, refused_on, refused_stops}
 use Rattle.local_run.proofs.Logging.{look_damage, refused_whole}

@@ -29,6 +29,7 @@ returns-in-Success g c = record {
       let none : (tally_of c.args.outcome).failed ≡ 0 = ap (λ (o : Outcome). (tally_of o).failed) c.in-Success.is in
       c.finish.ensures.underway away first held waiting later halt
       (heard_more g.T.Terms.trust g.F.Commands.gives g.F.Commands.may_fail g.T.Terms.sources g.S.Site.tells g.T.Terms.kept (IsSurePool g.B.Terms.fits) g.S.Site.files g.S.Site.may_leave g.S.Site.moment g.S.Site.images_since away first c.args.desk.now held waiting (Some c.args.attempt) heard later halt (omega arith) (omega (arith, none)) u);
+  spares = c.finish.ensures.spares;
 }
 
 pub returns-in-Failed : goal.returns-in-Failed
@@ -36,6 +37,7 @@ returns-in-Failed g c = record {
   underway = λ away first held waiting heard halt success u.
       subst (λ (o : Outcome). Underway g.T.Terms.trust g.F.Commands.gives g.F.Commands.may_fail g.T.Terms.sources g.S.Site.tells g.T.Terms.kept (IsSurePool g.B.Terms.fits) g.S.Site.files g.S.Site.may_leave g.S.Site.moment g.S.Site.images_since away first c.fail.new.desk held waiting None (plus heard (tally_of o)) (halt_after c.fail.result halt)) (sym c.in-Failed.is)
       (c.fail.ensures.underway away first held waiting heard halt (λ is. subst IsSuccess c.in-Failed.is (success is)) u);
+  spares = c.fail.ensures.spares;
 }
 
 pub returns-in-NotRun : goal.returns-in-NotRun
@@ -47,4 +49,5 @@ returns-in-NotRun g c = record {
       c.give_up.ensures.underway away first held waiting later halt
       (heard_more g.T.Terms.trust g.F.Commands.gives g.F.Commands.may_fail g.T.Terms.sources g.S.Site.tells g.T.Terms.kept (IsSurePool g.B.Terms.fits) g.S.Site.files g.S.Site.may_leave g.S.Site.moment g.S.Site.images_since away first c.args.desk.now held waiting (Some c.args.attempt) heard later halt (omega arith) (omega (arith, none)) u)
       (λ fine. unrun_stops g.T.Terms.trust g.F.Commands.gives g.F.Commands.may_fail g.T.Terms.sources g.S.Site.tells g.T.Terms.kept (IsSurePool g.B.Terms.fits) g.S.Site.files g.S.Site.may_leave g.S.Site.moment g.S.Site.images_since away c.args.desk.now later fine (omega (arith, one)) (λ is. subst IsSuccess c.in-NotRun.is (success is)));
+  spares = tt;
 }

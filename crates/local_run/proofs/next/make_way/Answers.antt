@@ -1,12 +1,14 @@
-use Rattle.std.proofs.Common.{Err, Ok, Option, subst, sym, true≢false}
+use Rattle.std.proofs.Common.{Err, Ok, Option, ap, subst, sym, true≢false}
 use Rattle.flow_types.specs.declared.numbers.FileNo.{FileNo}
 use Rattle.local_run.proofs.Dropping.{collects_longer}
 use Rattle.desk.specs.Collections.{Collects}
+use Rattle.desk.specs.State.{DeskState}
 use Rattle.desk.specs.declared.answers.CollectRefused.{CollectRefused}
 use Rattle.desk.specs.declared.answers.CollectRefused.TheVariants as refused
 use Rattle.local_run.proofs.Alone.{collection_alone}
 use Rattle.local_run.proofs.DropsBegun.{collects_on}
 use Rattle.local_run.specs.Underway.{IsSurePool}
+use Rattle.local_run.proofs.Sparing.{collects_spares, same_spares}
 use Rattle.local_run.proofs.next.make_way.Goals as goal
 
 pub returns-in-Ok-Some-clause-underway : goal.returns-in-Ok-Some-clause-underway
@@ -39,3 +41,11 @@ returns-in-Ok-Some-clause-grew g c dropped = collects_longer g.S.Site.count c.ar
 
 pub returns-in-Err-LogPlaces-clause-grew : goal.returns-in-Err-LogPlaces-clause-grew
 returns-in-Err-LogPlaces-clause-grew g c dropped = absurd (true≢false (sym dropped))
+
+pub returns-in-Ok-Some-clause-spares : goal.returns-in-Ok-Some-clause-spares
+returns-in-Ok-Some-clause-spares g c = collects_spares g.S.Site.count c.args.desk.now c.collect.new.self c.now.result c.in-Ok-Some.field-0 c.in-Ok-Some.ensures.reply
+
+pub returns-in-Err-LogPlaces-clause-spares : goal.returns-in-Err-LogPlaces-clause-spares
+returns-in-Err-LogPlaces-clause-spares g c =
+    same_spares c.args.desk.now.moves c.collect.new.self.moves
+    (ap (λ (b : DeskState g.row.S.Denot). b.moves) (subst (λ (why : CollectRefused). Collects g.S.Site.count c.args.desk.now c.now.result (Err why) c.collect.new.self) c.in-Err-LogPlaces.field-0-is c.in-Err-LogPlaces.ensures.reply).2)

@@ -1,17 +1,21 @@
-use Rattle.std.proofs.Common.{Err, None, Ok, Option, refl, subst, sym, ap, arith, length}
+use Rattle.std.proofs.Common.{Err, List, None, Ok, Option, refl, subst, sym, ap, arith, length}
 use Rattle.flow_types.specs.declared.numbers.LinkNo.{LinkNo}
+use Rattle.run_history.specs.declared.moves.Move.{Move}
 use Rattle.run_history.specs.Links.{records_of}
 use Rattle.desk.specs.declared.answers.Claim.{Claim}
+use Rattle.desk.specs.declared.answers.Claim.TheVariants as claims
 use Rattle.desk.specs.declared.answers.ClaimRefused.{ClaimRefused}
 use Rattle.desk.specs.Claims.{Claims}
 use Rattle.desk.specs.State.{DeskState}
 use Rattle.local_run.specs.declared.halt.Halt.{Halt}
+use Rattle.local_run.specs.Losses.{SparesAll}
 use Rattle.local_run.specs.Underway.{HeldState, IsSurePool}
 use Rattle.local_run.proofs.Alone.{log_alone}
 use Rattle.local_run.proofs.Claimed.{taken_longer}
 use Rattle.local_run.proofs.ClaimsBegun.{begun, claims_on}
 use Rattle.local_run.proofs.GivenBegun.{broken_on, wanting_on}
 use Rattle.local_run.proofs.StandsBegun.{Under}
+use Rattle.local_run.proofs.Sparing.{claims_spares, same_spares, spares_then}
 use Rattle.local_run.proofs.next.next.Goals as goal
 
 pub begin-requires-clause-present : goal.begin-requires-clause-present
@@ -104,7 +108,7 @@ returns-in-Ok-Taken-clause-grew g c did going =
     let after = c.claim.new.self in
     let reply = subst (λ (w : Claim). Claims g.S.Site.count d (record { 0 = 0 }) c.now.result (Ok w) after) c.in-Ok-Taken.field-0-is c.in-Ok-Taken.ensures.reply in
     let more = taken_longer g.S.Site.count d after c.in-Ok-Taken.attempt (record { 0 = 0 }) c.now.result reply in
-    let same = ap length (c.begin.ensures.stays going) in
+    let same = ap (λ (M : List Move). length (records_of M)) (c.begin.ensures.stays going) in
     omega (arith, more, same)
 
 pub returns-in-Ok-clause-grew : goal.returns-in-Ok-clause-grew
@@ -115,3 +119,18 @@ returns-in-Ok-clause-grew g c did going =
     let same = ap (λ (b : DeskState g.row.S.Denot). length (records_of b.moves)) reply.2 in
     let more = c.in-Ok.ensures.grew did in
     omega (arith, more, same)
+
+pub returns-in-Ok-Taken-clause-spares : goal.returns-in-Ok-Taken-clause-spares
+returns-in-Ok-Taken-clause-spares g c going =
+    let d = c.args.desk.now in
+    let after = c.claim.new.self in
+    let reply = subst (λ (w : Claim). Claims g.S.Site.count d (record { 0 = 0 }) c.now.result (Ok w) after) c.in-Ok-Taken.field-0-is c.in-Ok-Taken.ensures.reply in
+    spares_then d.moves after.moves c.begin.new.desk.moves (claims_spares g.S.Site.count d after (record { 0 = 0 }) c.now.result (claims.Taken c.in-Ok-Taken.attempt) reply)
+    (same_spares after.moves c.begin.new.desk.moves (c.begin.ensures.stays going))
+
+pub returns-in-Ok-clause-spares : goal.returns-in-Ok-clause-spares
+returns-in-Ok-clause-spares g c going =
+    let d = c.args.desk.now in
+    let after = c.claim.new.self in
+    let reply = subst (λ (w : Claim). Claims g.S.Site.count d (record { 0 = 0 }) c.now.result (Ok w) after) c.in-Ok-Nothing.field-0-is c.in-Ok-Nothing.ensures.reply in
+    subst (λ (b : DeskState g.row.S.Denot). SparesAll b.moves c.make_way.new.desk.moves) reply.2 c.in-Ok.ensures.spares

@@ -1,4 +1,5 @@
-use Rattle.std.proofs.Common.{◌≡◌, ◌∙◌, [], ◌∷◌, None, Option, Some, ap, arith, length, length-append, refl, rules, subst, sym}
+use Rattle.std.proofs.Common.{◌≡◌, ◌∙◌, [], ◌∷◌, None, Option, Some, ap, arith, length, length-append, refl, rules, subst, sym, true≢false}
+use Rattle.std.specs.Prelude.{is_none}
 use Rattle.flow_types.specs.Plans.{IsValid}
 use Rattle.local_run.specs.declared.halt.Halt.{Halt}
 use Rattle.local_run.specs.Underway.{HeldState, IsSurePool, IsWantHalt}
@@ -34,6 +35,7 @@ loop-attempt-preserved g c = record {
       let empty = ap length (c.loop-attempt.invariant.same none).0 in
       let more = length-append c.pop.new.self.attempts (c.in-Some.attempt ∷ []) in
       let wrong : ⊥ = omega (arith, are, empty, more) in absurd wrong;
+  still = λ none. absurd (true≢false (sym (ap is_none (sym (ap (λ (h : HeldState). h.halt) c.stop.ensures) ∙ none))));
   wants = λ want fine. subst (λ (h : HeldState). IsWantHalt h.halt) (sym c.stop.ensures) (gives_want c.loop-attempt.desk.trouble c.give_up-halt.new.desk.trouble c.give_up-halt.result c.give_up-halt.ensures.halt fine);
 }
 

@@ -10,6 +10,7 @@ invariant-loop-attempt g l = record {
   underway : (away : AwayState) (first : DeskState g.row.S.Denot) (waiting : List Start) (heard : Tally) → Underway g.T.Terms.trust g.F.Commands.gives g.F.Commands.may_fail g.T.Terms.sources g.S.Site.tells g.T.Terms.kept (IsSurePool g.B.Terms.fits) g.S.Site.files g.S.Site.may_leave g.S.Site.moment g.S.Site.images_since away first l.fn.desk l.fn.held.attempts waiting None heard l.fn.held.halt
       → (starts : List Start) × Underway g.T.Terms.trust g.F.Commands.gives g.F.Commands.may_fail g.T.Terms.sources g.S.Site.tells g.T.Terms.kept (IsSurePool g.B.Terms.fits) g.S.Site.files g.S.Site.may_leave g.S.Site.moment g.S.Site.images_since away first l.desk l.held.attempts starts None heard l.held.halt;
   same : l.fn.held.attempts ≡ [] → (l.held.attempts ≡ []) × (l.desk ≡ l.fn.desk) × (l.held.halt ≡ l.fn.held.halt);
+  still : l.held.halt ≡ None → (l.fn.held.halt ≡ None) × (l.desk ≡ l.fn.desk);
   wants : IsWantHalt l.fn.held.halt → IsFine l.desk.trouble → IsWantHalt l.held.halt;
 }
 

@@ -1,10 +1,14 @@
-use Rattle.std.proofs.Common.{◌≡◌, ◌≤◌, ◌+◌, ◌∙◌, ◌++◌, [], None, arith, ap, refl, rules, subst, sym, true≢false}
-use Rattle.std.specs.Prelude.{sum_by}
+use Rattle.std.proofs.Common.{List, Option, [], ap, arith, false, rules, subst, sym, true≢false, ◌++◌, ◌∙◌, ◌≡◌}
+use Rattle.std.specs.Prelude.{OnOk, sum_by}
 use Rattle.std.proofs.lemmas.List.{append-nil}
 use Rattle.worker_pool.specs.Crews.{AllSure}
 use Rattle.wq_run.specs.Seats.{AreSeats, CompanyState, gathered, links_in}
 use Rattle.wq_run.proofs.Services.{met_then}
 use Rattle.wq_run.proofs.Working.{are_back, damage_by, ends_by_waiting, spared_by, stands_begins, stops_by, whole_by}
+use Rattle.flow_types.specs.declared.numbers.LinkNo.{LinkNo}
+use Rattle.run_history.specs.Links.{records_of}
+use Rattle.wq_run.specs.Losses.{AreDueLosses}
+use Rattle.wq_run.proofs.Duly.{due_whole}
 use Rattle.wq_run.proofs.course.work.Goals as goal
 
 pub returns-in-Err-Failed : goal.returns-in-Err-Failed
@@ -22,6 +26,7 @@ returns-in-Err-Failed g c =
       whole = λ told keeps. tt;
       never = λ is. tt;
       lost = tt;
+      due_losses = λ tells first. tt;
       ends = tt;
       back = λ uncut. record { more = []; are = c.listen.ensures.got ∙ sym (append-nil (g.H.Hall.got c.args.hall.now)); many = (let given = c.listen.ensures.given in omega (arith, given)); apart = λ k. omega arith };
     }
@@ -41,6 +46,7 @@ returns-in-Err-Memory g c =
       whole = λ told keeps. tt;
       never = λ is. tt;
       lost = tt;
+      due_losses = λ tells first. tt;
       ends = tt;
       back = λ uncut. absurd (uncut tt);
     }
@@ -80,6 +86,7 @@ returns-then-has_lost g c =
       whole = λ told keeps. tt;
       never = λ is. tt;
       lost = tt;
+      due_losses = λ tells first. tt;
       ends = tt;
       back = λ uncut. absurd (uncut tt);
     }
@@ -104,6 +111,12 @@ returns g c =
       whole = whole_by g.S.Site.tells g.T.Terms.kept (AllSure g.R.Runner.sure c.args.runners.now) g.S.Site.files c.args.workers.limit c.run_all-done.new.desk (sum_by g.R.Runner.count c.args.runners.now) (sum_by g.R.Runner.count c.run_all-done.new.runners) (g.H.Hall.count c.listen.new.self) (g.H.Hall.count c.run_all-done.new.hall) (g.H.Hall.idle_count c.listen.new.self) (g.H.Hall.idle_count c.run_all-done.new.hall) c.run_all-done.result w.ended;
       never = spared_by g.S.Site.tells g.T.Terms.kept (AllSure g.R.Runner.sure c.args.runners.now) g.S.Site.files c.args.workers.limit c.run_all-done.new.desk (sum_by g.R.Runner.count c.args.runners.now) (sum_by g.R.Runner.count c.run_all-done.new.runners) (g.H.Hall.count c.listen.new.self) (g.H.Hall.count c.run_all-done.new.hall) (g.H.Hall.idle_count c.listen.new.self) (g.H.Hall.idle_count c.run_all-done.new.hall) c.run_all-done.result w.ended;
       lost = w.lost;
+      due_losses = λ tells first.
+          let company : CompanyState g.row.H-Way.Denot = c.new-company.result in
+          let none : company.seats ≡ [] = ap (λ (x : CompanyState g.row.H-Way.Denot). x.seats) c.new-company.ensures in
+          let kept : c.disband.new.company.lost ≡ false = search rules in
+          subst (λ (xs : List (Option LinkNo × g.row.H-Way.Denot)). OnOk c.run_all-done.result (AreDueLosses g.F.Commands.gives g.F.Commands.may_fail g.H.Way.Link.history g.H.Way.Link.count g.H.Way.Link.idle_count g.H.Way.Link.is_closed c.args.workers.limit xs (g.H.Hall.got c.disband.new.hall) (records_of c.args.desk.now.moves) (records_of c.run_all-done.new.desk.moves))) c.listen.ensures.got
+          (due_whole g.F.Commands.gives g.F.Commands.may_fail g.H.Way.Link.history g.H.Way.Link.count g.H.Way.Link.idle_count g.H.Way.Link.is_closed c.args.workers.limit c.args.desk.now.moves c.run_all-done.new.desk.moves company c.run_all-done.new.company c.disband.new.company (g.H.Hall.got c.listen.new.self) (g.H.Hall.got c.run_all-done.new.hall) (g.H.Hall.got c.disband.new.hall) c.run_all-done.result first none (c.run_all-done.ensures.due tells) c.run_all-done.ensures.sound (c.disband.ensures.due c.args.workers.limit c.run_all-done.new.desk.moves tells) c.disband.ensures.failed kept c.disband.ensures.seats);
       ends = ends_by_waiting g.S.Site.tells g.T.Terms.kept (AllSure g.R.Runner.sure c.args.runners.now) g.S.Site.files c.args.workers.limit c.run_all-done.new.desk (sum_by g.R.Runner.count c.args.runners.now) (sum_by g.R.Runner.count c.run_all-done.new.runners) (g.H.Hall.count c.listen.new.self) (g.H.Hall.count c.run_all-done.new.hall) (g.H.Hall.idle_count c.listen.new.self) (g.H.Hall.idle_count c.run_all-done.new.hall) (g.H.Hall.idle_count c.args.hall.now) (g.H.Hall.idle_count c.disband.new.hall) c.run_all-done.result (omega (arith, idles)) (omega (arith, looked)) w.ended;
       back = λ uncut.
           let company : CompanyState g.row.H-Way.Denot = c.new-company.result in

@@ -1,10 +1,7 @@
-use Rattle.std.proofs.Common.{rules, ◌≡◌, ◌∙◌, Some, None, Ok, Err, refl, sym, ap, subst}
-use Rattle.run_history.specs.declared.answers.Check.{Check}
-use Rattle.run_history.specs.Answers.{kind_of}
+use Rattle.std.proofs.Common.{rules}
 use Rattle.run_history.specs.Links.{records_of}
 use Rattle.local_run.proofs.Alone.{log_alone}
 use Rattle.local_run.proofs.Closings.{ends_goes, ends_idle}
-use Rattle.wq_run.specs.Ends.{IsOver}
 use Rattle.wq_run.proofs.Ending.{broken_ends, has_end, memory_halt, none_end}
 use Rattle.wq_run.proofs.rounds.end.Goals as goal
 

@@ -1,6 +1,3 @@
-use Rattle.std.proofs.Common.{rules, ◌≡◌, ◌∙◌, Some, None, Ok, Err, Option, refl, sym, ap, subst}
-use Rattle.run_history.specs.declared.answers.Check.{Check}
-use Rattle.wq_run.specs.Works.{HasEnd}
 use Rattle.wq_run.proofs.Ending.{none_ends, vain_over}
 use Rattle.wq_run.proofs.rounds.end_waiting.Goals as goal
 

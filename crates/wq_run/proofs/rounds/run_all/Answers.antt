@@ -1,4 +1,4 @@
-use Rattle.std.proofs.Common.{◌≡◌, ◌≤◌, ◌<◌, ◌+◌, ◌∙◌, [], Option, None, Some, Ok, Err, length, arith, ap, refl, rules, subst, sym, true, false, true≢false}
+use Rattle.std.proofs.Common.{◌≡◌, ◌≤◌, ◌<◌, ◌∙◌, Option, None, Some, Ok, length, arith, ap, rules, subst, sym, true, false, true≢false}
 use Rattle.std.specs.Prelude.{is_some, sum_by}
 use Rattle.run_history.specs.declared.answers.Stop.{Stop}
 use Rattle.run_history.specs.declared.answers.Stop.TheVariants as stops
@@ -10,10 +10,14 @@ use Rattle.worker_pool.specs.Crews.{AllSure}
 use Rattle.wq_run.specs.declared.rounds.Turn.{Turn}
 use Rattle.wq_run.specs.declared.rounds.Turn.TheVariants as turns
 use Rattle.wq_run.specs.Seats.{AreSeats}
-use Rattle.wq_run.specs.Works.{IsOn, Rounds}
+use Rattle.wq_run.specs.Works.{IsLast, IsOn, Rounds}
 use Rattle.wq_run.proofs.Services.{met_none, met_then}
 use Rattle.wq_run.proofs.Working.{Stands, hall_rose, seats_goes, stands_begins, stands_then, stop_waited, unstopped, works_over, works_stopped, works_vain}
 use Rattle.wq_run.proofs.Trusts.{of_then}
+use Rattle.local_run.specs.declared.halt.Halt.{Halt}
+use Rattle.wq_run.specs.Dues.{IsIllLink, KeepsDue}
+use Rattle.wq_run.proofs.Duly.{due_none, due_spared, due_then, waiting_spares}
+use Rattle.wq_run.proofs.Heards.{ok_step, ok_with}
 use Rattle.wq_run.proofs.rounds.run_all.Goals as goal
 
 pub loop-init : goal.loop-init
@@ -26,6 +30,7 @@ loop-init g c = record {
   seats = c.requires.seats;
   none = c.requires.none;
   met = met_none;
+  due = λ tells. due_none _ _;
 }
 
 pub go_round-requires-clause-valid : goal.go_round-requires-clause-valid
@@ -47,6 +52,8 @@ returns-in-Ok-Over g c = record {
   seats = c.go_round.ensures.seats;
   none = c.go_round.ensures.none;
   met = met_then c.loop.invariant.met c.go_round.ensures.met;
+  due = λ tells. due_then _ _ (c.loop.invariant.due tells) (c.in-Ok-Over.ensures.due tells);
+  sound = c.in-Ok-Over.ensures.sound (subst IsLast (sym c.in-Ok-Over.field-0-is) tt);
 }
 
 pub returns-in-Err : goal.returns-in-Err
@@ -56,6 +63,8 @@ returns-in-Err g c = record {
   seats = c.go_round.ensures.seats;
   none = c.go_round.ensures.none;
   met = met_then c.loop.invariant.met c.go_round.ensures.met;
+  due = λ tells. tt;
+  sound = tt;
 }
 
 pub loop-preserved : goal.loop-preserved
@@ -71,6 +80,7 @@ loop-preserved g c =
       seats = c.go_round.ensures.seats;
       none = c.go_round.ensures.none;
       met = met_then c.loop.invariant.met c.go_round.ensures.met;
+      due = λ tells. due_then _ _ (c.loop.invariant.due tells) (c.in-Ok-Again.ensures.due tells);
     }
 
 pub loop-preserved-else-stop : goal.loop-preserved-else-stop
@@ -90,6 +100,7 @@ loop-preserved-else-stop g c =
       seats = subst (λ (x : DeskState g.row.S.Denot). AreSeats x.plan x.options x.moves c.go_round.new.company.seats) (sym same) c.go_round.ensures.seats;
       none = c.go_round.ensures.none;
       met = met_then c.loop.invariant.met c.go_round.ensures.met;
+      due = λ tells. subst (λ (x : DeskState g.row.S.Denot). let none : Option Halt = None in KeepsDue (IsIllLink g.F.Commands.gives g.F.Commands.may_fail g.H.Way.Link.history g.H.Way.Link.count g.H.Way.Link.idle_count g.H.Way.Link.is_closed c.args.limit) g.H.Way.Link.history c.args.desk.now.moves x.moves none none c.args.company.now c.go_round.new.company (g.H.Hall.got c.args.hall.now) (g.H.Hall.got c.go_round.new.hall)) (sym same) (due_then _ _ (c.loop.invariant.due tells) (c.in-Ok-Vain.ensures.due tells));
     }
 
 pub end_waiting-requires-clause-fine : goal.end_waiting-requires-clause-fine
@@ -142,4 +153,8 @@ returns-then-stop g c =
           (subst (λ (x : DeskState g.row.S.Denot). AreSeats x.plan x.options x.moves c.go_round.new.company.seats) (sym c.stop.ensures.stop) c.go_round.ensures.seats);
       none = c.go_round.ensures.none;
       met = met_then c.loop.invariant.met c.go_round.ensures.met;
+      due = λ tells.
+          let rounds = subst (λ (x : DeskState g.row.S.Denot). let none : Option Halt = None in KeepsDue (IsIllLink g.F.Commands.gives g.F.Commands.may_fail g.H.Way.Link.history g.H.Way.Link.count g.H.Way.Link.idle_count g.H.Way.Link.is_closed c.args.limit) g.H.Way.Link.history c.args.desk.now.moves x.moves none none c.args.company.now c.go_round.new.company (g.H.Hall.got c.args.hall.now) (g.H.Hall.got c.go_round.new.hall)) (sym c.stop.ensures.stop) (due_then _ _ (c.loop.invariant.due tells) (c.in-Ok-Vain.ensures.due tells)) in
+          ok_step c.end_waiting.result _ _ (λ spares. due_then _ _ rounds (due_spared _ _ (λ none. (none, spares)))) (waiting_spares g.S.Site.tells g.T.Terms.kept g.S.Site.files c.stop.new.self c.end_waiting.new.desk c.end_waiting.result c.end_waiting.ensures.ended.ends);
+      sound = ok_with c.end_waiting.result _ (c.in-Ok-Vain.ensures.sound (subst IsLast (sym c.in-Ok-Vain.field-0-is) tt));
     }

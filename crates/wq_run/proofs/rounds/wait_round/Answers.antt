@@ -1,6 +1,5 @@
-use Rattle.std.proofs.Common.{◌≡◌, ◌≤◌, ◌+◌, ◌∙◌, [], None, Ok, Err, arith, ap, refl, rules, subst, sym}
+use Rattle.std.proofs.Common.{Ok, Err, arith, rules}
 use Rattle.local_run.specs.Underway.{IsSurePool}
-use Rattle.local_run.specs.declared.ended.Stopped.TheVariants as stopped
 use Rattle.wq_run.specs.declared.rounds.Turn.TheVariants as turns
 use Rattle.wq_run.proofs.Services.{on_less}
 use Rattle.wq_run.proofs.Working.{is_on, round_by, round_halted}
@@ -14,6 +13,8 @@ returns-in-Err g c = record {
   none = c.wait.ensures.none;
   listens = c.wait.ensures.listens;
   met = c.wait.ensures.met;
+  due = λ tells. tt;
+  sound = tt;
 }
 
 pub returns-then-idles-from-clause-rounds : goal.returns-then-idles-from-clause-rounds
@@ -36,4 +37,12 @@ returns g c = record {
   none = c.wait.ensures.none;
   listens = c.wait.ensures.listens;
   met = c.wait.ensures.met;
+  due = c.in-Ok.ensures.due;
+  sound = λ last. absurd last;
 }
+
+pub returns-then-idles-from-clause-due : goal.returns-then-idles-from-clause-due
+returns-then-idles-from-clause-due g c tells = c.in-Ok.ensures.due tells
+
+pub returns-then-idles-from-clause-sound : goal.returns-then-idles-from-clause-sound
+returns-then-idles-from-clause-sound g c last = c.is_going.ensures.fine (search rules)

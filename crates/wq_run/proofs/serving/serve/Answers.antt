@@ -1,15 +1,18 @@
-use Rattle.std.proofs.Common.{◌≡◌, ◌≤◌, ◌+◌, ◌∙◌, [], None, arith, ap, refl, rules, subst, sym}
+use Rattle.std.proofs.Common.{true, is_none, ◌≡◌, ◌∙◌, None, ap, refl, rules, subst, sym}
 use Rattle.flow_types.specs.Plans.{IsValid}
 use Rattle.local_run.specs.Underway.{IsSurePool}
 use Rattle.local_run.specs.Underway.{HeldState}
 use Rattle.local_run.proofs.StandsBegun.{Under, wants_on}
-use Rattle.wq_run.proofs.Services.{begins_manned, came_finished, finished_by, met_none, met_then, on_less, on_want}
+use Rattle.wq_run.proofs.Services.{met_none, met_then}
 use Rattle.wq_run.proofs.Shares.{manned_on}
 use Rattle.wq_run.proofs.Trusts.{of_goes}
+use Rattle.local_run.specs.declared.halt.Halt.TheVariants as halts
+use Rattle.wq_run.proofs.Duly.{due_halted, due_none, due_then}
 use Rattle.wq_run.proofs.serving.serve.Goals as goal
+use Rattle.wq_run.proofs.serving.serve.Goals.{then-not-is_going-via-then-not-is_going, then-not-is_going-via-else-not-is_going+then-not-is_going-2}
 
 pub loop-init : goal.loop-init
-loop-init g c = record { served = λ first m. m; line = refl; listens = c.requires.listens; met = met_none }
+loop-init g c = record { served = λ first m. m; line = refl; listens = c.requires.listens; met = met_none; due = λ tells. due_none _ _ }
 
 pub returns-in_default-clause-served : goal.returns-in_default-clause-served
 returns-in_default-clause-served g c first m =
@@ -60,6 +63,7 @@ loop-preserved-then-turn g c = record {
   line = c.turn.ensures.line ∙ c.loop.invariant.line;
   listens = c.turn.ensures.listens;
   met = met_then c.loop.invariant.met c.turn.ensures.met;
+  due = λ tells. due_then _ _ (c.loop.invariant.due tells) (c.turn.ensures.due tells);
 }
 
 pub loop-preserved-then-not-is_going : goal.loop-preserved-then-not-is_going
@@ -68,6 +72,11 @@ loop-preserved-then-not-is_going g c = record {
   line = c.wind_down.ensures.line ∙ c.loop.invariant.line;
   listens = c.wind_down.ensures.listens;
   met = met_then c.loop.invariant.met c.wind_down.ensures.met;
+  due = λ tells. due_then _ _ (c.loop.invariant.due tells) (c.wind_down.ensures.due c.args.limit tells (λ none fine kept. elim c.then-not-is_going.branch [
+    | then-not-is_going-via-then-not-is_going w ↦
+        (let going : c.is_going.result ≡ true = c.is_going.ensures ∙ ap is_none none in search rules)
+    | then-not-is_going-via-else-not-is_going+then-not-is_going-2 w ↦ w.is_going-else-not-is_going.ensures.stands (search rules) fine kept
+  ]));
 }
 
 pub returns-then-wind_down : goal.returns-then-wind_down
@@ -77,6 +86,11 @@ returns-then-wind_down g c = record {
   listens = c.wind_down.ensures.listens;
   met = met_then c.loop.invariant.met c.wind_down.ensures.met;
   heard = λ unwanting. c.wind_down.ensures.over (search rules);
+  due = λ tells. due_then _ _ (c.loop.invariant.due tells) (c.wind_down.ensures.due c.args.limit tells (λ none fine kept. elim c.then-not-is_going.branch [
+    | then-not-is_going-via-then-not-is_going w ↦
+        (let going : c.is_going.result ≡ true = c.is_going.ensures ∙ ap is_none none in search rules)
+    | then-not-is_going-via-else-not-is_going+then-not-is_going-2 w ↦ w.is_going-else-not-is_going.ensures.stands (search rules) fine kept
+  ]));
 }
 
 pub loop-preserved : goal.loop-preserved
@@ -85,6 +99,7 @@ loop-preserved g c = record {
   line = c.turn.ensures.line ∙ c.loop.invariant.line;
   listens = c.turn.ensures.listens;
   met = met_then c.loop.invariant.met c.turn.ensures.met;
+  due = λ tells. due_then _ _ (c.loop.invariant.due tells) (c.turn.ensures.due tells);
 }
 
 pub returns-then-is_idle-clause-served : goal.returns-then-is_idle-clause-served
@@ -92,3 +107,9 @@ returns-then-is_idle-clause-served g c first m = c.turn.ensures.served first (c.
 
 pub returns-then-is_idle-clause-met : goal.returns-then-is_idle-clause-met
 returns-then-is_idle-clause-met g c = met_then c.loop.invariant.met c.turn.ensures.met
+
+pub returns-then-is_idle-clause-due : goal.returns-then-is_idle-clause-due
+returns-then-is_idle-clause-due g c tells = due_then _ _ (c.loop.invariant.due tells) (c.turn.ensures.due tells)
+
+pub returns-in_default-clause-due : goal.returns-in_default-clause-due
+returns-in_default-clause-due g c tells = due_then _ _ (c.loop.invariant.due tells) (due_halted _ _ halts.Memory (ap (λ (h : HeldState). h.halt) c.stop.ensures))

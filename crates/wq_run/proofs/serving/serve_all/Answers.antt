@@ -1,10 +1,12 @@
-use Rattle.std.proofs.Common.{◌≡◌, ◌≤◌, ◌+◌, ◌∙◌, [], None, arith, ap, refl, rules, subst, sym}
+use Rattle.std.proofs.Common.{refl}
 use Rattle.std.specs.Prelude.{sum_by}
 use Rattle.worker_pool.specs.Courses.{Heeds}
 use Rattle.worker_pool.specs.Crews.{AllSure, AllTell}
 use Rattle.worker_pool.proofs.Crews.{all_report}
 use Rattle.local_run.specs.Underway.{IsSurePool}
 use Rattle.wq_run.proofs.Services.{met_none, on_less, on_want}
+use Rattle.local_run.specs.declared.halt.Halt.TheVariants as halts
+use Rattle.wq_run.proofs.Duly.{due_halted}
 use Rattle.wq_run.proofs.serving.serve_all.Goals as goal
 
 pub serve_in-requires-clause-runners : goal.serve_in-requires-clause-runners
@@ -26,6 +28,7 @@ returns-in_default g c = record {
   none = c.requires.none;
   listens = c.requires.listens;
   met = met_none;
+  due = λ tells. due_halted _ _ halts.Memory refl;
 }
 
 pub returns : goal.returns
@@ -38,4 +41,5 @@ returns g c = record {
   none = c.serve_in.ensures.none;
   listens = c.serve_in.ensures.listens;
   met = c.serve_in.ensures.met;
+  due = c.serve_in.ensures.due;
 }

@@ -7,6 +7,7 @@ returns g c = record {
     served = c.serve.ensures.served;
     line = search rules;
     coming = c.serve.ensures.listens;
+    due = c.serve.ensures.due;
     met = c.serve.ensures.met;
     heard = search rules;
   };

@@ -1,9 +1,10 @@
-use Rattle.std.proofs.Common.{◌≡◌, ◌≤◌, ◌+◌, ◌∙◌, [], None, arith, ap, refl, rules, subst, sym}
+use Rattle.std.proofs.Common.{refl, subst, sym, ◌∙◌}
 use Rattle.flow_types.specs.Plans.{IsValid}
 use Rattle.local_run.specs.Underway.{IsSurePool}
-use Rattle.wq_run.proofs.Services.{begins_manned, came_finished, finished_by, met_none, met_then, on_less, on_want, met_same, manned_same}
+use Rattle.wq_run.proofs.Services.{met_none, met_same, manned_same}
 use Rattle.wq_run.proofs.Shares.{manned_on}
 use Rattle.wq_run.proofs.Trusts.{of_goes}
+use Rattle.wq_run.proofs.Duly.{due_as, due_none, due_spared, due_then}
 use Rattle.wq_run.proofs.serving.start_more.Goals as goal
 
 pub go_on-requires-clause-base : goal.go_on-requires-clause-base
@@ -31,7 +32,7 @@ ask_all-requires-clause-manned g c κs within =
     record { first = c.requires.served.first; waiting = c.go_on.new.pool.waiting; heard = c.go_on.new.pool.heard; manned = n }
 
 pub returns-then-not-has_news : goal.returns-then-not-has_news
-returns-then-not-has_news g c = record { served = λ first m. m; line = refl; listens = c.requires.listens; met = met_none }
+returns-then-not-has_news g c = record { served = λ first m. m; line = refl; listens = c.requires.listens; met = met_none; due = λ limit tells. due_none _ _ }
 
 pub returns-then-go_on : goal.returns-then-go_on
 returns-then-go_on g c = record {
@@ -39,6 +40,7 @@ returns-then-go_on g c = record {
   line = c.go_on.ensures.line;
   listens = c.requires.listens;
   met = met_none;
+  due = λ limit tells. due_spared _ _ c.go_on.ensures.spares;
 }
 
 pub returns-then-ask_all : goal.returns-then-ask_all
@@ -47,6 +49,7 @@ returns-then-ask_all g c = record {
   line = c.go_on.ensures.line;
   listens = c.ask_all.ensures.listens c.requires.listens;
   met = c.ask_all.ensures.met;
+  due = λ limit tells. due_then _ _ (due_spared _ _ c.go_on.ensures.spares) (c.ask_all.ensures.due limit tells);
 }
 
 pub returns : goal.returns
@@ -55,4 +58,5 @@ returns g c = record {
   line = c.go_on.ensures.line;
   listens = c.ask_all.ensures.listens c.requires.listens;
   met = met_same c.ask_all.new.company c.rest_at.new.self c.rest_at.ensures c.ask_all.ensures.met;
+  due = λ limit tells. due_as _ _ (sym c.rest_at.ensures) (due_then _ _ (due_spared _ _ c.go_on.ensures.spares) (c.ask_all.ensures.due limit tells));
 }

@@ -1,10 +1,11 @@
-use Rattle.std.proofs.Common.{◌≡◌, ◌≤◌, ◌+◌, ◌∙◌, [], None, arith, ap, refl, rules, subst, sym}
+use Rattle.std.proofs.Common.{◌∙◌, subst, sym}
 use Rattle.flow_types.specs.Plans.{IsValid}
 use Rattle.run_history.specs.Links.{records_of}
 use Rattle.local_run.specs.Underway.{IsSurePool, ToldOf}
-use Rattle.wq_run.proofs.Services.{begins_manned, came_finished, finished_by, met_none, met_then, on_less, on_want}
+use Rattle.wq_run.proofs.Services.{met_then}
 use Rattle.wq_run.proofs.Shares.{manned_on}
 use Rattle.wq_run.proofs.Trusts.{of_goes, told_by}
+use Rattle.wq_run.proofs.Duly.{due_spared, due_then}
 use Rattle.wq_run.proofs.serving.turn.Goals as goal
 
 pub hear-requires-clause-valid : goal.hear-requires-clause-valid
@@ -47,7 +48,7 @@ round-requires-clause-manned g c κs within =
     record { first = c.requires.served.first; waiting = c.hear.new.pool.waiting; heard = c.hear.new.pool.heard; manned = n }
 
 pub returns-then-start_more : goal.returns-then-start_more
-returns-then-start_more g c = record { served = c.start_more.ensures.served; line = c.start_more.ensures.line; listens = c.start_more.ensures.listens; met = c.start_more.ensures.met }
+returns-then-start_more g c = record { served = c.start_more.ensures.served; line = c.start_more.ensures.line; listens = c.start_more.ensures.listens; met = c.start_more.ensures.met; due = c.start_more.ensures.due c.args.limit }
 
 pub returns-then-hear : goal.returns-then-hear
 returns-then-hear g c = record {
@@ -55,6 +56,7 @@ returns-then-hear g c = record {
   line = c.hear.ensures.line ∙ c.start_more.ensures.line;
   listens = c.start_more.ensures.listens;
   met = c.start_more.ensures.met;
+  due = λ tells. due_then _ _ (c.start_more.ensures.due c.args.limit tells) (due_spared _ _ c.hear.ensures.spares);
 }
 
 pub returns : goal.returns
@@ -63,4 +65,5 @@ returns g c = record {
   line = c.hear.ensures.line ∙ c.start_more.ensures.line;
   listens = c.round.ensures.listens;
   met = met_then c.start_more.ensures.met c.round.ensures.met;
+  due = λ tells. due_then _ _ (due_then _ _ (c.start_more.ensures.due c.args.limit tells) (due_spared _ _ c.hear.ensures.spares)) (c.round.ensures.due tells);
 }

@@ -1,10 +1,10 @@
-use Rattle.std.proofs.Common.{◌≡◌, ◌≤◌, ◌+◌, ◌∙◌, [], None, arith, ap, refl, rules, subst, sym, true≢false}
+use Rattle.std.proofs.Common.{◌∙◌, subst, sym, true≢false}
 use Rattle.flow_types.specs.Plans.{IsValid}
 use Rattle.run_history.specs.Links.{records_of}
 use Rattle.local_run.specs.Underway.{IsSurePool, ToldOf}
-use Rattle.wq_run.proofs.Services.{begins_manned, came_finished, finished_by, met_none, met_then, on_less, on_want}
 use Rattle.wq_run.proofs.Shares.{manned_on}
 use Rattle.wq_run.proofs.Trusts.{of_goes, told_by}
+use Rattle.wq_run.proofs.Duly.{due_spared, due_then}
 use Rattle.wq_run.proofs.serving.wind_down.Goals as goal
 
 pub dismiss-requires-clause-manned : goal.dismiss-requires-clause-manned
@@ -38,6 +38,7 @@ returns-then-not-hear g c = record {
   listens = c.dismiss.ensures.listens c.requires.listens;
   met = c.dismiss.ensures.met;
   over = λ is. absurd (true≢false (sym is));
+  due = λ limit tells stopped. due_then _ _ (c.dismiss.ensures.due limit tells stopped) (due_spared _ _ c.hear.ensures.spares);
 }
 
 pub returns-else-not-hear : goal.returns-else-not-hear
@@ -47,4 +48,5 @@ returns-else-not-hear g c = record {
   listens = c.dismiss.ensures.listens c.requires.listens;
   met = c.dismiss.ensures.met;
   over = λ is. absurd (true≢false (sym is));
+  due = λ limit tells stopped. due_then _ _ (c.dismiss.ensures.due limit tells stopped) (due_spared _ _ c.hear.ensures.spares);
 }

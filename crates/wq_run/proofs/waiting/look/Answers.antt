@@ -1,12 +1,13 @@
-use Rattle.std.proofs.Common.{◌≡◌, ◌≤◌, ◌+◌, ◌∙◌, [], None, arith, ap, refl, rules, subst, sym}
+use Rattle.std.proofs.Common.{◌∙◌, subst, sym}
 use Rattle.flow_types.specs.Plans.{IsValid}
 use Rattle.local_run.specs.Underway.{IsSurePool}
-use Rattle.wq_run.proofs.Services.{begins_manned, came_finished, finished_by, met_none, met_then, on_less, on_want}
+use Rattle.wq_run.proofs.Services.{met_none, met_then}
 use Rattle.wq_run.proofs.Trusts.{of_goes}
+use Rattle.wq_run.proofs.Duly.{due_none, due_then}
 use Rattle.wq_run.proofs.waiting.look.Goals as goal
 
 pub loop-init : goal.loop-init
-loop-init g c = record { manned = λ first waiting heard m. m; listens = c.requires.listens; met = met_none }
+loop-init g c = record { manned = λ first waiting heard m. m; listens = c.requires.listens; met = met_none; due = λ tells. due_none _ _ }
 
 pub round-requires-clause-valid : goal.round-requires-clause-valid
 round-requires-clause-valid g c κs within =
@@ -31,6 +32,7 @@ loop-preserved g c = record {
   manned = λ first waiting heard m. c.round.ensures.manned first waiting heard (c.loop.invariant.manned first waiting heard m);
   listens = c.round.ensures.listens;
   met = met_then c.loop.invariant.met c.round.ensures.met;
+  due = λ tells. due_then _ _ (c.loop.invariant.due tells) (c.round.ensures.due tells);
 }
 
 pub returns-then-not-is_going : goal.returns-then-not-is_going
@@ -38,6 +40,7 @@ returns-then-not-is_going g c = record {
   manned = λ first waiting heard m. c.round.ensures.manned first waiting heard (c.loop.invariant.manned first waiting heard m);
   listens = c.round.ensures.listens;
   met = met_then c.loop.invariant.met c.round.ensures.met;
+  due = λ tells. due_then _ _ (c.loop.invariant.due tells) (c.round.ensures.due tells);
 }
 
 pub returns-then-saturating_sub-from : goal.returns-then-saturating_sub-from
@@ -45,4 +48,5 @@ returns-then-saturating_sub-from g c = record {
   manned = λ first waiting heard m. c.round.ensures.manned first waiting heard (c.loop.invariant.manned first waiting heard m);
   listens = c.round.ensures.listens;
   met = met_then c.loop.invariant.met c.round.ensures.met;
+  due = λ tells. due_then _ _ (c.loop.invariant.due tells) (c.round.ensures.due tells);
 }

@@ -1,6 +1,7 @@
 use Rattle.std.proofs.Common.{Some, None}
 use Rattle.peers.proofs.Sending.{says_again, says_task}
 use Rattle.peers.proofs.Serving.{same_peer}
+use Rattle.peers.proofs.Receiving.{kept_by, none_came}
 use Rattle.peers.proofs.peer.Peer.ask.Goals as goal
 
 pub returns-clause-serves : goal.returns-clause-serves
@@ -24,3 +25,8 @@ returns-clause-again g c = λ said heard tells serves ours.
     let session = c.self.inside.session in
     let s = same_peer gives may_fail history c.args.self.now (record { way = way; feed = feed; session = session }) said heard None c.self.view_is serves in
     says_again gives may_fail c.say.result (history way) (history c.say.new.way) feed session said heard c.args.task (c.say.ensures.sends tells) ours s
+
+pub returns-clause-kept : goal.returns-clause-kept
+returns-clause-kept g c = λ tells.
+    kept_by g.L.Link.history (record { way = c.self.inside.way; feed = c.self.inside.feeder; session = c.self.inside.session }) c.args.self.now (g.L.Link.history c.say.new.way) c.self.view_is
+    (none_came (g.L.Link.history c.self.inside.way) (g.L.Link.history c.say.new.way) (c.say.ensures.sends tells).nothing_came)

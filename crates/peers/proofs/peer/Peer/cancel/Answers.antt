@@ -3,6 +3,7 @@ use Rattle.link_session.specs.Sessions.{is_open}
 use Rattle.peers.specs.declared.leave.Leave.{Leave}
 use Rattle.peers.proofs.Sending.{says_cancel}
 use Rattle.peers.proofs.Serving.{same_peer}
+use Rattle.peers.proofs.Receiving.{kept_by, none_came}
 use Rattle.peers.proofs.peer.Peer.cancel.Goals as goal
 
 pub returns-in-Ok-clause-serves : goal.returns-in-Ok-clause-serves
@@ -30,3 +31,13 @@ returns-clause-serves g c = λ said heard waiting tells serves.
     let attempt = c.args.attempt in
     let was : is_open attempt session.attempts ≡ true = search rules in
     says_cancel gives may_fail (let r : Result (Unit {0}) Leave = Err c.in-Err.leave in r) (history way) (history c.say.new.way) feed session c.cancel.new.self said heard waiting attempt (c.in-Err.ensures.sends tells) c.cancel.ensures.state was c.cancel.ensures.closed s
+
+pub returns-in-Ok-clause-kept : goal.returns-in-Ok-clause-kept
+returns-in-Ok-clause-kept g c = λ tells.
+    kept_by g.L.Link.history (record { way = c.self.inside.way; feed = c.self.inside.feeder; session = c.self.inside.session }) c.args.self.now (g.L.Link.history c.say.new.way) c.self.view_is
+    (none_came (g.L.Link.history c.self.inside.way) (g.L.Link.history c.say.new.way) (c.say.ensures.sends tells).nothing_came)
+
+pub returns-clause-kept : goal.returns-clause-kept
+returns-clause-kept g c = λ tells.
+    kept_by g.L.Link.history (record { way = c.self.inside.way; feed = c.self.inside.feeder; session = c.self.inside.session }) c.args.self.now (g.L.Link.history c.say.new.way) c.self.view_is
+    (none_came (g.L.Link.history c.self.inside.way) (g.L.Link.history c.say.new.way) (c.say.ensures.sends tells).nothing_came)

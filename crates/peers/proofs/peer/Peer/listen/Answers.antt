@@ -8,6 +8,7 @@ use Rattle.outside.specs.declared.fault.Fault.{Fault}
 use Rattle.peers.specs.Serves.{Serves}
 use Rattle.peers.proofs.Frames.{fed_going}
 use Rattle.peers.proofs.Serving.{hears_piece, same_peer, stands, stands_after}
+use Rattle.peers.proofs.Receiving.{came_on, kept_by}
 use Rattle.peers.proofs.peer.Peer.listen.Goals as goal
 
 pub returns-in-Ok-clause-serves : goal.returns-in-Ok-clause-serves
@@ -41,3 +42,28 @@ returns-in-Ok-Piece-clause-serves g c = λ said heard waiting tells serves.
     let answer : Result Got Fault = Ok (got.Piece c.in-Ok-Piece.piece) in
     stands_after gives may_fail answer (history way) new said heard (subst (λ (x : Got). Receives (Ok x) (history way) new) c.in-Ok-Piece.field-0-is (c.in-Ok-Piece.ensures.history tells))
     (stands gives may_fail (history way) feed session said heard waiting s)
+
+pub returns-in-Ok-clause-kept : goal.returns-in-Ok-clause-kept
+returns-in-Ok-clause-kept g c = λ tells.
+    kept_by g.L.Link.history (record { way = c.self.inside.way; feed = c.self.inside.feeder; session = c.self.inside.session }) c.args.self.now (g.L.Link.history c.recv.new.self) c.self.view_is
+    (came_on c.recv.result (g.L.Link.history c.self.inside.way) (g.L.Link.history c.recv.new.self) (c.recv.ensures.history tells))
+
+pub returns-in-Ok-Piece-clause-kept : goal.returns-in-Ok-Piece-clause-kept
+returns-in-Ok-Piece-clause-kept g c = λ tells.
+    kept_by g.L.Link.history (record { way = c.self.inside.way; feed = c.self.inside.feeder; session = c.self.inside.session }) c.args.self.now (g.L.Link.history c.recv.new.self) c.self.view_is
+    (came_on c.recv.result (g.L.Link.history c.self.inside.way) (g.L.Link.history c.recv.new.self) (c.recv.ensures.history tells))
+
+pub returns-in-Ok-Idle-clause-kept : goal.returns-in-Ok-Idle-clause-kept
+returns-in-Ok-Idle-clause-kept g c = λ tells.
+    kept_by g.L.Link.history (record { way = c.self.inside.way; feed = c.self.inside.feeder; session = c.self.inside.session }) c.args.self.now (g.L.Link.history c.recv.new.self) c.self.view_is
+    (came_on c.recv.result (g.L.Link.history c.self.inside.way) (g.L.Link.history c.recv.new.self) (c.recv.ensures.history tells))
+
+pub returns-in-Ok-Closed-clause-kept : goal.returns-in-Ok-Closed-clause-kept
+returns-in-Ok-Closed-clause-kept g c = λ tells.
+    kept_by g.L.Link.history (record { way = c.self.inside.way; feed = c.self.inside.feeder; session = c.self.inside.session }) c.args.self.now (g.L.Link.history c.recv.new.self) c.self.view_is
+    (came_on c.recv.result (g.L.Link.history c.self.inside.way) (g.L.Link.history c.recv.new.self) (c.recv.ensures.history tells))
+
+pub returns-clause-kept : goal.returns-clause-kept
+returns-clause-kept g c = λ tells.
+    kept_by g.L.Link.history (record { way = c.self.inside.way; feed = c.self.inside.feeder; session = c.self.inside.session }) c.args.self.now (g.L.Link.history c.recv.new.self) c.self.view_is
+    (came_on c.recv.result (g.L.Link.history c.self.inside.way) (g.L.Link.history c.recv.new.self) (c.recv.ensures.history tells))

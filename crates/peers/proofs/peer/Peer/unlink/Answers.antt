@@ -6,6 +6,7 @@ use Rattle.peers.specs.declared.leave.Leave.{Leave}
 use Rattle.peers.specs.Sends.{Sends}
 use Rattle.peers.proofs.Sending.{says_plain, unlink_plain}
 use Rattle.peers.proofs.Serving.{same_peer}
+use Rattle.peers.proofs.Receiving.{kept_by, none_came}
 use Rattle.peers.proofs.peer.Peer.unlink.Goals as goal
 
 pub returns-in-Ok-clause-serves : goal.returns-in-Ok-clause-serves
@@ -45,3 +46,13 @@ returns-clause-serves g c = λ said heard waiting tells serves.
     subst (λ (n : ℕ). Sends r (messages.Unlink (key_of n file)) (history way) (history c.say.new.way)) run (c.in-Err.ensures.sends tells) in
     says_plain gives may_fail r (history way) (history c.say.new.way) feed session c.dropped.new.self said heard waiting (messages.Unlink key) (unlink_plain key) sends
     (ap (λ (x : State). x.stage) c.dropped.ensures.state) (ap (λ (x : State). x.attempts) c.dropped.ensures.state) s
+
+pub returns-in-Ok-clause-kept : goal.returns-in-Ok-clause-kept
+returns-in-Ok-clause-kept g c = λ tells.
+    kept_by g.L.Link.history (record { way = c.self.inside.way; feed = c.self.inside.feeder; session = c.self.inside.session }) c.args.self.now (g.L.Link.history c.say.new.way) c.self.view_is
+    (none_came (g.L.Link.history c.self.inside.way) (g.L.Link.history c.say.new.way) (c.say.ensures.sends tells).nothing_came)
+
+pub returns-clause-kept : goal.returns-clause-kept
+returns-clause-kept g c = λ tells.
+    kept_by g.L.Link.history (record { way = c.self.inside.way; feed = c.self.inside.feeder; session = c.self.inside.session }) c.args.self.now (g.L.Link.history c.say.new.way) c.self.view_is
+    (none_came (g.L.Link.history c.self.inside.way) (g.L.Link.history c.say.new.way) (c.say.ensures.sends tells).nothing_came)

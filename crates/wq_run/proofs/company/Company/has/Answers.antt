@@ -1,9 +1,8 @@
-use Rattle.std.proofs.Common.{rules, tests, ◌≡◌, false, sym, ◌∙◌}
+use Rattle.std.proofs.Common.{rules, tests, ◌≡◌, sym, ◌∙◌}
 use Rattle.std.specs.Prelude.{◌==◌}
 use Rattle.std.specs.List.{list_any}
 use Rattle.std.proofs.lemmas.Iterator.{YieldsList-from_slice}
 use Rattle.std.proofs.lemmas.Iterator.Search.{any_from_yields_List}
-use Rattle.wq_run.specs.Seats.{SeatState}
 use Rattle.wq_run.proofs.Companies.{unseated_of}
 use Rattle.wq_run.proofs.company.Company.has.Goals as goal
 

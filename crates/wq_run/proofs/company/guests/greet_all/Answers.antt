@@ -1,4 +1,5 @@
-use Rattle.wq_run.proofs.Companies.{met_then}
+use Rattle.wq_run.proofs.Companies.{met_then, same_met}
+use Rattle.wq_run.proofs.Duly.{due_none, due_then}
 use Rattle.wq_run.proofs.company.guests.greet_all.Goals as goal
 
 pub loop-preserved : goal.loop-preserved
@@ -6,4 +7,8 @@ loop-preserved g c = record {
   manned = λ held first waiting heard m. c.greet_next.ensures.manned held first waiting heard (c.loop.invariant.manned held first waiting heard m);
   listens = λ is. c.greet_next.ensures.listens (c.loop.invariant.listens is);
   met = met_then c.loop.invariant.met c.greet_next.ensures.met;
+  due = λ limit halt tells. due_then _ _ (c.loop.invariant.due limit halt tells) (c.greet_next.ensures.due limit halt tells);
 }
+
+pub loop-init : goal.loop-init
+loop-init g c = record { manned = λ held first waiting heard m. m; listens = λ is. is; met = same_met; due = λ limit halt tells. due_none _ _ }

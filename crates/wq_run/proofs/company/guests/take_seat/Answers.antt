@@ -1,4 +1,4 @@
-use Rattle.std.proofs.Common.{rules, ◌≡◌, ◌<◌, ◌⊎◌, inl, inr, ◌+◌, ◌++◌, ◌∷◌, [], None, Some, ap, refl, sym, subst, ◌∙◌, arith, length, length-append}
+use Rattle.std.proofs.Common.{rules, ◌≡◌, ◌<◌, inr, ◌++◌, ◌∷◌, [], None, Some, ap, refl, subst, arith, length, length-append, true≢false}
 use Rattle.std.proofs.lemmas.List.{append-nil}
 use Rattle.flow_types.specs.declared.numbers.LinkNo.{LinkNo}
 use Rattle.wq_run.specs.Seats.{IsUnseated, inside_of, one_under, seats_under, with_hand}
@@ -47,3 +47,12 @@ returns-in_default-clause-met g c =
     let nil = ap (seats_under k) (append-nil c.args.company.now.seats) in
     let link = ap (λ (l : LinkNo). one_under k (Some l)) c.link-link.ensures in
     omega (arith, e, split, nil, link))) failed lost
+
+pub returns-then-not-takes-clause-seated : goal.returns-then-not-takes-clause-seated
+returns-then-not-takes-clause-seated g c kept = absurd (true≢false kept)
+
+pub returns-in-Err-clause-seated : goal.returns-in-Err-clause-seated
+returns-in-Err-clause-seated g c kept = absurd (true≢false kept)
+
+pub returns-in_default-clause-seated : goal.returns-in_default-clause-seated
+returns-in_default-clause-seated g c kept = search rules

@@ -13,7 +13,7 @@ returns-in-Err-Failed-clause-met g c =
     let many = ap length seats in
     let newest : own.newest ≡ c.args.company.now.newest = search rules in
     let lost : own.lost ≡ c.args.company.now.lost = search rules in
-    failed_met more c.wait.ensures.got given c.wait.ensures.later (record { links = omega (arith, many, guests); fewer = λ k. let e = ap (seats_under k) seats in omega (arith, e); newest = newest }) lost
+    failed_met refl more c.wait.ensures.got given c.wait.ensures.later (record { links = omega (arith, many, guests); fewer = λ k. let e = ap (seats_under k) seats in omega (arith, e); newest = newest }) lost
 
 pub returns-in-Err-Memory-clause-met : goal.returns-in-Err-Memory-clause-met
 returns-in-Err-Memory-clause-met g c =

@@ -1,9 +1,13 @@
-use Rattle.std.proofs.Common.{◌≡◌, ◌∙◌, None, Some, ap, sym, subst}
+use Rattle.std.proofs.Common.{None, Some, [], ap, refl, subst, sym, ◌++◌, ◌∙◌, ◌∷◌, ◌≡◌}
 use Rattle.flow_types.specs.declared.numbers.LinkNo.{LinkNo}
 use Rattle.desk.specs.State.{DeskState}
 use Rattle.local_run.specs.Underway.{IsSurePool}
 use Rattle.wq_run.specs.Seats.{Manned, Meets, inside_of, with_hand}
 use Rattle.wq_run.proofs.Companies.{leave_asks, parted_left, parted_still}
+use Rattle.local_run.specs.Losses.{SparesAll}
+use Rattle.peers.specs.States.{PeerState}
+use Rattle.wq_run.proofs.Fares.{leaves_spare, spares_same}
+use Rattle.wq_run.proofs.Duly.{due_part, fine_before}
 use Rattle.wq_run.proofs.company.parting.part.Goals as goal
 use Rattle.wq_run.proofs.company.parting.part.Goals.{then-works, else-works}
 
@@ -27,3 +31,20 @@ pub returns-clause-met : goal.returns-clause-met
 returns-clause-met g c =
     subst (λ (l : LinkNo). Meets (g.H.Hall.count c.args.hall.now) (g.H.Hall.count c.hand_back.new.hall) (g.H.Hall.got c.args.hall.now) (g.H.Hall.got c.hand_back.new.hall) (g.H.Hall.given c.args.hall.now) (g.H.Hall.given c.hand_back.new.hall) (g.H.Hall.idle_count c.args.hall.now) (g.H.Hall.idle_count c.hand_back.new.hall)
     (with_hand (Some l) (inside_of c.args.company.now)) (inside_of c.hand_back.new.company) c.args.company.now.failed c.hand_back.new.company.failed c.args.company.now.lost c.hand_back.new.company.lost) (c.link-link.ensures ∙ c.abandon.ensures.stays.link) c.hand_back.ensures.met
+
+pub returns-clause-due : goal.returns-clause-due
+returns-clause-due g c limit tells before behind are cause =
+    let link = c.link-link.ensures ∙ c.abandon.ensures.stays.link in
+    let left : SparesAll c.abandon.new.desk.moves c.if-works.desk.moves = elim c.if-works.branch [
+      | then-works w ↦ subst (λ (d : DeskState g.row.S.Denot). SparesAll c.abandon.new.desk.moves d.moves) (sym w.desk-is) (leaves_spare c.abandon.new.desk w.leave.new.desk c.link-link.result w.leave.ensures.reply)
+      | else-works w ↦ subst (λ (d : DeskState g.row.S.Denot). SparesAll c.abandon.new.desk.moves d.moves) (sym w.desk-is) (spares_same _ _ refl)
+    ] in
+    let way : c.into_way-way.result ≡ c.args.seat.peer.way = c.into_way-way.ensures ∙ ap (λ (p : PeerState g.row.H-Way.Denot). p.way) (c.into_peer.ensures ∙ c.abandon.ensures.peer) in
+    due_part _ _ before c.args.seat behind refl (c.hand_back.ensures.seats ∙ are) c.abandon.ensures.gives_up left
+    (λ fine. fine_before c.args.company.now.failed c.hand_back.new.company.failed c.hand_back.ensures.met.stays fine)
+    (λ kept. (
+      (c.hand_back.ensures.met.counted kept).0,
+      subst (λ (l : LinkNo). g.H.Hall.got c.hand_back.new.hall ≡ g.H.Hall.got c.args.hall.now ++ ((Some l, c.args.seat.peer.way) ∷ [])) link
+          (subst (λ (x : g.row.H-Way.Denot). g.H.Hall.got c.hand_back.new.hall ≡ g.H.Hall.got c.args.hall.now ++ ((Some c.link-link.result, x) ∷ [])) way (c.hand_back.ensures.back kept)),
+    ))
+    cause

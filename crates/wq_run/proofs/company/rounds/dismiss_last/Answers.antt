@@ -1,9 +1,10 @@
-use Rattle.std.proofs.Common.{rules, ◌≡◌, ◌∙◌, ◌++◌, ◌∷◌, [], Some, ap, sym, arith, length, length-append}
+use Rattle.std.proofs.Common.{Some, [], ap, arith, length, length-append, rules, sym, ◌++◌, ◌∙◌, ◌∷◌, ◌≡◌}
 use Rattle.std.proofs.lemmas.List.{append-nil}
 use Rattle.flow_types.specs.declared.numbers.LinkNo.{LinkNo}
 use Rattle.wq_run.specs.Seats.{one_under, seats_under}
 use Rattle.wq_run.proofs.Companies.{last_is, last_parts, met_then, still_met}
 use Rattle.wq_run.proofs.Counting.{seated_split}
+use Rattle.wq_run.proofs.Duly.{due_from, due_last, due_none}
 use Rattle.wq_run.proofs.company.rounds.dismiss_last.Goals as goal
 
 pub part-requires-clause-parting : goal.part-requires-clause-parting
@@ -51,3 +52,18 @@ returns-in-None-clause-met g c =
       fewer = λ k. let old = ap (seats_under k) are in let none = ap (seats_under k) (append-nil c.pop.new.self.items) in omega (arith, old, none);
       newest = newest;
     }) failed lost
+
+pub returns-in-Some-clause-due : goal.returns-in-Some-clause-due
+returns-in-Some-clause-due g c limit tells stopped =
+    let are : c.args.company.now.seats ≡ c.pop.new.self.items ++ (c.in-Some.seat ∷ []) = search rules in
+    let failed : c.company.inside.failed ≡ c.args.company.now.failed = search rules in
+    let lost : c.company.inside.lost ≡ c.args.company.now.lost = search rules in
+    let apart = c.part.ensures.due limit tells c.pop.new.self.items [] (sym (append-nil c.pop.new.self.items)) (λ none fine kept. absurd (stopped none (sym failed ∙ fine) (sym lost ∙ kept))) in
+    due_last _ _ (length c.pop.new.self.items) (λ none fine kept. stopped none (sym failed ∙ fine) (sym lost ∙ kept)) apart
+
+pub returns-in-None-clause-due : goal.returns-in-None-clause-due
+returns-in-None-clause-due g c limit tells stopped =
+    let are : c.args.company.now.seats ≡ c.pop.new.self.items ++ [] = search rules in
+    let failed : c.company.inside.failed ≡ c.args.company.now.failed = search rules in
+    let lost : c.company.inside.lost ≡ c.args.company.now.lost = search rules in
+    due_from _ _ (sym (are ∙ append-nil c.pop.new.self.items)) failed lost (due_none _ _)

@@ -1,5 +1,9 @@
-use Rattle.std.proofs.Common.{rules, ◌≡◌, ap, arith, length}
+use Rattle.std.proofs.Common.{List, ap, arith, length, subst, sym, ◌<◌, ◌∙◌}
 use Rattle.wq_run.proofs.Companies.{inside_parts, met_then, still_met, valid_parts}
+use Rattle.local_run.specs.Underway.{IsSurePool}
+use Rattle.wq_run.specs.Dues.{IsIllLink, MayLeaveAt}
+use Rattle.wq_run.specs.Seats.{CompanyState, IsPartingAt, PartsAt, SeatState}
+use Rattle.wq_run.proofs.Duly.{but_left, due_then_left, left_met_as, may_leave}
 use Rattle.wq_run.proofs.company.visits.ask.Goals as goal
 
 pub part_at-requires-clause-valid : goal.part_at-requires-clause-valid
@@ -10,12 +14,13 @@ part_at-requires-clause-valid g c κs within =
 pub part_at-requires-clause-inside : goal.part_at-requires-clause-inside
 part_at-requires-clause-inside g c κs within =
     let is = c.requires.manned in
-    inside_parts (c.in-Err.ensures.manned is.first is.waiting is.heard is.manned)
+    subst (λ (xs : List (SeatState g.row.H-Way.Denot)). c.args.at < length xs) (sym (ap (λ (x : CompanyState g.row.H-Way.Denot). x.seats) c.leaves.ensures.left)) (inside_parts (c.in-Err.ensures.manned is.first is.waiting is.heard is.manned))
 
 pub part_at-requires-clause-parting : goal.part_at-requires-clause-parting
 part_at-requires-clause-parting g c κs within =
     let is = c.requires.manned in
-    record { first = is.first; waiting = is.waiting; heard = is.heard; parts = c.in-Err.ensures.manned is.first is.waiting is.heard is.manned }
+    subst (λ (xs : List (SeatState g.row.H-Way.Denot)). IsPartingAt g.T.Terms.trust g.F.Commands.gives g.F.Commands.may_fail g.T.Terms.sources g.S.Site.tells g.T.Terms.kept (IsSurePool g.B.Terms.fits) g.S.Site.files g.S.Site.may_leave g.S.Site.moment g.S.Site.images_since c.claim_at.new.desk c.claim_at.new.held xs c.args.at) (sym (ap (λ (x : CompanyState g.row.H-Way.Denot). x.seats) c.leaves.ensures.left))
+    (record { first = is.first; waiting = is.waiting; heard = is.heard; parts = c.in-Err.ensures.manned is.first is.waiting is.heard is.manned })
 
 pub returns-in-Ok-clause-met : goal.returns-in-Ok-clause-met
 returns-in-Ok-clause-met g c =
@@ -24,10 +29,25 @@ returns-in-Ok-clause-met g c =
     still_met (record { links = omega (arith, many, guests); fewer = λ k. let e = c.claim_at.ensures.numbers k in omega (arith, e); newest = c.claim_at.ensures.newest }) c.claim_at.ensures.failed c.claim_at.ensures.lost
 
 pub returns-in-Err-clause-manned : goal.returns-in-Err-clause-manned
-returns-in-Err-clause-manned g c first waiting heard m = c.part_at.ensures.manned first waiting heard (c.in-Err.ensures.manned first waiting heard m)
+returns-in-Err-clause-manned g c first waiting heard m =
+    c.part_at.ensures.manned first waiting heard
+    (subst (λ (xs : List (SeatState g.row.H-Way.Denot)). PartsAt g.T.Terms.trust g.F.Commands.gives g.F.Commands.may_fail g.T.Terms.sources g.S.Site.tells g.T.Terms.kept (IsSurePool g.B.Terms.fits) g.S.Site.files g.S.Site.may_leave g.S.Site.moment g.S.Site.images_since first c.claim_at.new.desk c.claim_at.new.held waiting heard xs c.args.at) (sym (ap (λ (x : CompanyState g.row.H-Way.Denot). x.seats) c.leaves.ensures.left)) (c.in-Err.ensures.manned first waiting heard m))
 
 pub returns-in-Err-clause-met : goal.returns-in-Err-clause-met
 returns-in-Err-clause-met g c =
     let many = c.claim_at.ensures.many in
     let guests = ap length c.claim_at.ensures.guests in
-    met_then (still_met (record { links = omega (arith, many, guests); fewer = λ k. let e = c.claim_at.ensures.numbers k in omega (arith, e); newest = c.claim_at.ensures.newest }) c.claim_at.ensures.failed c.claim_at.ensures.lost) c.part_at.ensures.met
+    met_then (still_met (record { links = omega (arith, many, guests); fewer = λ k. let e = c.claim_at.ensures.numbers k in omega (arith, e); newest = c.claim_at.ensures.newest }) c.claim_at.ensures.failed c.claim_at.ensures.lost) (met_then (left_met_as c.in-Err.leave c.claim_at.new.company c.leaves.new.self c.leaves.ensures.left) c.part_at.ensures.met)
+
+pub returns-in-Ok-clause-due : goal.returns-in-Ok-clause-due
+returns-in-Ok-clause-due g c limit tells = c.in-Ok.ensures.due limit tells _
+
+pub returns-in-Err-clause-due : goal.returns-in-Err-clause-due
+returns-in-Err-clause-due g c limit tells =
+    let was = c.claim_at.new.company in
+    let left = c.leaves.ensures.left in
+    let dues = c.in-Err.ensures.due limit tells in
+    due_then_left _ _ c.args.at (λ before first due. but_left _ _ c.claim_at.new.desk.moves first c.claim_at.new.held.halt (g.H.Hall.got c.args.hall.now) before c.args.at c.in-Err.leave was c.leaves.new.self left (dues.goes (g.H.Hall.got c.args.hall.now) before first due))
+    (c.part_at.ensures.due limit tells (λ none fine kept.
+    subst (MayLeaveAt (IsIllLink g.F.Commands.gives g.F.Commands.may_fail g.H.Way.Link.history g.H.Way.Link.count g.H.Way.Link.idle_count g.H.Way.Link.is_closed limit) c.claim_at.new.desk.moves c.args.at) (sym (ap (λ (x : CompanyState g.row.H-Way.Denot). x.seats) c.leaves.ensures.left))
+    (may_leave _ g.H.Way.Link.history c.claim_at.new.desk.moves c.args.at was.seats c.in-Err.leave was.lost (dues.leaves none) (sym (ap (λ (x : CompanyState g.row.H-Way.Denot). x.lost) left) ∙ kept))))

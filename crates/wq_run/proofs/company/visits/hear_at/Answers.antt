@@ -1,10 +1,11 @@
-use Rattle.std.proofs.Common.{rules, ◌≡◌, List, Some, ◌∙◌, ap, sym, length}
+use Rattle.std.proofs.Common.{List, Some, ap, length, rules, sym, ◌∙◌, ◌≡◌}
 use Rattle.std.specs.Prelude.{slice_get, slice_set}
 use Rattle.local_run.specs.Underway.{IsSurePool}
 use Rattle.wq_run.specs.Seats.{SeatState, seats_under}
 use Rattle.wq_run.proofs.Companies.{got_at, link_stays, set_many, set_seated, visited}
 use Rattle.wq_run.proofs.Splits.{split_at}
 use Rattle.wq_run.proofs.Visits.{visit_at}
+use Rattle.wq_run.proofs.Duly.{due_as, due_none, dues_at}
 use Rattle.wq_run.proofs.company.visits.hear_at.Goals as goal
 
 pub serve-requires-clause-at : goal.serve-requires-clause-at
@@ -45,3 +46,15 @@ returns-clause-failed g c = search rules
 
 pub returns-clause-lost : goal.returns-clause-lost
 returns-clause-lost g c = search rules
+
+pub returns-clause-due : goal.returns-clause-due
+returns-clause-due g c tells =
+    let are : c.company.inside.seats.items ≡ c.args.company.now.seats = search rules in
+    let there : slice_get c.args.company.now.seats c.args.at ≡ Some c.in-Some.seat.now =
+    ap (λ (xs : List (SeatState g.row.H-Way.Denot)). slice_get xs c.args.at) (sym are) ∙ got_at c.company.inside.seats.items c.args.at c.in-Some.seat.now c.in-Some.ensures.item.0 c.in-Some.ensures.item.1 in
+    let split = split_at c.args.company.now.seats c.args.at c.in-Some.seat.now there in
+    dues_at _ _ _ _ c.args.at split.before c.in-Some.seat.now c.serve.new.self split.behind c.serve.result split.place split.are
+    (ap (λ (xs : List (SeatState g.row.H-Way.Denot)). slice_set xs c.args.at c.serve.new.self) are ∙ split.set c.serve.new.self) (search rules) (search rules) (c.serve.ensures.fares tells)
+
+pub returns-in_default-clause-due : goal.returns-in_default-clause-due
+returns-in_default-clause-due g c tells = λ got. due_as _ _ (sym c.company.view_is) (due_none _ _)

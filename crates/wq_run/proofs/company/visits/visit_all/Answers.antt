@@ -1,7 +1,7 @@
-use Rattle.std.proofs.Common.{rules, ◌≡◌}
 use Rattle.local_run.specs.Underway.{IsSurePool}
 use Rattle.wq_run.proofs.Companies.{is_then, met_then, same_met, valid_then}
 use Rattle.wq_run.proofs.Trusts.{of_manned}
+use Rattle.wq_run.proofs.Duly.{due_none, due_then}
 use Rattle.wq_run.proofs.company.visits.visit_all.Goals as goal
 
 pub loop-at-init : goal.loop-at-init
@@ -9,6 +9,7 @@ loop-at-init g c = record {
   manned = λ first waiting heard m. m;
   listens = λ is. is;
   met = same_met;
+  due = λ tells. due_none _ _;
 }
 
 pub visit-requires-clause-valid : goal.visit-requires-clause-valid
@@ -25,4 +26,5 @@ loop-at-preserved g c = record {
   manned = λ first waiting heard m. c.visit.ensures.manned first waiting heard (c.loop-at.invariant.manned first waiting heard m);
   listens = λ is. c.visit.ensures.listens (c.loop-at.invariant.listens is);
   met = met_then c.loop-at.invariant.met c.visit.ensures.met;
+  due = λ tells. due_then _ _ (c.loop-at.invariant.due tells) (c.visit.ensures.due tells);
 }

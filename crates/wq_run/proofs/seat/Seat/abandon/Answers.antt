@@ -1,11 +1,16 @@
-use Rattle.std.proofs.Common.{◌∙◌, ◌∷◌, ◌++◌, [], Result, ap, refl, subst, sym}
+use Rattle.std.proofs.Common.{Result, [], ap, refl, subst, sym, ◌++◌, ◌∙◌, ◌∷◌, ◌≡◌}
 use Rattle.flow_types.specs.Plans.{IsValid}
 use Rattle.local_run.specs.declared.halt.Halt.{Halt}
 use Rattle.local_run.specs.Beyond.{lost_by}
 use Rattle.local_run.specs.Underway.{HeldState, IsSurePool, halt_after}
-use Rattle.wq_run.specs.Seats.{AtPlace, SeatState}
+use Rattle.wq_run.specs.Seats.{AreOn, AtPlace, SeatState}
 use Rattle.wq_run.proofs.Closes.{away_from, runs}
 use Rattle.wq_run.proofs.Steps.{last_place, last_stays}
+use Rattle.std.specs.Prelude.{OnOk}
+use Rattle.flow_types.specs.declared.numbers.LinkNo.{LinkNo}
+use Rattle.local_run.specs.Losses.{LosesIt}
+use Rattle.wq_run.proofs.Places.{on_at}
+use Rattle.wq_run.proofs.Fares.{gives_halted, gives_then, loses_gives}
 use Rattle.wq_run.proofs.seat.Seat.abandon.Goals as goal
 
 pub lose_away-requires-clause-valid : goal.lose_away-requires-clause-valid
@@ -39,6 +44,7 @@ loop-attempt-preserved-in-Err g c = record {
       record { live = λ k lives. st.live k (c.loop-attempt.invariant.stays.live k lives); link = st.link ∙ c.loop-attempt.invariant.stays.link }
       );
   peer = sym (ap (λ (s : SeatState g.row.L.Denot). s.peer) c.in-Some.ensures.some) ∙ c.loop-attempt.invariant.peer;
+  gives_up = gives_halted c.in-Err.why (ap (λ (h : HeldState). h.halt) c.stop.ensures);
 }
 
 pub loop-attempt-preserved : goal.loop-attempt-preserved
@@ -53,6 +59,13 @@ loop-attempt-preserved g c = record {
       record { live = λ k lives. st.live k (c.loop-attempt.invariant.stays.live k lives); link = st.link ∙ c.loop-attempt.invariant.stays.link }
       );
   peer = sym (ap (λ (s : SeatState g.row.L.Denot). s.peer) c.in-Some.ensures.some) ∙ c.loop-attempt.invariant.peer;
+  gives_up = gives_then c.loop-attempt.invariant.gives_up
+      (let split : c.loop-attempt.self.attempts ≡ c.pop.new.self.attempts ++ (c.in-Some.attempt ∷ []) = ap (λ (s : SeatState g.row.L.Denot). s.attempts) c.in-Some.ensures.some in
+      let is = c.requires.at in
+      let now = c.loop-attempt.invariant.keeps is.front is.back is.first is.waiting is.heard is.at in
+      let on = on_at c.loop-attempt.self.link.0 c.pop.new.self.attempts c.in-Some.attempt [] (subst (AreOn c.loop-attempt.self.link.0) split now.place.there) in
+      loses_gives c.loop-attempt.desk.moves c.lose_away.new.desk.moves c.args.self.now.link.0 c.in-Some.attempt c.loop-attempt.held.halt (on ∙ ap (λ (k : LinkNo). k.0) c.loop-attempt.invariant.stays.link)
+      (subst (λ (r : Result (Unit {0}) Halt). OnOk r (LosesIt c.loop-attempt.desk.moves c.in-Some.attempt c.lose_away.new.desk.moves)) c.in_default-lose_away.is c.lose_away.ensures.loses));
 }
 
 pub returns-clause-keeps : goal.returns-clause-keeps

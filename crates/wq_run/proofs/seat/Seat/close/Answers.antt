@@ -1,13 +1,19 @@
-use Rattle.std.proofs.Common.{◌∙◌, Option, Result, ap, refl, subst, sym}
+use Rattle.std.proofs.Common.{Result, ap, refl, subst, sym, ℕ, ◌∙◌, ◌≡◌}
 use Rattle.std.specs.List.{AllByRecursion}
 use Rattle.flow_types.specs.Serial.{serial}
 use Rattle.desk.specs.declared.attempt.Attempt.{Attempt}
 use Rattle.local_run.specs.declared.halt.Halt.{Halt}
 use Rattle.local_run.specs.Underway.{HeldState, IsSurePool, halt_after}
-use Rattle.wq_run.specs.Seats.{MayEndAs}
+use Rattle.wq_run.specs.Seats.{AreOn, MayEndAs, SeatState}
 use Rattle.wq_run.specs.Trusted.{EndsDue}
 use Rattle.wq_run.proofs.Closes.{away_from, close_keeps, placed, runs}
-use Rattle.wq_run.proofs.Places.{all_at}
+use Rattle.wq_run.proofs.Places.{all_at, on_at}
+use Rattle.std.specs.Prelude.{OnOk}
+use Rattle.flow_types.specs.declared.numbers.AttemptNo.{AttemptNo}
+use Rattle.links.specs.Passings.{received_in}
+use Rattle.peers.specs.States.{PeerState}
+use Rattle.wq_run.specs.Dues.{AddsSo, EndsWith, GaveBackIf, IsGivenBack}
+use Rattle.wq_run.proofs.Fares.{ends_heard, ends_so, fares_stopped, same_way}
 use Rattle.wq_run.proofs.seat.Seat.close.Goals as goal
 
 pub end_away-requires-clause-runs : goal.end_away-requires-clause-runs
@@ -49,3 +55,34 @@ returns-in_default-clause-keeps g c =
     close_keeps g.T.Terms.trust g.F.Commands.gives g.F.Commands.may_fail g.T.Terms.sources g.S.Site.tells g.T.Terms.kept (IsSurePool g.B.Terms.fits) g.S.Site.files g.S.Site.may_leave g.S.Site.moment g.S.Site.images_since c.args.desk.now c.end_away.new.desk c.args.held.now c.args.held.now c.args.self.now c.take-attempt.new.self c.args.number c.take-attempt.result split.0 split.1 (halt_after c.end_away.result)
     split.2 c.take-attempt.ensures.number split.3 c.requires.gone refl
     (sym (ap (λ (r : Result (Unit {0}) Halt). halt_after r c.args.held.now.halt) c.in_default.is)) c.end_away.ensures.underway c.requires.at
+
+pub returns-in-Err-clause-fares : goal.returns-in-Err-clause-fares
+returns-in-Err-clause-fares g c limit tells =
+    let split = c.take-attempt.ensures.split in
+    fares_stopped c.in-Err.why (ap (λ (s : SeatState g.row.L.Denot). s.link) split.3) (same_way g.L.Link.history c.args.self.now c.take-attempt.new.self (ap (λ (s : SeatState g.row.L.Denot). s.peer.way) split.3)) (ap (λ (h : HeldState). h.halt) c.stop.ensures)
+
+pub returns-in_default-clause-fares : goal.returns-in_default-clause-fares
+returns-in_default-clause-fares g c limit tells =
+    let is = c.requires.at in
+    let split = c.take-attempt.ensures.split in
+    let a = c.take-attempt.result in
+    let peer = ap (λ (s : SeatState g.row.L.Denot). s.peer) split.3 in
+    let on : a.link.0 ≡ c.args.self.now.link.0 = on_at c.args.self.now.link.0 split.0 a split.1 (subst (AreOn c.args.self.now.link.0) split.2 is.at.seat.placed.there) in
+    let up = received_in (g.L.Link.history c.take-attempt.new.self.peer.way) in
+    let back : GaveBackIf up a.number c.args.outcome = subst (λ (n : AttemptNo). GaveBackIf up n c.args.outcome) (sym c.take-attempt.ensures.number)
+    (subst (λ (p : PeerState g.row.L.Denot). GaveBackIf (received_in (g.L.Link.history p.way)) c.args.number c.args.outcome) (sym peer) (c.requires.back tells)) in
+    record {
+      link = ap (λ (s : SeatState g.row.L.Denot). s.link) split.3;
+      comes = same_way g.L.Link.history c.args.self.now c.take-attempt.new.self (ap (λ (p : PeerState g.row.L.Denot). p.way) peer);
+      going = λ none. none;
+      loses = λ none. subst (λ (k : ℕ). AddsSo (IsGivenBack up k) c.args.desk.now.moves c.end_away.new.desk.moves) on
+          (ends_so up c.args.desk.now.moves c.end_away.new.desk.moves a c.args.outcome (subst (λ (r : Result (Unit {0}) Halt). OnOk r (EndsWith c.args.desk.now.moves a c.args.outcome c.end_away.new.desk.moves)) c.in_default.is c.end_away.ensures.adds) back);
+      leaves = λ none. tt;
+      counts = λ none. ends_heard g.L.Link.history c.args.self.now.peer c.take-attempt.new.self.peer c.args.desk.now.moves c.end_away.new.desk.moves a c.args.outcome (subst (λ (r : Result (Unit {0}) Halt). OnOk r (EndsWith c.args.desk.now.moves a c.args.outcome c.end_away.new.desk.moves)) c.in_default.is c.end_away.ensures.adds) (same_way g.L.Link.history c.args.self.now c.take-attempt.new.self (ap (λ (p : PeerState g.row.L.Denot). p.way) peer)) peer;
+    }
+
+pub returns-in-Err-clause-peer : goal.returns-in-Err-clause-peer
+returns-in-Err-clause-peer g c = ap (λ (s : SeatState g.row.L.Denot). s.peer) c.take-attempt.ensures.split.3
+
+pub returns-in_default-clause-peer : goal.returns-in_default-clause-peer
+returns-in_default-clause-peer g c = ap (λ (s : SeatState g.row.L.Denot). s.peer) c.take-attempt.ensures.split.3

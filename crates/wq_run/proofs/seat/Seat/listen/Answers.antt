@@ -1,20 +1,35 @@
-use Rattle.std.proofs.Common.{subst, sym}
+use Rattle.std.proofs.Common.{None, ap, subst, sym, ◌≡◌, ◌∙◌}
 use Rattle.peers.specs.States.{PeerState}
-use Rattle.wq_run.specs.Trusted.{IsTrusted}
+use Rattle.wq_run.specs.Trusted.{IsFair, IsTrusted}
 use Rattle.wq_run.proofs.Trusts.{come_trusted}
+use Rattle.peers.specs.Serves.{Serves}
+use Rattle.wq_run.specs.Dues.{StaysHeard}
+use Rattle.wq_run.specs.Seats.{SeatState}
+use Rattle.wq_run.proofs.Heards.{heard_served}
 use Rattle.wq_run.proofs.seat.Seat.listen.Goals as goal
 
 pub invariant_of-self-in-Ok-Piece : goal.invariant_of-self-in-Ok-Piece
 invariant_of-self-in-Ok-Piece g c ready held =
-    come_trusted g.F.Commands.gives g.F.Commands.may_fail g.L.Link.history g.L.Link.honest g.T.Trust.plan g.T.Trust.run g.T.Trust.due (record { peer = c.ready.new.self; link = c.self.inside.link; attempts = c.self.inside.attempts.items; newest = c.self.inside.newest }) c.listen.new.self (λ said heard waiting honest serves. c.in-Ok-Piece.ensures.serves said heard waiting (c.honest_links_were_honest.ensures c.ready.new.self.way honest).0 serves) c.listen.ensures.on.honestly
-    (subst (λ (p : PeerState g.row.L.Denot). IsTrusted g.F.Commands.gives g.F.Commands.may_fail g.L.Link.history g.L.Link.honest g.T.Trust.plan g.T.Trust.run g.T.Trust.due (record { peer = p; link = c.self.inside.link; attempts = c.self.inside.attempts.items; newest = c.self.inside.newest })) (sym c.ready.ensures) (c.self.invariant ready held))
-
-pub invariant_of-self-then-not-is_empty : goal.invariant_of-self-then-not-is_empty
-invariant_of-self-then-not-is_empty g c ready held =
-    come_trusted g.F.Commands.gives g.F.Commands.may_fail g.L.Link.history g.L.Link.honest g.T.Trust.plan g.T.Trust.run g.T.Trust.due (record { peer = c.ready.new.self; link = c.self.inside.link; attempts = c.self.inside.attempts.items; newest = c.self.inside.newest }) c.listen.new.self (λ said heard waiting honest serves. c.in-Ok-Idle.ensures.serves said heard waiting (c.honest_links_were_honest.ensures c.ready.new.self.way honest).0 serves) c.listen.ensures.on.honestly
-    (subst (λ (p : PeerState g.row.L.Denot). IsTrusted g.F.Commands.gives g.F.Commands.may_fail g.L.Link.history g.L.Link.honest g.T.Trust.plan g.T.Trust.run g.T.Trust.due (record { peer = p; link = c.self.inside.link; attempts = c.self.inside.attempts.items; newest = c.self.inside.newest })) (sym c.ready.ensures) (c.self.invariant ready held))
+    come_trusted g.T.Trust.holds g.F.Commands.gives g.F.Commands.may_fail g.L.Link.history (IsFair g.T.Trust.holds g.L.Link.tells g.L.Link.honest) g.T.Trust.plan g.T.Trust.run g.T.Trust.due (record { peer = c.ready.new.self; link = c.self.inside.link; attempts = c.self.inside.attempts.items; newest = c.self.inside.newest }) c.listen.new.self (λ said heard waiting honest serves. c.in-Ok-Piece.ensures.serves said heard waiting honest.0 serves) (λ fair. (fair.0, λ held. c.listen.ensures.on.honestly (fair.1 held)))
+    (subst (λ (p : PeerState g.row.L.Denot). IsTrusted g.T.Trust.holds g.F.Commands.gives g.F.Commands.may_fail g.L.Link.history (IsFair g.T.Trust.holds g.L.Link.tells g.L.Link.honest) g.T.Trust.plan g.T.Trust.run g.T.Trust.due (record { peer = p; link = c.self.inside.link; attempts = c.self.inside.attempts.items; newest = c.self.inside.newest })) (sym c.ready.ensures) (c.self.invariant ready held))
 
 pub invariant_of-self-in-Ok-Idle : goal.invariant_of-self-in-Ok-Idle
 invariant_of-self-in-Ok-Idle g c ready held =
-    come_trusted g.F.Commands.gives g.F.Commands.may_fail g.L.Link.history g.L.Link.honest g.T.Trust.plan g.T.Trust.run g.T.Trust.due (record { peer = c.ready.new.self; link = c.self.inside.link; attempts = c.self.inside.attempts.items; newest = c.self.inside.newest }) c.listen.new.self (λ said heard waiting honest serves. c.in-Ok-Idle.ensures.serves said heard waiting (c.honest_links_were_honest.ensures c.ready.new.self.way honest).0 serves) c.listen.ensures.on.honestly
-    (subst (λ (p : PeerState g.row.L.Denot). IsTrusted g.F.Commands.gives g.F.Commands.may_fail g.L.Link.history g.L.Link.honest g.T.Trust.plan g.T.Trust.run g.T.Trust.due (record { peer = p; link = c.self.inside.link; attempts = c.self.inside.attempts.items; newest = c.self.inside.newest })) (sym c.ready.ensures) (c.self.invariant ready held))
+    come_trusted g.T.Trust.holds g.F.Commands.gives g.F.Commands.may_fail g.L.Link.history (IsFair g.T.Trust.holds g.L.Link.tells g.L.Link.honest) g.T.Trust.plan g.T.Trust.run g.T.Trust.due (record { peer = c.ready.new.self; link = c.self.inside.link; attempts = c.self.inside.attempts.items; newest = c.self.inside.newest }) c.listen.new.self (λ said heard waiting honest serves. c.in-Ok-Idle.ensures.serves said heard waiting honest.0 serves) (λ fair. (fair.0, λ held. c.listen.ensures.on.honestly (fair.1 held)))
+    (subst (λ (p : PeerState g.row.L.Denot). IsTrusted g.T.Trust.holds g.F.Commands.gives g.F.Commands.may_fail g.L.Link.history (IsFair g.T.Trust.holds g.L.Link.tells g.L.Link.honest) g.T.Trust.plan g.T.Trust.run g.T.Trust.due (record { peer = p; link = c.self.inside.link; attempts = c.self.inside.attempts.items; newest = c.self.inside.newest })) (sym c.ready.ensures) (c.self.invariant ready held))
+
+pub returns-in-Ok-Piece-clause-heard : goal.returns-in-Ok-Piece-clause-heard
+returns-in-Ok-Piece-clause-heard g c tells trusted =
+    let same : c.ready.new.self ≡ c.args.self.now.peer = c.ready.ensures ∙ ap (λ (s : SeatState g.row.L.Denot). s.peer) c.self.view_is in
+    let was = trusted.spoken.serves in
+    let serves = subst (λ (p : PeerState g.row.L.Denot). Serves g.F.Commands.gives g.F.Commands.may_fail (g.L.Link.history p.way) p.feed p.session trusted.said trusted.heard None) (sym same) was in
+    subst (λ (p : PeerState g.row.L.Denot). StaysHeard g.L.Link.history p c.listen.new.self) same
+    (heard_served g.L.Link.history g.F.Commands.gives g.F.Commands.may_fail c.ready.new.self c.listen.new.self trusted.said trusted.heard None (c.listen.ensures.kept tells) serves (c.in-Ok-Piece.ensures.serves trusted.said trusted.heard None tells serves))
+
+pub returns-in-Ok-Idle-clause-heard : goal.returns-in-Ok-Idle-clause-heard
+returns-in-Ok-Idle-clause-heard g c tells trusted =
+    let same : c.ready.new.self ≡ c.args.self.now.peer = c.ready.ensures ∙ ap (λ (s : SeatState g.row.L.Denot). s.peer) c.self.view_is in
+    let was = trusted.spoken.serves in
+    let serves = subst (λ (p : PeerState g.row.L.Denot). Serves g.F.Commands.gives g.F.Commands.may_fail (g.L.Link.history p.way) p.feed p.session trusted.said trusted.heard None) (sym same) was in
+    subst (λ (p : PeerState g.row.L.Denot). StaysHeard g.L.Link.history p c.listen.new.self) same
+    (heard_served g.L.Link.history g.F.Commands.gives g.F.Commands.may_fail c.ready.new.self c.listen.new.self trusted.said trusted.heard None (c.listen.ensures.kept tells) serves (c.in-Ok-Idle.ensures.serves trusted.said trusted.heard None tells serves))

@@ -1,10 +1,12 @@
-use Rattle.std.proofs.Common.{◌∙◌, ap}
+use Rattle.std.proofs.Common.{ap, refl, ◌∙◌}
 use Rattle.local_run.specs.Underway.{IsSurePool}
 use Rattle.wq_frames.specs.Streams.{Stream}
-use Rattle.wq_run.proofs.Asks.{keeps_still}
+use Rattle.wq_run.proofs.Asks.{keeps_same, keeps_still}
 use Rattle.wq_run.proofs.Shares.{keeps_then, leaves_then}
 use Rattle.wq_run.proofs.Steps.{after_kept, after_then, at_then}
 use Rattle.wq_run.proofs.Trusts.{of_seat}
+use Rattle.wq_run.proofs.Fares.{fares_same, fares_still, fares_then, send_leaves}
+use Rattle.wq_run.proofs.Heards.{heard_fed, ok_with}
 use Rattle.wq_run.proofs.seat.Seat.provide.Goals as goal
 
 pub put-requires-clause-at : goal.put-requires-clause-at
@@ -13,12 +15,14 @@ put-requires-clause-at g c κs within = at_then g.T.Terms.trust g.F.Commands.giv
 pub returns-in-Err : goal.returns-in-Err
 returns-in-Err g c = record {
   keeps = leaves_then g.T.Terms.trust g.F.Commands.gives g.F.Commands.may_fail g.T.Terms.sources g.S.Site.tells g.T.Terms.kept (IsSurePool g.B.Terms.fits) g.S.Site.files g.S.Site.may_leave g.S.Site.moment g.S.Site.images_since c.args.desk.now c.loop-file.desk c.put.new.desk c.args.held.now c.loop-file.held c.put.new.held c.args.self.now c.loop-file.self c.put.new.self c.loop-file.invariant.keeps c.in-Err.ensures.keeps;
+  fares = λ limit tells. fares_then (c.loop-file.invariant.fares limit tells) (c.in-Err.ensures.fares limit tells);
 }
 
 pub loop-file-preserved : goal.loop-file-preserved
 loop-file-preserved g c = record {
   keeps = keeps_then g.T.Terms.trust g.F.Commands.gives g.F.Commands.may_fail g.T.Terms.sources g.S.Site.tells g.T.Terms.kept (IsSurePool g.B.Terms.fits) g.S.Site.files g.S.Site.may_leave g.S.Site.moment g.S.Site.images_since c.args.desk.now c.loop-file.desk c.put.new.desk c.args.held.now c.loop-file.held c.put.new.held c.args.self.now c.loop-file.self c.put.new.self c.loop-file.invariant.keeps c.in-Ok.ensures.keeps;
   asks = λ held. c.in-Ok.ensures.asks c.args.task held (c.loop-file.invariant.asks held);
+  fares = λ limit tells. fares_then (c.loop-file.invariant.fares limit tells) (c.in-Ok.ensures.fares limit tells);
 }
 
 pub returns : goal.returns
@@ -27,7 +31,14 @@ returns g c = record {
       (after_kept g.T.Terms.trust g.F.Commands.gives g.F.Commands.may_fail g.T.Terms.sources g.S.Site.tells g.T.Terms.kept (IsSurePool g.B.Terms.fits) g.S.Site.files g.S.Site.may_leave g.S.Site.moment g.S.Site.images_since c.loop-file.desk c.loop-file.desk c.loop-file.held c.loop-file.held c.loop-file.self c.ask.new.self c.ask.result
       (keeps_still g.T.Terms.trust g.F.Commands.gives g.F.Commands.may_fail g.T.Terms.sources g.S.Site.tells g.T.Terms.kept (IsSurePool g.B.Terms.fits) g.S.Site.files g.S.Site.may_leave g.S.Site.moment g.S.Site.images_since c.loop-file.desk c.loop-file.desk c.loop-file.held c.loop-file.held c.loop-file.self c.ask.new.self c.ask.ensures.link c.ask.ensures.attempts c.ask.ensures.session (λ was. ap (λ (x : Stream). x.stop) c.ask.ensures.feed ∙ was) (λ away first waiting heard u. u)
       (at_then g.T.Terms.trust g.F.Commands.gives g.F.Commands.may_fail g.T.Terms.sources g.S.Site.tells g.T.Terms.kept (IsSurePool g.B.Terms.fits) g.S.Site.files g.S.Site.may_leave g.S.Site.moment g.S.Site.images_since c.args.desk.now c.loop-file.desk c.args.held.now c.loop-file.held c.args.self.now c.loop-file.self c.requires.at c.loop-file.invariant.keeps)));
+  fares = λ limit tells. fares_then (c.loop-file.invariant.fares limit tells)
+      (fares_still c.ask.ensures.link (c.ask.ensures.comes tells) refl refl
+      (send_leaves g.F.Commands.gives g.F.Commands.may_fail g.L.Link.history g.L.Link.count g.L.Link.idle_count g.L.Link.is_closed limit c.loop-file.desk.moves (g.L.Link.count c.loop-file.self.peer.way) c.ask.new.self c.ask.result c.ask.ensures.cause)
+      (ok_with c.ask.result _ (heard_fed g.L.Link.history c.loop-file.self.peer c.ask.new.self.peer (c.ask.ensures.comes tells) c.ask.ensures.feed)));
 }
 
 pub put-requires-clause-of : goal.put-requires-clause-of
 put-requires-clause-of g c κs within = of_seat g.T.Terms.trust g.F.Commands.gives g.F.Commands.may_fail g.T.Terms.sources g.S.Site.tells g.T.Terms.kept (IsSurePool g.B.Terms.fits) g.S.Site.files g.S.Site.may_leave g.S.Site.moment g.S.Site.images_since g.T.Trust.holds g.T.Trust.plan g.T.Trust.run g.T.Trust.due c.args.desk.now c.loop-file.desk c.args.held.now c.loop-file.held c.args.self.now c.loop-file.self c.requires.at c.loop-file.invariant.keeps c.requires.of
+
+pub loop-file-init : goal.loop-file-init
+loop-file-init g c = record { keeps = keeps_same g.T.Terms.trust g.F.Commands.gives g.F.Commands.may_fail g.T.Terms.sources g.S.Site.tells g.T.Terms.kept (IsSurePool g.B.Terms.fits) g.S.Site.files g.S.Site.may_leave g.S.Site.moment g.S.Site.images_since c.args.desk.now c.args.held.now c.args.self.now; asks = c.requires.asks; fares = λ limit tells. fares_same }

@@ -1,3 +1,5 @@
+use Rattle.peers.specs.declared.leave.Leave.{Leave}
+use Rattle.wq_run.specs.Dues.{FaresSeat, IsIllLink, ended}
 use Rattle.local_run.specs.Underway.{IsSurePool}
 use Rattle.wq_run.specs.Seats.{KeepsSeat}
 use Rattle.wq_run.proofs.seat.Seat.serve.Given as goal
@@ -5,4 +7,5 @@ use Rattle.wq_run.proofs.seat.Seat.serve.Given as goal
 abbrev pub invariant-loop : goal.invariant-loop
 invariant-loop g l = record {
   keeps : KeepsSeat g.T.Terms.trust g.F.Commands.gives g.F.Commands.may_fail g.T.Terms.sources g.S.Site.tells g.T.Terms.kept (IsSurePool g.B.Terms.fits) g.S.Site.files g.S.Site.may_leave g.S.Site.moment g.S.Site.images_since l.fn.desk l.desk l.fn.held l.held l.fn.self l.self;
+  fares : g.L.Link.tells → FaresSeat (IsIllLink g.F.Commands.gives g.F.Commands.may_fail g.L.Link.history g.L.Link.count g.L.Link.idle_count g.L.Link.is_closed l.fn.limit) g.L.Link.history l.fn.desk.moves l.desk.moves l.fn.held.halt l.held.halt l.fn.self l.self (ended Leave);
 }

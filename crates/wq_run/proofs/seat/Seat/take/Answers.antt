@@ -4,6 +4,7 @@ use Rattle.std.specs.List.{position}
 use Rattle.desk.specs.declared.attempt.Attempt.{Attempt}
 use Rattle.local_run.proofs.PlacesClosed.{held_found, taken_at}
 use Rattle.wq_run.specs.Seats.{SeatState}
+use Rattle.wq_run.specs.Trusted.{IsFair}
 use Rattle.wq_run.proofs.Trusts.{take_trusted}
 use Rattle.wq_run.proofs.seat.Seat.take.Goals as goal
 
@@ -21,4 +22,4 @@ returns-clause-number g c =
 pub invariant_of-self : goal.invariant_of-self
 invariant_of-self g c ready held =
     let behind : c.remove.new.self.items ≡ remove c.self.inside.attempts.items c.in-Some.at = search rules in
-    take_trusted g.F.Commands.gives g.F.Commands.may_fail g.L.Link.history g.L.Link.honest g.T.Trust.plan g.T.Trust.run g.T.Trust.due (record { peer = c.self.inside.peer; link = c.self.inside.link; attempts = c.self.inside.attempts.items; newest = c.self.inside.newest }) c.remove.new.self.items c.in-Some.at behind (c.self.invariant ready held)
+    take_trusted g.T.Trust.holds g.F.Commands.gives g.F.Commands.may_fail g.L.Link.history (IsFair g.T.Trust.holds g.L.Link.tells g.L.Link.honest) g.T.Trust.plan g.T.Trust.run g.T.Trust.due (record { peer = c.self.inside.peer; link = c.self.inside.link; attempts = c.self.inside.attempts.items; newest = c.self.inside.newest }) c.remove.new.self.items c.in-Some.at behind (c.self.invariant ready held)
