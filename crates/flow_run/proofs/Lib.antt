@@ -1,4 +1,5 @@
 pub mod Stops
 pub mod Losses
+pub mod Dues
 pub mod Placed
 mod Reliance

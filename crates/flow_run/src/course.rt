@@ -8,6 +8,7 @@ ghost use Rattle.run_history.specs.declared.moves.Move.{Move};
 ghost use Rattle.run_history.specs.Answers.{before_end, end_over};
 ghost use Rattle.run_history.specs.Legal.{most_records};
 ghost use Rattle.run_history.specs.Links.{records_of};
+ghost use Rattle.run_history.specs.Moves.{joins_and_changes};
 ghost use Rattle.run_history.specs.Storage.{running_rules};
 ghost use Rattle.worker_pool.specs.Crews.{AllSure, AllTell};
 ghost use Rattle.desk.specs.State.{IsFine};
@@ -17,6 +18,7 @@ ghost use Rattle.local_run.specs.Ends.{BeganOver, FitsHere, HasFailed, IsApart, 
 ghost use Rattle.local_run.specs.Ends.{IsFresh, IsRunEnd, IsSureEnd, IsWholeRun, LogsFailures};
 ghost use Rattle.local_run.specs.Ends.{RunDamage, records_due};
 ghost use Rattle.local_run.specs.Runs.{IsClosedRun, IsCutRun, IsHallEnd, LosesNone, ended_by};
+ghost use Rattle.wq_run.specs.Losses.{AreDueLosses};
 ghost use Rattle.wq_run.specs.Trusted.{IsOf};
 ghost use Rattle.wq_run.specs.Ends.{AreBack, EndsHere, IsSparedRunners, LosesOnLinks, StopsBy};
 
@@ -95,6 +97,11 @@ pub fn work<
     ensures never { AllSure R.sure runners.old → IsSparedRunners result }
     ensures lost_away { OnOk result
         (LosesOnLinks (records_of desk.old.moves) (records_of desk.new.moves)) }
+    ensures due_losses { desk.old.options.wq ≡ true → H.Way.tells
+        → joins_and_changes desk.old.moves ≡ 0 → OnOk result (AreDueLosses F.gives
+        F.may_fail H.Way.history H.Way.count H.Way.idle_count H.Way.is_closed workers.limit
+        (H.got hall.old) (H.got hall.new)
+        (records_of desk.old.moves) (records_of desk.new.moves)) }
     ensures waited { desk.old.options.wq ≡ true → IfOk result (EndsHere desk.new.plan
         desk.new.options workers.limit (H.idle_count hall.new - H.idle_count hall.old)
         desk.new.moves) }

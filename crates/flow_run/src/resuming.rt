@@ -28,6 +28,7 @@ ghost use Rattle.local_run.specs.Runs.{BeginsWith, HasCauses, Held, IsAdmitted, 
 ghost use Rattle.local_run.specs.Runs.{IsCutRun, IsHallEnd, IsSparedName, LosesNone, SerialFits};
 ghost use Rattle.local_run.specs.Runs.{read_sources};
 ghost use Rattle.wq_run.specs.Ends.{AreBack, EndsWaiting, IsSparedRunners, LosesOnLinks};
+ghost use Rattle.wq_run.specs.Losses.{AreDueLosses};
 ghost use Rattle.flow_run.specs.Places.{PlacedBy};
 
 use crate::runs::run;
@@ -111,6 +112,12 @@ pub fn resume<
     ensures lost_away { IfOk result (λ ended. OnOk ended.how (S.tells
         → (H : List RecordValue) → Spells H (S.files site «name»)
         → LosesOnLinks H ended.records)) }
+    ensures due_losses { IfOk result (λ ended. H.Way.tells → S.tells
+        → (G : List RecordValue) → Spells G (S.files site «name»)
+        → OnOk ended.how (AreDueLosses F.gives
+        F.may_fail H.Way.history H.Way.count H.Way.idle_count H.Way.is_closed workers.limit
+        (H.got hall.old) (H.got hall.new)
+        G ended.records)) }
     ensures ends { IfOk result (λ ended. options.wq ≡ false → IfOk ended.how (λ check. check
         ≡ end_over plan options (before_end ended.records) None)) }
     ensures waited { IfOk result (λ ended. options.wq ≡ true → IfOk ended.how

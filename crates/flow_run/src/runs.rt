@@ -9,6 +9,7 @@ ghost use Rattle.run_history.specs.Answers.{before_end, end_over};
 ghost use Rattle.run_history.specs.History.{part, since_opening};
 ghost use Rattle.run_history.specs.Legal.{most_records};
 ghost use Rattle.run_history.specs.Links.{records_of};
+ghost use Rattle.run_history.specs.Moves.{joins_and_changes};
 ghost use Rattle.run_history.specs.Spent.{SpentOnce};
 ghost use Rattle.run_history.specs.Storage.{running_rules};
 ghost use Rattle.outside.specs.Disk.{IsImage};
@@ -30,6 +31,7 @@ ghost use Rattle.local_run.specs.Runs.{IsEarlyRun, IsRefusedRun};
 ghost use Rattle.local_run.specs.Runs.{IsCutRun, IsHallEnd, IsKeeping, IsSparedName, IsStanding};
 ghost use Rattle.local_run.specs.Runs.{LosesNone, SerialFits, read_sources};
 ghost use Rattle.wq_run.specs.Ends.{AreBack, EndsWaiting, IsSparedRunners, LosesOnLinks};
+ghost use Rattle.wq_run.specs.Losses.{AreDueLosses};
 ghost use Rattle.wq_run.specs.Trusted.{IsOf};
 ghost use Rattle.flow_run.specs.Places.{PlacedBy};
 ghost use Rattle.flow_run.specs.Relied.{IsRelied};
@@ -95,6 +97,11 @@ fn run_desk<
         → OnOk result.how (LosesNone (records_of desk.moves) result.records) }
     ensures lost_away { OnOk result.how
         (LosesOnLinks (records_of desk.moves) result.records) }
+    ensures due_losses { desk.options.wq ≡ true → H.Way.tells
+        → joins_and_changes desk.moves ≡ 0 → OnOk result.how (AreDueLosses F.gives
+        F.may_fail H.Way.history H.Way.count H.Way.idle_count H.Way.is_closed workers.limit
+        (H.got hall.old) (H.got hall.new)
+        (records_of desk.moves) result.records) }
     ensures ends { desk.options.wq ≡ false → IfOk result.how (λ check. check
         ≡ end_over desk.plan desk.options (before_end result.records) None) }
     ensures waited { desk.options.wq ≡ true → IfOk result.how
@@ -204,6 +211,10 @@ fn run_by<
         → length (running_rules plan result.records) ≤ 0 }
     ensures lost { options.wq ≡ false → OnOk result.how (LosesNone history result.records) }
     ensures lost_away { OnOk result.how (LosesOnLinks history result.records) }
+    ensures due_losses { H.Way.tells → OnOk result.how (AreDueLosses F.gives
+        F.may_fail H.Way.history H.Way.count H.Way.idle_count H.Way.is_closed workers.limit
+        (H.got hall.old) (H.got hall.new)
+        history result.records) }
     ensures ends { options.wq ≡ false → IfOk result.how (λ check. check
         ≡ end_over plan options (before_end result.records) None) }
     ensures waited { options.wq ≡ true → IfOk result.how (EndsWaiting plan options workers.limit
@@ -315,6 +326,10 @@ pub fn run<
     ensures spent { IsClosedRun result.how → SpentOnce (since_opening result.records) }
     ensures lost { options.wq ≡ false → OnOk result.how (LosesNone history result.records) }
     ensures lost_away { OnOk result.how (LosesOnLinks history result.records) }
+    ensures due_losses { H.Way.tells → OnOk result.how (AreDueLosses F.gives
+        F.may_fail H.Way.history H.Way.count H.Way.idle_count H.Way.is_closed workers.limit
+        (H.got hall.old) (H.got hall.new)
+        history result.records) }
     ensures ends { options.wq ≡ false → IfOk result.how (λ check. check
         ≡ end_over plan options (before_end result.records) None) }
     ensures waited { options.wq ≡ true → IfOk result.how (EndsWaiting plan options workers.limit

@@ -1,5 +1,5 @@
 use Rattle.std.proofs.Common.{◌≡◌, ◌∙◌, arith, ◌⊎◌, ⊎_elim, inl, inr, List, [], length, ap, sym, subst}
-use Rattle.std.specs.Prelude.{sum_by}
+use Rattle.std.specs.Prelude.{OnOk, sum_by}
 use Rattle.flow_types.specs.Serial.{Contents, serial}
 use Rattle.file_store.specs.Outputs.{file_name}
 use Rattle.desk.specs.Kept.{WasKept}
@@ -18,6 +18,7 @@ use Rattle.local_run.proofs.Joining.{each_moment, goes_on_from, is_named, keepin
 use Rattle.log_recover.specs.Recovery.{IsDamage}
 use Rattle.local_run.proofs.Refused.{damage_told, early_over, reads_same}
 use Rattle.wq_run.specs.Ends.{LosesOnLinks}
+use Rattle.wq_run.specs.Losses.{AreDueLosses}
 use Rattle.flow_run.specs.Places.{PlacedBy}
 use Rattle.flow_run.proofs.resuming.resume.Goals as goal
 
@@ -67,6 +68,10 @@ returns-in-Ok-clause-lost_away g c =
     on_ok c.run.result.how (LosesOnLinks c.in-Ok.history c.run.result.records)
     (g.S.Site.tells → (H : List Record) → Spells H (g.S.Site.files c.args.site c.args.name) → LosesOnLinks H c.run.result.records)
     (λ loses told H spelled. subst (λ (G : List Record). LosesOnLinks G c.run.result.records) (c.in-Ok.ensures.exact told H spelled) loses) c.run.ensures.lost_away
+
+pub returns-in-Ok-clause-due_losses : goal.returns-in-Ok-clause-due_losses
+returns-in-Ok-clause-due_losses g c tells told H spelled =
+    subst (λ (G : List Record). OnOk c.run.result.how (AreDueLosses g.F.Commands.gives g.F.Commands.may_fail g.H.Way.Link.history g.H.Way.Link.count g.H.Way.Link.idle_count g.H.Way.Link.is_closed c.args.workers.limit (g.H.Hall.got c.args.hall.now) (g.H.Hall.got c.run.new.hall) G c.run.result.records)) (c.in-Ok.ensures.exact told H spelled) (c.run.ensures.due_losses tells)
 
 pub returns-in-Ok-clause-places : goal.returns-in-Ok-clause-places
 returns-in-Ok-clause-places g c told H spelled =

@@ -1,4 +1,4 @@
-use Rattle.std.proofs.Common.{◌≡◌, ◌∙◌, arith, false, length, refl, sym, true, true≢false}
+use Rattle.std.proofs.Common.{◌≡◌, ◌∙◌, arith, length, refl, sym, true, true≢false}
 use Rattle.std.specs.Prelude.{sum_by}
 use Rattle.flow_types.specs.Serial.{serial}
 use Rattle.desk.specs.Kept.{Fits}

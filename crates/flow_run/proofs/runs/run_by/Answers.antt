@@ -28,7 +28,9 @@ use Rattle.local_run.proofs.Started.{IsBegun, adds_more, adds_nothing, begun, be
 use Rattle.local_run.proofs.Openings.{opens_by}
 use Rattle.wq_run.specs.Ends.{EndsWaiting, LosesOnLinks}
 use Rattle.flow_run.specs.Places.{PlacedBy}
+use Rattle.wq_run.specs.Losses.{AreDueLosses}
 use Rattle.flow_run.proofs.Losses.{loses_begun}
+use Rattle.flow_run.proofs.Dues.{by_either, due_begun, due_none, joins_begun}
 use Rattle.flow_run.proofs.Placed.{placed_none}
 use Rattle.flow_run.proofs.Reliance.{of_begun}
 use Rattle.flow_run.proofs.Stops.{back_same}
@@ -119,6 +121,23 @@ returns-in-Ok-clause-lost_away g c =
     let b : IsBegun (g.S.Site.count c.args.site) c.args.plan c.args.options c.args.log.name c.args.history g.F.Commands.may_fail (serial c.args.plan g.F.Commands.gives g.T.Terms.sources) c.in-Ok.desk = (begun g.S.Site.count c.args.plan c.args.options c.args.log.name c.args.history c.now.result g.S.Site.tells (g.S.Site.files c.args.site) c.args.site g.F.Commands.may_fail (serial c.args.plan g.F.Commands.gives g.T.Terms.sources) c.in-Ok.desk c.in-Ok.ensures.reply) in
     on_ok c.run_desk.result.how (LosesOnLinks (records_of c.in-Ok.desk.moves) c.run_desk.result.records) (LosesOnLinks c.args.history c.run_desk.result.records)
     (loses_begun c.args.history (records_of c.in-Ok.desk.moves) c.run_desk.result.records b.entry b.records b.kept) c.run_desk.ensures.lost_away
+
+pub returns-in-Ok-clause-due_losses : goal.returns-in-Ok-clause-due_losses
+returns-in-Ok-clause-due_losses g c tells =
+    let b : IsBegun (g.S.Site.count c.args.site) c.args.plan c.args.options c.args.log.name c.args.history g.F.Commands.may_fail (serial c.args.plan g.F.Commands.gives g.T.Terms.sources) c.in-Ok.desk = (begun g.S.Site.count c.args.plan c.args.options c.args.log.name c.args.history c.now.result g.S.Site.tells (g.S.Site.files c.args.site) c.args.site g.F.Commands.may_fail (serial c.args.plan g.F.Commands.gives g.T.Terms.sources) c.in-Ok.desk c.in-Ok.ensures.reply) in
+    let how = c.run_desk.result.how in
+    let all = c.run_desk.result.records in
+    let mid = records_of c.in-Ok.desk.moves in
+    let got = g.H.Hall.got c.args.hall.now in
+    let got_now = g.H.Hall.got c.run_desk.new.hall in
+    let wq : c.in-Ok.desk.options.wq ≡ c.args.options.wq = ap (λ (O : Options). O.wq) b.options in
+    by_either c.args.options.wq
+    (λ away. on_ok how (AreDueLosses g.F.Commands.gives g.F.Commands.may_fail g.H.Way.Link.history g.H.Way.Link.count g.H.Way.Link.idle_count g.H.Way.Link.is_closed c.args.workers.limit got got_now mid all) (AreDueLosses g.F.Commands.gives g.F.Commands.may_fail g.H.Way.Link.history g.H.Way.Link.count g.H.Way.Link.idle_count g.H.Way.Link.is_closed c.args.workers.limit got got_now c.args.history all)
+    (due_begun g.F.Commands.gives g.F.Commands.may_fail g.H.Way.Link.history g.H.Way.Link.count g.H.Way.Link.idle_count g.H.Way.Link.is_closed c.args.workers.limit got got_now c.args.history mid all b.entry b.records b.kept)
+    (c.run_desk.ensures.due_losses (wq ∙ away) tells (joins_begun c.in-Ok.desk c.args.history b.over)))
+    (λ here. on_ok how (LosesNone c.args.history all) (AreDueLosses g.F.Commands.gives g.F.Commands.may_fail g.H.Way.Link.history g.H.Way.Link.count g.H.Way.Link.idle_count g.H.Way.Link.is_closed c.args.workers.limit got got_now c.args.history all)
+    (due_none g.F.Commands.gives g.F.Commands.may_fail g.H.Way.Link.history g.H.Way.Link.count g.H.Way.Link.idle_count g.H.Way.Link.is_closed c.args.workers.limit got got_now c.args.history all (ap g.H.Hall.got {x = c.run_desk.new.hall} (c.run_desk.ensures.alone (wq ∙ here))))
+    (returns-in-Ok-clause-lost g c here))
 
 pub run_desk-requires-clause-asked : goal.run_desk-requires-clause-asked
 run_desk-requires-clause-asked g c κs within =

@@ -20,6 +20,7 @@ use Rattle.local_run.proofs.Results.{adds_records, is_kept}
 use Rattle.local_run.proofs.Going.{goes_records}
 use Rattle.local_run.proofs.Openings.{opens_on}
 use Rattle.wq_run.specs.Ends.{EndsWaiting, LosesOnLinks}
+use Rattle.wq_run.specs.Losses.{AreDueLosses}
 use Rattle.flow_run.proofs.Placed.{placed_by}
 use Rattle.flow_run.proofs.Stops.{causes_stop, fine_stop, hall_stop, started_stop, starts_stop, stop_kept, waits_logged}
 use Rattle.flow_run.proofs.runs.run_desk.Goals as goal
@@ -61,6 +62,10 @@ returns-clause-lost g c alone H began =
 pub returns-clause-lost_away : goal.returns-clause-lost_away
 returns-clause-lost_away g c =
     subst (λ (G : List Record). OnOk c.work-how.result (LosesOnLinks (records_of c.args.desk.moves) G)) (sym c.into_parts-site.ensures.records) c.work-how.ensures.lost_away
+
+pub returns-clause-due_losses : goal.returns-clause-due_losses
+returns-clause-due_losses g c away tells unjoined =
+    subst (λ (G : List Record). OnOk c.work-how.result (AreDueLosses g.F.Commands.gives g.F.Commands.may_fail g.H.Way.Link.history g.H.Way.Link.count g.H.Way.Link.idle_count g.H.Way.Link.is_closed c.args.workers.limit (g.H.Hall.got c.args.hall.now) (g.H.Hall.got c.work-how.new.hall) (records_of c.args.desk.moves) G)) (sym c.into_parts-site.ensures.records) (c.work-how.ensures.due_losses away tells unjoined)
 
 pub returns-clause-ends : goal.returns-clause-ends
 returns-clause-ends g c alone =
