@@ -208,7 +208,7 @@ logged_run s r h P H all f0 f1 (Err stopped.Hall) logs same unused whole = logs 
 starts_none : (H all : List Record) → all ≡ H → StartsNone H all
 starts_none H all same = ([], same ∙ sym (append_nothing H), refl)
 
-loses_none : (H all : List Record) → all ≡ H → LosesNone H all
+pub loses_none : (H all : List Record) → all ≡ H → LosesNone H all
 loses_none H all same = ([], same ∙ sym (append_nothing H), refl)
 
 spent_run : (s r h : Rise) (P : Plan) (H all : List Record) (how : Result Check Stopped) → (IsRefusedRun how → all ≡ H) → (IsClosedRun how → SpentOnce (since_opening all))
@@ -225,16 +225,15 @@ damage_loses : (source : Bool) (file : FileNo) (logged : Content) (found : Found
 damage_loses true file logged found = refl
 damage_loses false file logged found = refl
 
--- what holds of the records of a run that came to its end, and of those to which none was added, holds where nothing stopped it at once
-lost_run : (Q : Type 0) (s r h : Rise) (P : Plan) (H all : List Record) (how : Result Check Stopped) → (all ≡ H → Q) → (IsRefusedRun how → all ≡ H) → OnOk how Q
-    → may_lose (kind_of (run_cause s r h P how)) ≡ false → Q
-lost_run Q s r h P H all (Ok ended) none same lost keeps = lost
-lost_run Q s r h P H all (Err (stopped.Refused why)) none same lost keeps = none (same tt)
-lost_run Q s r h P H all (Err (stopped.Halted (halts.Damaged file logged found))) none same lost keeps = present (sym (damage_loses (is_source P file.0) file logged found) ∙ keeps)
-lost_run Q s r h P H all (Err (stopped.Halted halts.Runner)) none same lost keeps = present keeps
-lost_run Q s r h P H all (Err (stopped.Halted halts.Site)) none same lost keeps = present keeps
-lost_run Q s r h P H all (Err (stopped.Halted halts.Memory)) none same lost keeps = present keeps
-lost_run Q s r h P H all (Err stopped.Hall) none same lost keeps = present keeps
+-- what holds of a run that came to its end, and of one that was refused, holds where nothing stopped it at once
+pub lost_run : (Q : Type 0) (s r h : Rise) (P : Plan) (how : Result Check Stopped) → (IsRefusedRun how → Q) → OnOk how Q → may_lose (kind_of (run_cause s r h P how)) ≡ false → Q
+lost_run Q s r h P (Ok ended) refused lost keeps = lost
+lost_run Q s r h P (Err (stopped.Refused why)) refused lost keeps = refused tt
+lost_run Q s r h P (Err (stopped.Halted (halts.Damaged file logged found))) refused lost keeps = present (sym (damage_loses (is_source P file.0) file logged found) ∙ keeps)
+lost_run Q s r h P (Err (stopped.Halted halts.Runner)) refused lost keeps = present keeps
+lost_run Q s r h P (Err (stopped.Halted halts.Site)) refused lost keeps = present keeps
+lost_run Q s r h P (Err (stopped.Halted halts.Memory)) refused lost keeps = present keeps
+lost_run Q s r h P (Err stopped.Hall) refused lost keeps = present keeps
 
 end_refuses : (rules : ℕ) (ended : Check) → is_refusal (kind_of (end_cause rules ended)) ≡ false
 end_refuses rules (check.Complete collected) = refl
@@ -593,9 +592,9 @@ module _ {S : Type 0} (tells : Type 0) (files : S → Files) (may_leave : S → 
     logged = λ t H spelled. legal_run (site_rise b a) r (hall_rise b a) ask.plan H records how (k.same t H spelled) k.legal;
     closed = λ ends. k.spent (closed_run (site_rise b a) r (hall_rise b a) ask.plan how ends);
     spent = λ t H spelled whole. spent_run (site_rise b a) r (hall_rise b a) ask.plan H records how (k.same t H spelled) k.spent whole;
-    lost = λ t H spelled alone keeps. lost_run (LosesNone H records) (site_rise b a) r (hall_rise b a) ask.plan H records how (loses_none H records) (k.same t H spelled) (on_told (λ K. LosesNone K records) (k.lost alone) t H spelled) keeps;
+    lost = λ t H spelled alone keeps. lost_run (LosesNone H records) (site_rise b a) r (hall_rise b a) ask.plan how (λ refused. loses_none H records (k.same t H spelled refused)) (on_told (λ K. LosesNone K records) (k.lost alone) t H spelled) keeps;
     lost_away = λ t H spelled keeps.
-        lost_run (LosesOnLinks H records) (site_rise b a) r (hall_rise b a) ask.plan H records how (λ same. away_none H records (loses_none H records same)) (k.same t H spelled) (on_told (λ K. LosesOnLinks K records) k.lost_away t H spelled) keeps;
+        lost_run (LosesOnLinks H records) (site_rise b a) r (hall_rise b a) ask.plan how (λ refused. away_none H records (loses_none H records (k.same t H spelled refused))) (on_told (λ K. LosesOnLinks K records) k.lost_away t H spelled) keeps;
     moments = λ t H spelled resumable image left.
         ⊎_elim (λ was. inl was)
         (λ (m : IsMoment Held ask.plan ask.log (files old) (may_leave old) H records (IsCutRun how) image).

@@ -355,6 +355,11 @@ pub after_cut : (A : Type 0) (b a : ℕ) (cause now : Cause) → Stands b a caus
 after_cut A b a cause now stood holds =
     of_each (λ (c : Cause). (IsCut c → ⊥) → A) b a cause now stood holds (λ rose is whole. holds (end_whole (kind_of cause) is)) (λ whole. absurd (whole refl))
 
+-- what holds unless attempts may be lost
+pub after_kept : (A : Type 0) (b a : ℕ) (cause now : Cause) → Stands b a cause now → (may_lose (kind_of cause) ≡ false → A) → may_lose (kind_of now) ≡ false → A
+after_kept A b a cause now stood holds =
+    of_each (λ (c : Cause). may_lose (kind_of c) ≡ false → A) b a cause now stood holds (λ rose is keeps. holds (end_loses (kind_of cause) is)) (λ wrong. absurd (true≢false wrong))
+
 -- where a run ended its log was read
 pub run_read : (kind : Kind) → is_run_end kind ≡ true → was_read kind ≡ true
 run_read kinds.Completed ends = refl

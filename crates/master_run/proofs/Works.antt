@@ -30,6 +30,12 @@ use Rattle.flow_run.proofs.Losses.{away_none}
 use Rattle.master_run.proofs.Cared.{adds_nothing, collects_nothing, drops_nothing, loses_nothing, places_nothing, starts_nothing}
 use Rattle.master_run.proofs.Faults.{adds_none, unread_collects, unread_placed}
 
+-- where no attempt may be lost the call wasn't cut short
+pub loses_cut : (kind : Kind) → may_lose kind ≡ false → is_cut kind ≡ true → ⊥
+loses_cut kinds.SiteBroke keeps cut = true≢false keeps
+loses_cut kinds.NoMemory keeps cut = true≢false keeps
+loses_cut _ keeps cut = true≢false (sym cut)
+
 module _ {S : Type 0} (tells : Type 0) (files : S → Files) (may_leave : S → Outcomes) (moment : S → ℕ) (images_since : S → ℕ → Files → Type 0) (born : ℕ)
     (gives : Function) (may_fail : Job → Failure → Type 0) (told : Job → Type 0) (sure honest_links : Type 0) (before after : Counts) (ask : Ask) (old new : S) (records : List Record) (cause : Cause) (time : ℕ) (cut : Type 0) where
   -- What is known of work that runs nothing.
@@ -58,11 +64,6 @@ module _ {S : Type 0} (tells : Type 0) (files : S → Files) (may_leave : S → 
     pub cleaned : tells → (H : List Record) → Spells H (files old ask.log) → IsCleanedBy ask.plan H (files new) cause
     pub untouched : tells → is_refusal (kind_of cause) ≡ true → (m : List ℕ) → files new m ≡ files old m
     pub others : tells → StaysBeside may_leave moment images_since (IsUnmade ask.plan ask.log) old new
-
-  loses_cut : (kind : Kind) → may_lose kind ≡ false → is_cut kind ≡ true → ⊥
-  loses_cut kinds.SiteBroke keeps cut = true≢false keeps
-  loses_cut kinds.NoMemory keeps cut = true≢false keeps
-  loses_cut _ keeps cut = true≢false (sym cut)
 
   still_runs : (kind : Kind) → is_failing kind ≡ false → is_runner_fault kind ≡ false
   still_runs kinds.RunnerBroke still = absurd (true≢false still)

@@ -9,6 +9,7 @@ ghost use Rattle.command_words.specs.declared.options.Work.TheVariants.{Clean, P
 ghost use Rattle.report.specs.declared.cause.Kind.TheVariants.{RuleFailed};
 ghost use Rattle.report.specs.Causes.{kind_of};
 ghost use Rattle.local_run.specs.Ends.{failed_count};
+ghost use Rattle.local_run.specs.Runs.{LosesNone};
 ghost use Rattle.master_run.specs.Ends.{counts};
 ghost use Rattle.master_run.specs.Headline.{is_run_end};
 ghost use Rattle.master_run.specs.Serves.{IsCut, Serves};
@@ -44,6 +45,8 @@ pub fn clean_flow<F: Commands, S: Site, B: Born>(
         ask site result.site result.records result.cause }
     ensures fails_none { S.tells → (H : List RecordValue) → Spells H (S.files site ask.log)
         → (IsCut result.cause → ⊥) → failed_count result.records ≡ failed_count H }
+    ensures loses_none { S.tells → (H : List RecordValue) → Spells H (S.files site ask.log)
+        → (IsCut result.cause → ⊥) → LosesNone H result.records }
     ensures runs_not { IsFalse (is_run_end (kind_of result.cause)) }
     ensures fails_not { kind_of result.cause ≡ RuleFailed → ⊥ }
     ensures plan { result.plan ≡ ask.plan }
@@ -88,6 +91,8 @@ pub fn read_log<F: Commands, S: Site, B: Born>(
         ask site result.site result.records result.cause }
     ensures fails_none { S.tells → (H : List RecordValue) → Spells H (S.files site ask.log)
         → (IsCut result.cause → ⊥) → failed_count result.records ≡ failed_count H }
+    ensures loses_none { S.tells → (H : List RecordValue) → Spells H (S.files site ask.log)
+        → (IsCut result.cause → ⊥) → LosesNone H result.records }
     ensures runs_not { IsFalse (is_run_end (kind_of result.cause)) }
     ensures fails_not { kind_of result.cause ≡ RuleFailed → ⊥ }
     ensures plan { result.plan ≡ ask.plan }

@@ -1,6 +1,6 @@
 //! The run of a plan over its log.
-ghost use Rattle.std.specs.Prelude.{◌≡◌, ◌≢◌, ◌≤◌, ◌<◌, ◌-◌, ℕ, List, IfOk, IsTrue, false};
-ghost use Rattle.std.specs.Prelude.{drop, length, map, sum_by};
+ghost use Rattle.std.specs.Prelude.{◌≡◌, ◌≢◌, ◌≤◌, ◌<◌, ◌-◌, ℕ, List, IfOk, IsFalse, IsTrue};
+ghost use Rattle.std.specs.Prelude.{drop, false, length, map, sum_by};
 ghost use Rattle.flow_types.specs.declared.records.Record.{Record as RecordValue};
 ghost use Rattle.flow_types.specs.Plans.{IsValid};
 ghost use Rattle.txn_log.specs.Spells.{Spells};
@@ -9,9 +9,10 @@ ghost use Rattle.worker_pool.specs.Crews.{AllSure, AllTell};
 ghost use Rattle.local_run.specs.Collecting.{RunCollects};
 ghost use Rattle.local_run.specs.Ends.{FitsHere, OpensBy};
 ghost use Rattle.command_words.specs.declared.options.Work.TheVariants.{Run};
-ghost use Rattle.report.specs.Causes.{kind_of};
+ghost use Rattle.report.specs.Causes.{kind_of, may_lose};
 ghost use Rattle.master_run.specs.Ends.{counts};
 ghost use Rattle.wq_run.specs.Ends.{AreBack};
+ghost use Rattle.wq_run.specs.Losses.{AreDueLosses};
 ghost use Rattle.master_run.specs.Headline.{FailureEnd, IfWaited, LogsFailed, WaitsInVain};
 ghost use Rattle.master_run.specs.Headline.{is_run_end};
 ghost use Rattle.master_run.specs.Serves.{IsCut, Serves};
@@ -92,6 +93,10 @@ fn run_by_all<
         → AreBack (H.got hall.old) (H.got hall.new) (H.given hall.old) (H.given hall.new) }
     ensures waited { IfWaited result.cause (WaitsInVain ask.plan ask.options ask.workers.limit
         (H.idle_count hall.new - H.idle_count hall.old) result.records) }
+    ensures due_losses { H.Way.tells → S.tells → (G : List RecordValue)
+        → Spells G (S.files site ask.log) → IsFalse (may_lose (kind_of result.cause))
+        → AreDueLosses F.gives F.may_fail H.Way.history H.Way.count H.Way.idle_count
+        H.Way.is_closed ask.workers.limit (H.got hall.old) (H.got hall.new) G result.records }
     ensures opened { IsTrue (is_run_end (kind_of result.cause))
         → OpensBy ask.options result.records }
     ensures collects { IsTrue (is_run_end (kind_of result.cause))
@@ -195,6 +200,10 @@ pub fn run_flow<
         → AreBack (H.got hall.old) (H.got hall.new) (H.given hall.old) (H.given hall.new) }
     ensures waited { IfWaited result.cause (WaitsInVain ask.plan ask.options ask.workers.limit
         (H.idle_count hall.new - H.idle_count hall.old) result.records) }
+    ensures due_losses { H.Way.tells → S.tells → (G : List RecordValue)
+        → Spells G (S.files site ask.log) → IsFalse (may_lose (kind_of result.cause))
+        → AreDueLosses F.gives F.may_fail H.Way.history H.Way.count H.Way.idle_count
+        H.Way.is_closed ask.workers.limit (H.got hall.old) (H.got hall.new) G result.records }
     ensures opened { IsTrue (is_run_end (kind_of result.cause))
         → OpensBy ask.options result.records }
     ensures collects { IsTrue (is_run_end (kind_of result.cause))

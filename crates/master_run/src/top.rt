@@ -23,6 +23,7 @@ ghost use Rattle.report.specs.Causes.{is_failing, is_refusal, kind_of, may_lose,
 ghost use Rattle.report.specs.Causes.{was_read};
 ghost use Rattle.master_run.specs.declared.ask.Ask.{Ask as AskValue};
 ghost use Rattle.wq_run.specs.Ends.{AreBack, LosesOnLinks};
+ghost use Rattle.wq_run.specs.Losses.{AreDueLosses};
 ghost use Rattle.flow_run.specs.Places.{PlacedBy};
 ghost use Rattle.master_run.specs.Asked.{IsLocal, choice, request, run_mode, run_options};
 ghost use Rattle.master_run.specs.Asked.{workers_of};
@@ -123,6 +124,10 @@ fn serve<
         → AreBack (H.got hall.old) (H.got hall.new) (H.given hall.old) (H.given hall.new) }
     ensures waited { IfWaited result.cause (WaitsInVain ask.plan ask.options ask.workers.limit
         (H.idle_count hall.new - H.idle_count hall.old) result.records) }
+    ensures due_losses { H.Way.tells → S.tells → (G : List RecordValue)
+        → Spells G (S.files site ask.log) → IsFalse (may_lose (kind_of result.cause))
+        → AreDueLosses F.gives F.may_fail H.Way.history H.Way.count H.Way.idle_count
+        H.Way.is_closed ask.workers.limit (H.got hall.old) (H.got hall.new) G result.records }
     ensures opened { IsTrue (is_run_end (kind_of result.cause))
         → OpensBy ask.options result.records }
     ensures collects { IsTrue (is_run_end (kind_of result.cause))
@@ -207,6 +212,13 @@ fn follow<
     ensures waited { (options : OptionsValue) → choice words.now ≡ Ok options
         → IfWaited result.cause (WaitsInVain result.plan (run_options options)
         options.limits.idle (H.idle_count hall.new - H.idle_count hall.old) result.records) }
+    ensures due_losses { H.Way.tells → S.tells
+        → (options : OptionsValue) → choice words.now ≡ Ok options → (ask : AskValue)
+        → request words.now env.now (S.files site) ≡ Ok ask
+        → (G : List RecordValue) → Spells G (S.files site ask.log)
+        → IsFalse (may_lose (kind_of result.cause))
+        → AreDueLosses F.gives F.may_fail H.Way.history H.Way.count H.Way.idle_count
+        H.Way.is_closed options.limits.idle (H.got hall.old) (H.got hall.new) G result.records }
     ensures opened { (options : OptionsValue) → choice words.now ≡ Ok options
         → IsTrue (is_run_end (kind_of result.cause))
         → OpensBy (run_options options) result.records }
@@ -337,6 +349,16 @@ pub fn makeflow_top<
         → IsFalse (may_lose (kind_of result.cause)) → LosesNone H result.records) }
     ensures lost_away { S.tells → OfLog (request words.now env.now (S.files site)) (S.files site)
         (λ ask H. IsFalse (may_lose (kind_of result.cause)) → LosesOnLinks H result.records) }
+
+    // Where the hall's links tell their bytes, an attempt at a worker is given up otherwise only for
+    // a cause that a link shows which was handed back under the number of its own: it is ill, or
+    // over it came that the attempt wasn't run, or three times that inputs of it are missing.
+    ensures due_losses { H.Way.tells → S.tells
+        → (options : OptionsValue) → choice words.now ≡ Ok options
+        → OfLog (request words.now env.now (S.files site)) (S.files site)
+        (λ ask G. IsFalse (may_lose (kind_of result.cause))
+        → AreDueLosses F.gives F.may_fail H.Way.history H.Way.count H.Way.idle_count
+        H.Way.is_closed options.limits.idle (H.got hall.old) (H.got hall.new) G result.records) }
 
     // Each link that the hall gave is handed back, and where no worker is asked for the hall stays
     // as it was. The call ends since nobody came only where it waited in vain.

@@ -16,7 +16,7 @@ use Rattle.master_run.specs.Serves.{Serves}
 use Rattle.master_run.proofs.Counted.{site_rise}
 use Rattle.master_run.proofs.Works.{cared_serves}
 use Rattle.cleaning.specs.Cleanings.{IsCutFor}
-use Rattle.master_run.proofs.Cared.{begins_so, clean_begins, clean_begun, clean_cleans, clean_cut, clean_damaged, clean_either, clean_faults, clean_goes, clean_late, clean_legal, clean_log, clean_of, clean_read, clean_still, clean_uncut, cut_clean, done_goes, ended_either, fails_nothing}
+use Rattle.master_run.proofs.Cared.{begins_so, clean_begins, clean_begun, clean_cleans, clean_cut, clean_damaged, clean_either, clean_faults, clean_goes, clean_late, clean_legal, clean_log, clean_of, clean_read, clean_still, clean_uncut, cut_clean, done_goes, ended_either, fails_nothing, loses_nothing}
 use Rattle.master_run.proofs.caring.clean_flow.Goals as goal
 
 pub returns-in-Ok-clause-serves : goal.returns-in-Ok-clause-serves
@@ -87,6 +87,16 @@ returns-in-Ok-clause-fails_none g c t H spelled whole =
 pub returns-in-Err-clause-fails_none : goal.returns-in-Err-clause-fails_none
 returns-in-Err-clause-fails_none g c t H spelled whole =
     fails_nothing H c.in-Err.field-0.records c.args.moment
+    (clean_either H c.in-Err.field-0.records c.args.moment (record { before = c.args.before; after = c.faults-after.result }) c.args.ask.plan c.in-Err.field-0.why (c.in-Err.ensures.ends t H spelled) (c.in-Err.ensures.records t H spelled)
+    (λ cut. whole (subst (λ (cause : Cause). is_cut (kind_of cause) ≡ true) (sym c.clean_cause.ensures) cut)))
+
+pub returns-in-Ok-clause-loses_none : goal.returns-in-Ok-clause-loses_none
+returns-in-Ok-clause-loses_none g c t H spelled whole =
+    loses_nothing H c.in-Ok.field-0.records c.args.moment (subst (AreEither H c.args.moment) (sym (c.in-Ok.ensures.records t H spelled)) (ended_either H c.args.moment (is_empty (part H))))
+
+pub returns-in-Err-clause-loses_none : goal.returns-in-Err-clause-loses_none
+returns-in-Err-clause-loses_none g c t H spelled whole =
+    loses_nothing H c.in-Err.field-0.records c.args.moment
     (clean_either H c.in-Err.field-0.records c.args.moment (record { before = c.args.before; after = c.faults-after.result }) c.args.ask.plan c.in-Err.field-0.why (c.in-Err.ensures.ends t H spelled) (c.in-Err.ensures.records t H spelled)
     (λ cut. whole (subst (λ (cause : Cause). is_cut (kind_of cause) ≡ true) (sym c.clean_cause.ensures) cut)))
 

@@ -23,7 +23,7 @@ use Rattle.master_run.proofs.Moved.{append_nothing}
 use Rattle.master_run.proofs.Counted.{site_rise}
 use Rattle.master_run.proofs.Works.{cared_serves}
 use Rattle.cleaning.specs.Looks.{IsCutFault}
-use Rattle.master_run.proofs.Cared.{cut_look, done_goes, fails_nothing, look_begins, look_begun, look_cleans, look_cut, look_damaged, look_either, look_faults, look_goes, look_late, look_legal, look_log, look_read, look_seen, look_still, look_unread, part_within}
+use Rattle.master_run.proofs.Cared.{cut_look, done_goes, fails_nothing, look_begins, look_begun, look_cleans, look_cut, look_damaged, look_either, look_faults, look_goes, look_late, look_legal, look_log, look_read, look_seen, look_still, look_unread, loses_nothing, part_within}
 use Rattle.master_run.proofs.caring.read_log.Goals as goal
 
 pub overflow_cast-result : goal.overflow_cast-result
@@ -104,6 +104,15 @@ returns-in-Ok-clause-fails_none g c t H spelled whole = ap failed_count (c.in-Ok
 pub returns-in-Err-clause-fails_none : goal.returns-in-Err-clause-fails_none
 returns-in-Err-clause-fails_none g c t H spelled whole =
     fails_nothing H c.in-Err.field-0.records 0
+    (look_either H c.in-Err.field-0.records 0 (record { before = c.args.before; after = c.faults-after.result }) c.args.ask.plan c.in-Err.field-0.why (c.in-Err.ensures.ends t H spelled).0 (c.in-Err.ensures.ends t H spelled).1
+    (λ cut. whole (subst (λ (cause : Cause). is_cut (kind_of cause) ≡ true) (sym c.look_cause.ensures) cut)))
+
+pub returns-in-Ok-clause-loses_none : goal.returns-in-Ok-clause-loses_none
+returns-in-Ok-clause-loses_none g c t H spelled whole = loses_nothing H c.in-Ok.records 0 (inl (c.in-Ok.ensures.ends t H spelled).0)
+
+pub returns-in-Err-clause-loses_none : goal.returns-in-Err-clause-loses_none
+returns-in-Err-clause-loses_none g c t H spelled whole =
+    loses_nothing H c.in-Err.field-0.records 0
     (look_either H c.in-Err.field-0.records 0 (record { before = c.args.before; after = c.faults-after.result }) c.args.ask.plan c.in-Err.field-0.why (c.in-Err.ensures.ends t H spelled).0 (c.in-Err.ensures.ends t H spelled).1
     (λ cut. whole (subst (λ (cause : Cause). is_cut (kind_of cause) ≡ true) (sym c.look_cause.ensures) cut)))
 

@@ -1,12 +1,13 @@
-use Rattle.std.proofs.Common.{◌≡◌, ◌<◌, ◌-◌, ◌∙◌, inl, ℕ, List, map, sum, sum_by, ap, sym, subst, refl, arith, true, true≢false}
+use Rattle.std.proofs.Common.{◌≡◌, ◌<◌, ◌-◌, ◌∙◌, inl, ℕ, List, map, sum, sum_by, ap, sym, subst, refl, arith, false, true, true≢false}
 use Rattle.flow_types.specs.declared.records.Record.{Record}
 use Rattle.worker_pool.specs.Crews.{AllSure, AllTell}
 use Rattle.outside.proofs.Moments.{weakened}
 use Rattle.report.specs.declared.cause.Cause.{Cause}
 use Rattle.report.specs.declared.cause.Cause.TheVariants as causes
-use Rattle.report.specs.Causes.{is_cut, kind_of}
+use Rattle.report.specs.Causes.{is_cut, kind_of, may_lose}
 use Rattle.std.proofs.lemmas.List.Sums.{sum-map}
 use Rattle.local_run.specs.Runs.{HasCauses}
+use Rattle.master_run.specs.declared.rises.Rise.{Rise}
 use Rattle.master_run.specs.Ends.{OneRose, counts}
 use Rattle.master_run.specs.Headline.{FailureEnd, IfWaited, WaitsInVain, is_run_end}
 use Rattle.master_run.specs.Serves.{Serves}
@@ -14,12 +15,15 @@ use Rattle.local_run.specs.Moments.{IsBefore}
 use Rattle.log_recover.specs.Recovery.{IsRecovering}
 use Rattle.master_run.specs.Runs.{run_cause, unread_cause}
 use Rattle.wq_run.specs.Ends.{AreBack}
+use Rattle.wq_run.specs.Losses.{AreDueLosses}
+use Rattle.flow_run.proofs.Dues.{due_none}
 use Rattle.flow_run.proofs.Stops.{back_same}
-use Rattle.master_run.proofs.Ran.{closed_run, closed_starts, cut_run, failed_run, logged_run, over_run, ran_serves, run_faults, told_cause}
+use Rattle.master_run.proofs.Ran.{closed_run, closed_starts, cut_run, failed_run, logged_run, loses_none, lost_run, over_run, ran_serves, run_faults, told_cause}
 use Rattle.master_run.proofs.Waits.{unread_waits, waited_run}
 use Rattle.master_run.proofs.Refusals.{by_fault}
 use Rattle.master_run.proofs.Counted.{hall_rise, site_rise}
 use Rattle.master_run.proofs.Unread.{recovering_before, unread_cuts, unread_ends, unread_failed, unread_serves}
+use Rattle.master_run.proofs.Works.{loses_cut}
 use Rattle.master_run.proofs.running.run_by_all.Goals as goal
 
 pub returns-in_default-clause-serves : goal.returns-in_default-clause-serves
@@ -121,6 +125,27 @@ pub returns-clause-waited : goal.returns-clause-waited
 returns-clause-waited g c =
     subst (λ (cause : Cause). IfWaited cause (WaitsInVain c.args.ask.plan c.args.ask.options c.args.ask.workers.limit (g.H.Hall.idle_count c.resume.new.hall - g.H.Hall.idle_count c.args.hall.now) c.new-in-Err.result)) (sym c.unread_cause.ensures)
     (unread_waits (WaitsInVain c.args.ask.plan c.args.ask.options c.args.ask.workers.limit (g.H.Hall.idle_count c.resume.new.hall - g.H.Hall.idle_count c.args.hall.now) c.new-in-Err.result) (record { before = c.args.before; after = c.faults-after-in-Err.result }) c.in-Err.refused.why)
+
+pub returns-in_default-clause-due_losses : goal.returns-in_default-clause-due_losses
+returns-in_default-clause-due_losses g c tells t H spelled keeps = absurd (true≢false keeps)
+
+pub returns-in-Ok-resume-clause-due_losses : goal.returns-in-Ok-resume-clause-due_losses
+returns-in-Ok-resume-clause-due_losses g c tells t H spelled keeps =
+    let same : c.run_cause.result ≡ run_cause (site_rise (counts c.args.before (map g.R.Runner.count c.args.runners.now) (g.H.Hall.count c.args.hall.now) (g.H.Hall.idle_count c.args.hall.now) 0) (counts (g.S.Site.count c.in-Ok-resume.ended.site) (map g.R.Runner.count c.resume.new.runners) (g.H.Hall.count c.resume.new.hall) (g.H.Hall.idle_count c.resume.new.hall) 0)) c.first_rise-runner.result (hall_rise (counts c.args.before (map g.R.Runner.count c.args.runners.now) (g.H.Hall.count c.args.hall.now) (g.H.Hall.idle_count c.args.hall.now) 0) (counts (g.S.Site.count c.in-Ok-resume.ended.site) (map g.R.Runner.count c.resume.new.runners) (g.H.Hall.count c.resume.new.hall) (g.H.Hall.idle_count c.resume.new.hall) 0)) c.args.ask.plan c.in-Ok-resume.ended.how =
+    c.run_cause.ensures ∙ told_cause c.args.before c.faults-after.result (g.S.Site.count c.in-Ok-resume.ended.site) c.faults-met.result (g.H.Hall.count c.args.hall.now) c.faults.result (g.H.Hall.count c.resume.new.hall) c.first_rise-runner.result c.in-Ok.copied c.args.ask.plan c.in-Ok-resume.ended.how c.faults-after.ensures c.faults-met.ensures c.faults.ensures c.in-Ok.ensures.0 in
+    let got = g.H.Hall.got c.args.hall.now in
+    let got_now = g.H.Hall.got c.resume.new.hall in
+    let records = c.in-Ok-resume.ended.records in
+    lost_run (AreDueLosses g.F.Commands.gives g.F.Commands.may_fail g.H.Way.Link.history g.H.Way.Link.count g.H.Way.Link.idle_count g.H.Way.Link.is_closed c.args.ask.workers.limit got got_now H records)
+    (site_rise (counts c.args.before (map g.R.Runner.count c.args.runners.now) (g.H.Hall.count c.args.hall.now) (g.H.Hall.idle_count c.args.hall.now) 0) (counts (g.S.Site.count c.in-Ok-resume.ended.site) (map g.R.Runner.count c.resume.new.runners) (g.H.Hall.count c.resume.new.hall) (g.H.Hall.idle_count c.resume.new.hall) 0)) c.first_rise-runner.result (hall_rise (counts c.args.before (map g.R.Runner.count c.args.runners.now) (g.H.Hall.count c.args.hall.now) (g.H.Hall.idle_count c.args.hall.now) 0) (counts (g.S.Site.count c.in-Ok-resume.ended.site) (map g.R.Runner.count c.resume.new.runners) (g.H.Hall.count c.resume.new.hall) (g.H.Hall.idle_count c.resume.new.hall) 0)) c.args.ask.plan c.in-Ok-resume.ended.how
+    (λ refused. due_none g.F.Commands.gives g.F.Commands.may_fail g.H.Way.Link.history g.H.Way.Link.count g.H.Way.Link.idle_count g.H.Way.Link.is_closed c.args.ask.workers.limit got got_now H records (ap g.H.Hall.got (c.in-Ok-resume.ensures.unmet refused)) (loses_none H records (c.in-Ok-resume.ensures.same t H spelled refused)))
+    (c.in-Ok-resume.ensures.due_losses tells t H spelled) (subst (λ (cause : Cause). may_lose (kind_of cause) ≡ false) same keeps)
+
+pub returns-clause-due_losses : goal.returns-clause-due_losses
+returns-clause-due_losses g c tells t H spelled keeps =
+    let s : Rise = record { before = c.args.before; after = c.faults-after-in-Err.result } in
+    unread_cuts c.files_spell_one_list.ensures.header c.files_spell_one_list.ensures.whole s (g.S.Site.files c.args.site c.args.ask.log) H c.in-Err.refused.why spelled (c.in-Err.ensures.damaged t)
+    (loses_cut (kind_of (unread_cause s c.in-Err.refused.why)) (subst (λ (cause : Cause). may_lose (kind_of cause) ≡ false) c.unread_cause.ensures keeps))
 
 pub returns-in-Ok-resume-clause-failures : goal.returns-in-Ok-resume-clause-failures
 returns-in-Ok-resume-clause-failures g c alone =

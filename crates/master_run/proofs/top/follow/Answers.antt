@@ -1,4 +1,4 @@
-use Rattle.std.proofs.Common.{◌≡◌, ◌∙◌, ◌-◌, ℕ, List, drop, map, [], Err, Result, ap, sym, subst, arith, true, true≢false}
+use Rattle.std.proofs.Common.{◌≡◌, ◌∙◌, ◌-◌, ℕ, List, drop, map, [], Err, Result, ap, sym, subst, arith, false, true, true≢false}
 use Rattle.outside.specs.Files.{Files}
 use Rattle.flow_types.specs.declared.plan.Plan.{Plan}
 use Rattle.flow_types.specs.declared.records.Record.{Record}
@@ -9,18 +9,22 @@ use Rattle.local_run.specs.Ends.{OpensBy}
 use Rattle.txn_log.specs.Spells.{Spells}
 use Rattle.desk.specs.Kept.{IsLegal}
 use Rattle.report.specs.declared.cause.Cause.{Cause}
-use Rattle.report.specs.Causes.{is_cut, kind_of}
+use Rattle.report.specs.Causes.{is_cut, kind_of, may_lose}
 use Rattle.master_run.specs.declared.ask.Ask.{Ask}
 use Rattle.master_run.specs.declared.asking.Refusal.{Refusal}
 use Rattle.wq_run.specs.declared.workers.Workers.{Workers}
+use Rattle.wq_run.specs.Losses.{AreDueLosses}
 use Rattle.flow_run.proofs.Stops.{back_same}
+use Rattle.master_run.specs.declared.rises.Rise.{Rise}
 use Rattle.master_run.specs.Asked.{choice, request, run_mode, run_options}
+use Rattle.master_run.specs.Runs.{refusal_cause}
 use Rattle.master_run.specs.Headline.{IfWaited, WaitsInVain}
 use Rattle.master_run.proofs.Waits.{local_ask, none_waits}
 use Rattle.master_run.specs.Ends.{CallEnds, FaultEnd, WordsEnd, counts}
 use Rattle.master_run.specs.Serves.{Serves}
 use Rattle.master_run.proofs.Reading.{serves_from}
 use Rattle.master_run.proofs.Refusals.{late_words, refused_cuts, refused_ends, refused_fault, refused_kind, refused_serves, refused_words, same_ask}
+use Rattle.master_run.proofs.Works.{loses_cut}
 use Rattle.master_run.proofs.top.follow.Goals as goal
 
 pub returns-in-Ok-clause-ends : goal.returns-in-Ok-clause-ends
@@ -150,6 +154,13 @@ returns-in-Ok-clause-failed g c told ask asked alone H spelled whole =
     let at_ask : Spells H (g.S.Site.files c.args.site c.in-Ok.ask.log) = subst (λ (a : Ask). Spells H (g.S.Site.files c.args.site a.log)) (sym same) spelled in
     c.serve.ensures.failed (ap (λ (a : Ask). a.options.wq) same ∙ alone) told H (subst (λ (fs : Files). Spells H (fs c.in-Ok.ask.log)) (sym (c.in-Ok.ensures.files told)) at_ask) whole
 
+pub returns-in-Ok-clause-due_losses : goal.returns-in-Ok-clause-due_losses
+returns-in-Ok-clause-due_losses g c tells told options chosen ask asked H spelled keeps =
+    let same : c.in-Ok.ask ≡ ask = same_ask c.in-Ok.ask ask (sym (c.in-Ok.ensures.stage told) ∙ asked) in
+    let at_ask : Spells H (g.S.Site.files c.args.site c.in-Ok.ask.log) = subst (λ (a : Ask). Spells H (g.S.Site.files c.args.site a.log)) (sym same) spelled in
+    subst (λ (w : Workers). AreDueLosses g.F.Commands.gives g.F.Commands.may_fail g.H.Way.Link.history g.H.Way.Link.count g.H.Way.Link.idle_count g.H.Way.Link.is_closed w.limit (g.H.Hall.got c.args.hall.now) (g.H.Hall.got c.serve.new.hall) H c.serve.result.records) (c.in-Ok.ensures.meets options chosen)
+    (c.serve.ensures.due_losses tells told H (subst (λ (fs : Files). Spells H (fs c.in-Ok.ask.log)) (sym (c.in-Ok.ensures.files told)) at_ask) keeps)
+
 pub returns-in-Ok-clause-opened : goal.returns-in-Ok-clause-opened
 returns-in-Ok-clause-opened g c options chosen ends =
     subst (λ (O : RunOptions). OpensBy O c.serve.result.records) (c.in-Ok.ensures.goes_by options chosen) (c.serve.ensures.opened ends)
@@ -163,6 +174,12 @@ pub returns-in-Err-clause-failed : goal.returns-in-Err-clause-failed
 returns-in-Err-clause-failed g c told ask asked alone H spelled whole =
     refused_cuts (request c.args.words.now c.args.env.now (g.S.Site.files c.args.site)) ask (record { before = c.faults-before.result; after = c.faults-after.result }) c.in-Err.refusal (c.in-Err.ensures.stage told) asked
     (λ cut. whole (subst (λ (cause : Cause). is_cut (kind_of cause) ≡ true) (sym c.refusal_cause.ensures) cut))
+
+pub returns-in-Err-clause-due_losses : goal.returns-in-Err-clause-due_losses
+returns-in-Err-clause-due_losses g c tells told options chosen ask asked H spelled keeps =
+    let s : Rise = record { before = c.faults-before.result; after = c.faults-after.result } in
+    refused_cuts (request c.args.words.now c.args.env.now (g.S.Site.files c.args.site)) ask s c.in-Err.refusal (c.in-Err.ensures.stage told) asked
+    (loses_cut (kind_of (refusal_cause s c.in-Err.refusal)) (subst (λ (cause : Cause). may_lose (kind_of cause) ≡ false) c.refusal_cause.ensures keeps))
 
 pub returns-in-Err-clause-opened : goal.returns-in-Err-clause-opened
 returns-in-Err-clause-opened g c options chosen read =

@@ -18,7 +18,8 @@ use Rattle.local_run.specs.Ends.{OpensBy}
 use Rattle.run_history.proofs.Limits.{limit-legal}
 use Rattle.master_run.proofs.Unneeded.{drops_unneeded}
 use Rattle.wq_run.specs.Ends.{AreBack}
-use Rattle.master_run.proofs.Reprinted.{after_closed, after_cut, after_failed, after_legal, after_planned, after_run, after_spared, after_sure, after_untouched, after_waited, printed_ends, printed_fault, printed_serves, printed_words, run_read, stands, waited_ran}
+use Rattle.wq_run.specs.Losses.{AreDueLosses}
+use Rattle.master_run.proofs.Reprinted.{after_closed, after_cut, after_failed, after_kept, after_legal, after_planned, after_run, after_spared, after_sure, after_untouched, after_waited, printed_ends, printed_fault, printed_serves, printed_words, run_read, stands, waited_ran}
 use Rattle.master_run.proofs.top.makeflow_top.Goals as goal
 
 pub returns-clause-ends : goal.returns-clause-ends
@@ -69,6 +70,11 @@ pub returns-clause-lost_away : goal.returns-clause-lost_away
 returns-clause-lost_away g c told ask asked H spelled keeps =
     (printed_serves g.S.Site.tells g.S.Site.files g.S.Site.may_leave g.S.Site.moment g.S.Site.images_since (g.S.Site.moment c.args.site) g.F.Commands.gives g.F.Commands.may_fail (AllTell g.R.Runner.tells c.args.runners.now) (AllSure g.R.Runner.sure c.args.runners.now) (g.H.Hall.honest c.args.hall.now)
     (g.S.Site.count c.args.site) (map g.R.Runner.count c.args.runners.now) (g.H.Hall.count c.args.hall.now) (g.H.Hall.idle_count c.args.hall.now) (g.O.Sink.count c.args.out.now) (g.S.Site.count c.follow-course.result.site) (map g.R.Runner.count c.follow-course.new.runners) (g.H.Hall.count c.follow-course.new.hall) (g.H.Hall.idle_count c.follow-course.new.hall) (g.O.Sink.count c.tell-cause.new.out) ask c.args.site c.follow-course.result.site c.follow-course.result.records c.follow-course.result.cause c.tell-cause.result (stands (g.O.Sink.count c.args.out.now) (g.O.Sink.count c.tell-cause.new.out) c.follow-course.result.cause c.tell-cause.result c.tell-cause.ensures.stands) (c.follow-course.ensures.serves told ask asked)).lost_away told H spelled keeps
+
+pub returns-clause-due_losses : goal.returns-clause-due_losses
+returns-clause-due_losses g c tells told options chosen ask asked H spelled =
+    after_kept (AreDueLosses g.F.Commands.gives g.F.Commands.may_fail g.H.Way.Link.history g.H.Way.Link.count g.H.Way.Link.idle_count g.H.Way.Link.is_closed options.limits.idle (g.H.Hall.got c.args.hall.now) (g.H.Hall.got c.follow-course.new.hall) H c.follow-course.result.records) (g.O.Sink.count c.args.out.now) (g.O.Sink.count c.tell-cause.new.out) c.follow-course.result.cause c.tell-cause.result (stands (g.O.Sink.count c.args.out.now) (g.O.Sink.count c.tell-cause.new.out) c.follow-course.result.cause c.tell-cause.result c.tell-cause.ensures.stands)
+    (c.follow-course.ensures.due_losses tells told options chosen ask asked H spelled)
 
 pub returns-clause-places : goal.returns-clause-places
 returns-clause-places g c told ask asked H spelled begins =

@@ -2,10 +2,13 @@ use Rattle.std.proofs.Common.{◌∙◌, ◌+◌, ◌-◌, ℕ, [], map, sum_by,
 use Rattle.flow_types.specs.declared.job.Job.{Job}
 use Rattle.worker_pool.specs.Crews.{AllSure, AllTell}
 use Rattle.master_run.specs.Ends.{counts}
+use Rattle.report.specs.Causes.{kind_of}
+use Rattle.flow_run.proofs.Dues.{due_none}
 use Rattle.flow_run.proofs.Stops.{back_same}
 use Rattle.master_run.specs.Headline.{WaitsInVain}
 use Rattle.master_run.proofs.Waits.{still_waits}
 use Rattle.master_run.proofs.Widened.{none_rises, unmet_fault, widened}
+use Rattle.master_run.proofs.Works.{loses_cut}
 use Rattle.master_run.proofs.top.serve.Goals as goal
 
 pub returns-in-Clean-clause-failures : goal.returns-in-Clean-clause-failures
@@ -63,3 +66,11 @@ returns-in-PrintLog-clause-back g c whole = back_same (g.H.Hall.got c.args.hall.
 pub returns-in-PrintLog-clause-waited : goal.returns-in-PrintLog-clause-waited
 returns-in-PrintLog-clause-waited g c =
     still_waits (WaitsInVain c.args.ask.plan c.args.ask.options c.args.ask.workers.limit (g.H.Hall.idle_count c.args.hall.now - g.H.Hall.idle_count c.args.hall.now) c.read_log.result.records) c.read_log.result.cause c.read_log.ensures.runs_not
+
+pub returns-in-Clean-clause-due_losses : goal.returns-in-Clean-clause-due_losses
+returns-in-Clean-clause-due_losses g c tells t H spelled keeps =
+    due_none g.F.Commands.gives g.F.Commands.may_fail g.H.Way.Link.history g.H.Way.Link.count g.H.Way.Link.idle_count g.H.Way.Link.is_closed c.args.ask.workers.limit (g.H.Hall.got c.args.hall.now) (g.H.Hall.got c.args.hall.now) H c.clean_flow.result.records refl (c.clean_flow.ensures.loses_none t H spelled (loses_cut (kind_of c.clean_flow.result.cause) keeps))
+
+pub returns-in-PrintLog-clause-due_losses : goal.returns-in-PrintLog-clause-due_losses
+returns-in-PrintLog-clause-due_losses g c tells t H spelled keeps =
+    due_none g.F.Commands.gives g.F.Commands.may_fail g.H.Way.Link.history g.H.Way.Link.count g.H.Way.Link.idle_count g.H.Way.Link.is_closed c.args.ask.workers.limit (g.H.Hall.got c.args.hall.now) (g.H.Hall.got c.args.hall.now) H c.read_log.result.records refl (c.read_log.ensures.loses_none t H spelled (loses_cut (kind_of c.read_log.result.cause) keeps))
