@@ -26,13 +26,13 @@ use Rattle.link_session.specs.Sessions.{is_of, is_open, opened, started}
 use Rattle.task_core.specs.declared.table.Started.{Started}
 use Rattle.task_core.specs.Stands.{Claims}
 use Rattle.net_world.specs.declared.play.Play.{Play}
-use Rattle.net_world.specs.Members.{Stands}
-use Rattle.net_world.specs.Worlds.{Connection, World, at_link, claim_logged, claimed_rule, claims, dispatched, dispatched_on, logged, puts_and_task, records_in, rule_at, run_of, sent_more, sent_out, start_of, taken, task_at, task_with, the_rule, want_at, with_session}
+use Rattle.world_laws.specs.Members.{Stands}
+use Rattle.world_laws.specs.Worlds.{Connection, World, at_link, claim_logged, claimed_rule, claims, dispatched, dispatched_on, logged, puts_and_task, records_in, rule_at, run_of, sent_more, sent_out, start_of, taken, task_at, task_with, the_rule, want_at, with_session}
 use Rattle.net_world.specs.Plays.{IsClaimed, IsNew, IsOurs, IsShown, IsTable}
 use Rattle.net_world.proofs.Lines.{goes_nowhere}
-use Rattle.net_world.proofs.Members.{every_append, every_one, get_stands}
-use Rattle.net_world.proofs.Places.{none_found, place_found}
-use Rattle.net_world.proofs.Records.{next_below}
+use Rattle.world_laws.proofs.Members.{every_append, every_one, get_stands}
+use Rattle.world_peers.proofs.Places.{none_found, place_found}
+use Rattle.world_laws.proofs.Records.{next_below}
 use Rattle.net_world.proofs.SessionShows.{IsBesideLines, session_shown}
 use Rattle.net_world.proofs.Shows.{IsBeside, logged_shown, moves_shown}
 

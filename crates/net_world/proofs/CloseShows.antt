@@ -1,12 +1,10 @@
 -- What the machines of a world show after an attempt was closed.
 use Rattle.std.proofs.Common.{◌≡◌, ◌<◌, zero, suc, ℕ, Bool, true, false, cond, List, [], ◌∷◌, ◌++◌, Option, Some, None, refl, ap, sym, ◌∙◌, subst, map, arith}
-use Rattle.std.specs.Prelude.{All, Result, Ok, ◌&&◌, length, nat_le, nat_lt, slice_get, sum_by}
-use Rattle.std.proofs.lemmas.List.{get_or-map, length-map}
+use Rattle.std.specs.Prelude.{Result, Ok, ◌&&◌, length, nat_le, nat_lt, slice_get, sum_by}
 use Rattle.flow_types.specs.declared.plan.Plan.{Plan}
 use Rattle.flow_types.specs.declared.plan.Rule.{Rule}
 use Rattle.flow_types.specs.declared.numbers.AttemptNo.{AttemptNo}
 use Rattle.flow_types.specs.declared.numbers.Content.{Content}
-use Rattle.flow_types.specs.declared.numbers.FileNo.{FileNo}
 use Rattle.flow_types.specs.declared.numbers.RuleNo.{RuleNo}
 use Rattle.flow_types.specs.declared.job.Failure.{Failure}
 use Rattle.flow_types.specs.declared.job.Outcome.{Outcome}
@@ -28,17 +26,12 @@ use Rattle.task_core.specs.States.{known_in}
 use Rattle.task_core.proofs.Closing.{state-known}
 use Rattle.net_world.specs.declared.play.Play.{Play}
 use Rattle.net_world.specs.Closings.{FitsRule}
-use Rattle.net_world.specs.Holdings.{held_in}
-use Rattle.net_world.specs.Worlds.{World, closed_as, closed_at, closes, logged, row_for, rule_at, with_files}
+use Rattle.world_contents.specs.Holdings.{held_in}
+use Rattle.world_laws.specs.Worlds.{World, closed_as, closed_at, closes, logged, row_for, rule_at, with_files}
 use Rattle.net_world.specs.Plays.{IsShown, IsTable}
-use Rattle.net_world.proofs.Bounds.{failure_at, outs_together, outs_within}
+use Rattle.world_laws.proofs.Bounds.{failure_at, outs_together, outs_within}
 use Rattle.net_world.proofs.Lines.{goes_logged, ours_keep}
 use Rattle.net_world.proofs.Shows.{IsBeside, logged_shown, table_logged}
-
--- numbers of files that are below a bound
-pub all_inside : (n : ℕ) (files : List FileNo) → All (λ f. f < n) (map (λ file. file.0) files) → All (λ file. file.0 < n) files
-all_inside n files all k d inside =
-    subst (λ f. f < n) (get_or-map (λ file. file.0) files k d d.0 inside) (all k d.0 (subst (λ m. k < m) (sym (length-map files (λ file. file.0))) inside))
 
 -- beside the table, the records and the contents nothing has changed
 pub record IsBesideFiles (old new : Play) : Type 0 where

@@ -12,15 +12,15 @@ use Rattle.run_history.specs.Legal.{has_places}
 use Rattle.run_history.specs.Links.{records_of}
 use Rattle.run_history.specs.Storage.{wanted}
 use Rattle.task_core.specs.Collections.{Collects}
-use Rattle.net_world.specs.declared.events.Sent.{Sent}
+use Rattle.world_peers.specs.declared.sent.Sent.{Sent}
 use Rattle.net_world.specs.declared.play.Play.{Play}
 use Rattle.net_world.specs.Drops.{IsCollected, dropped_or}
-use Rattle.net_world.specs.Holdings.{held_in}
+use Rattle.world_contents.specs.Holdings.{held_in}
 use Rattle.net_world.specs.Plays.{AreOurs, IsShown, IsTable}
-use Rattle.net_world.specs.Worlds.{Connection, World, collects, drop_logged, dropped, forgets, knows, records_in, unlink_on, unlinks, without}
+use Rattle.world_laws.specs.Worlds.{Connection, World, collects, drop_logged, dropped, forgets, knows, records_in, unlink_on, unlinks, without}
 use Rattle.net_world.proofs.CloseShows.{IsBesideFiles, filed_shown}
 use Rattle.net_world.proofs.Lines.{numbers_of}
-use Rattle.net_world.proofs.Members.{every_map}
+use Rattle.world_laws.proofs.Members.{every_map}
 
 -- ---- the drop
 

@@ -17,12 +17,12 @@ use Rattle.task_core.specs.Parts.{IsOver}
 use Rattle.task_core.specs.Stands.{Notes, Stands, logged as moves_with}
 use Rattle.task_core.specs.States.{TableState}
 use Rattle.net_world.specs.declared.play.Play.{Play}
-use Rattle.net_world.specs.Holdings.{held_in}
+use Rattle.world_contents.specs.Holdings.{held_in}
 use Rattle.net_world.specs.Plays.{AreOurs, IsShown, IsTable}
-use Rattle.net_world.specs.Worlds.{World, going_on, logged, present_only, records_in, resumes, resumption, stopped}
-use Rattle.net_world.proofs.Crashes.{records_again}
+use Rattle.world_laws.specs.Worlds.{World, going_on, logged, present_only, records_in, resumes, resumption, stopped}
+use Rattle.world_laws.proofs.Crashes.{records_again}
 use Rattle.net_world.proofs.Lines.{goes_logged}
-use Rattle.net_world.proofs.Members.{every_nil}
+use Rattle.world_laws.proofs.Members.{every_nil}
 use Rattle.net_world.proofs.Shows.{table_logged}
 
 no_joins : (H : List Record) → count_by is_join (map moves.Logged H) ≡ 0

@@ -12,7 +12,7 @@ use Rattle.run_history.specs.History.{is_cleaned, is_cleaned_kind}
 use Rattle.task_core.specs.Ends.{Ends, EndsBy}
 use Rattle.task_core.specs.Stands.{IsStill}
 use Rattle.net_world.specs.declared.play.Play.{Play}
-use Rattle.net_world.specs.Worlds.{World, ends, ends_as}
+use Rattle.world_laws.specs.Worlds.{World, ends, ends_as}
 use Rattle.net_world.specs.Plays.{IsShown, IsTable}
 use Rattle.net_world.proofs.Lines.{goes_nowhere}
 use Rattle.net_world.proofs.Shows.{IsBeside, logged_shown, moves_shown}

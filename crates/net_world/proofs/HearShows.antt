@@ -47,18 +47,18 @@ use Rattle.link_session.specs.Fits.{are_within, has_all, names_output, outcome_f
 use Rattle.link_session.specs.Sessions.{State, Told, breaks, closed_at as shut_at, ended_at, ended_by, greets, hears, is_of, lacked_at, lacked_by, lost, missed, most_misses, place, put_again, says, told, word_of}
 use Rattle.wq_messages.specs.declared.fault.MessageFault.{MessageFault}
 use Rattle.wq_messages.specs.Reading.{message_of}
-use Rattle.net_world.specs.declared.events.Party.{Party}
-use Rattle.net_world.specs.declared.events.Sent.{Sent}
+use Rattle.world_peers.specs.declared.sent.Party.{Party}
+use Rattle.world_peers.specs.declared.sent.Sent.{Sent}
 use Rattle.net_world.specs.declared.play.Play.{Play}
 use Rattle.net_world.specs.Hearings.{IsFitEnd, word_in}
-use Rattle.net_world.specs.Members.{Every, Stands}
-use Rattle.net_world.specs.declared.member.Member.{Member}
-use Rattle.net_world.specs.Worlds.{Connection, World, to_member, answer_logged, answered, at_peer, comes, coming_logged, delivered, delivery_logged, changes, closed_as, closed_at, end_in, end_logged, follows, link_no, message_logged, moved, puts_again, puts_and_task, records_in, rule_at, sent_more, session_set, task_at, the_rule, to_master, to_peer, with_session}
+use Rattle.world_laws.specs.Members.{Every, Stands}
+use Rattle.world_peers.specs.declared.member.Member.{Member}
+use Rattle.world_laws.specs.Worlds.{Connection, World, to_member, answer_logged, answered, at_peer, comes, coming_logged, delivered, delivery_logged, changes, closed_as, closed_at, end_in, end_logged, follows, link_no, message_logged, moved, puts_again, puts_and_task, records_in, rule_at, sent_more, session_set, task_at, the_rule, to_master, to_peer, with_session}
 use Rattle.net_world.specs.Plays.{IsFit, IsOurs, IsShown, IsTable}
-use Rattle.net_world.proofs.Deliveries.{told_by_stage}
+use Rattle.world_laws.proofs.Deliveries.{told_by_stage}
 use Rattle.net_world.proofs.Lines.{changed_links, goes_nowhere, keeps_silent, numbers_of}
-use Rattle.net_world.proofs.Members.{found_stands, get_stands, stands_filter}
-use Rattle.net_world.proofs.Places.{none_found, place_found}
+use Rattle.world_laws.proofs.Members.{found_stands, get_stands, stands_filter}
+use Rattle.world_peers.proofs.Places.{none_found, place_found}
 use Rattle.net_world.proofs.SessionShows.{IsBesideLines, session_shown}
 use Rattle.net_world.proofs.Shows.{IsBeside, moves_shown}
 

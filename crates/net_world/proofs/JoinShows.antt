@@ -19,20 +19,23 @@ use Rattle.run_history.proofs.Grows.{records-same}
 use Rattle.link_session.specs.Sessions.{State}
 use Rattle.task_core.specs.Stands.{IsSameRun, Stands}
 use Rattle.worker_core.specs.Workers.{Worker}
-use Rattle.net_world.specs.declared.events.Joiner.{Joiner}
+use Rattle.world_laws.specs.declared.events.Joiner.{Joiner}
 use Rattle.net_world.specs.declared.play.Play.{Play}
-use Rattle.net_world.specs.declared.doing.Returning.{Returning}
-use Rattle.net_world.specs.declared.doing.Returning.TheVariants as returnings
-use Rattle.net_world.specs.declared.member.Home.{Home}
-use Rattle.net_world.specs.declared.member.Home.TheVariants.{AtForeman, AtMaster}
-use Rattle.net_world.specs.declared.member.Member.{Member}
-use Rattle.net_world.specs.declared.member.Member.TheVariants.{Leads, Works}
-use Rattle.net_world.specs.Doings.{attached, home_returning, next_at, next_number, returning_of}
-use Rattle.net_world.specs.Worlds.{Connection, Lead, Machine, World, at_next, at_peer, back, back_home, back_to, comes_again, comes_below, comes_to, connected_lead, greeted, has_number, is_open, joins, link_no, linked, most_peers, new_machine, next_below, records_in, run_of, welcomed, with_member, with_more}
-use Rattle.net_world.specs.Plays.{AreOurs, IsOurs, IsShown, kept_in}
+use Rattle.world_peers.specs.declared.doing.Returning.{Returning}
+use Rattle.world_peers.specs.declared.doing.Returning.TheVariants as returnings
+use Rattle.world_peers.specs.declared.member.Home.{Home}
+use Rattle.world_peers.specs.declared.member.Home.TheVariants.{AtForeman, AtMaster}
+use Rattle.world_peers.specs.declared.member.Member.{Member}
+use Rattle.world_peers.specs.declared.member.Member.TheVariants.{Leads, Works}
+use Rattle.world_peers.specs.Doings.{attached, home_returning, next_at, next_number, returning_of}
+use Rattle.world_laws.specs.Worlds.{Connection, World, at_peer, back, back_home, back_to, comes_again, comes_below, comes_to, connected_lead, greeted, has_number, joins, link_no, linked, records_in, run_of, welcomed, with_member, with_more}
+use Rattle.world_peers.specs.Peers.{Lead, Machine, is_open, new_machine, next_below}
+use Rattle.world_peers.specs.Company.{at_next, most_peers}
+use Rattle.net_world.specs.Plays.{AreOurs, IsOurs, IsShown}
+use Rattle.world_contents.specs.Holdings.{kept_in}
 use Rattle.net_world.proofs.Lines.{joined_links, keeps_silent, ours_keep}
 use Rattle.net_world.proofs.PeerShows.{IsSameMaster, peers_put}
-use Rattle.net_world.proofs.Members.{every_append, every_nil, every_one}
+use Rattle.world_laws.proofs.Members.{every_append, every_nil, every_one}
 
 abbrev line_of : ℕ → ℕ → State → Connection
 line_of link peer session = record { link = link; peer = peer; session = session }

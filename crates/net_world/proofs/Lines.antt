@@ -21,10 +21,10 @@ use Rattle.task_core.specs.Stands.{Stands, logged as moves_with}
 use Rattle.task_core.specs.States.{TableState, is_entry, link_at}
 use Rattle.task_core.proofs.Linking.{changed-stands, joined-stands, left-stands}
 use Rattle.task_core.proofs.Standing.{live-same}
-use Rattle.net_world.specs.Members.{Every}
-use Rattle.net_world.specs.Worlds.{Connection, at_link}
+use Rattle.world_laws.specs.Members.{Every}
+use Rattle.world_laws.specs.Worlds.{Connection, at_link}
 use Rattle.net_world.specs.Plays.{AreOurs, IsOurs}
-use Rattle.net_world.proofs.Grows.{Keeps, keeps_more}
+use Rattle.world_laws.proofs.Grows.{Keeps, keeps_more}
 
 -- the number of an entry's link
 abbrev number : LinkEntry → ℕ

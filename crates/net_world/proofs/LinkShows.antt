@@ -1,10 +1,8 @@
 -- What the machines of a world show after a link is lost.
-use Rattle.std.proofs.Common.{◌≡◌, ◌<◌, ◌≤◌, ◌+◌, ℕ, Bool, true, false, cond, not, List, [], ◌∷◌, ◌++◌, length, Option, Some, None, refl, ap, sym, ◌∙◌, subst, map, fold, arith}
+use Rattle.std.proofs.Common.{◌≡◌, ◌<◌, ◌≤◌, ℕ, Bool, true, false, cond, not, List, [], ◌∷◌, ◌++◌, length, Option, Some, None, refl, ap, sym, ◌∙◌, subst, fold, arith}
 use Rattle.std.specs.Prelude.{◌&&◌, filter, find, is_some, slice_get}
 use Rattle.std.specs.Option.{option_map, option_map_or}
 use Rattle.std.proofs.lemmas.Bool.{eqb-true}
-use Rattle.std.proofs.lemmas.List.FromFn.{map-range_with_len_more}
-use Rattle.std.proofs.lemmas.List.Elements.{filter-append}
 use Rattle.flow_types.specs.declared.plan.Plan.{Plan}
 use Rattle.flow_types.specs.declared.numbers.AttemptNo.{AttemptNo}
 use Rattle.flow_types.specs.declared.numbers.LinkNo.{LinkNo}
@@ -21,23 +19,13 @@ use Rattle.run_history.specs.Storage.{is_running}
 use Rattle.run_history.proofs.Grows.{records-same}
 use Rattle.task_core.specs.Links.{Leaves}
 use Rattle.net_world.specs.declared.play.Play.{Play}
-use Rattle.net_world.specs.Worlds.{Connection, World, at_link, closed_as, closed_at, leaves, loses_link, loses_rule, parts, records_in}
-use Rattle.net_world.specs.Plays.{AreOurs, IsShown, kept_in, runs_there}
+use Rattle.world_laws.specs.Worlds.{Connection, World, at_link, closed_as, closed_at, leaves, loses_link, loses_rule, parts, records_in}
+use Rattle.net_world.specs.Plays.{AreOurs, IsShown, runs_there}
+use Rattle.world_contents.specs.Holdings.{kept_in}
 use Rattle.net_world.proofs.Lines.{keeps_silent, left_links, none_local, ours_keep}
-use Rattle.net_world.proofs.Members.{every_filter, found_stands}
+use Rattle.world_laws.proofs.Members.{every_filter, found_stands}
 
 -- ---- the rules that run on a link
-
-same_map : (xs : List ℕ) → map (λ x. x) xs ≡ xs
-same_map [] = refl
-same_map (x ∷ xs) = ap (λ ys. x ∷ ys) (same_map xs)
-
-numbers_push : (i : ℕ) → numbers (i + 1) ≡ numbers i ++ (i ∷ [])
-numbers_push i = sym (same_map (numbers (i + 1))) ∙ map-range_with_len_more (λ x. x) 0 i i (omega arith) ∙ ap (λ xs. xs ++ (i ∷ [])) (same_map (numbers i))
-
--- one number more
-pub numbers_more : (on : ℕ → Bool) (i : ℕ) → filter on (numbers (i + 1)) ≡ filter on (numbers i) ++ filter on (i ∷ [])
-numbers_more on i = ap (filter on) (numbers_push i) ∙ filter-append on (numbers i) (i ∷ [])
 
 kept_by : (first then : ℕ → Bool) (x : ℕ) (xs : List ℕ) (a : Bool) → first x ≡ a → filter (λ y. first y && then y) xs ≡ filter then (filter first xs)
     → cond (a && then x) (x ∷ filter (λ y. first y && then y) xs) (filter (λ y. first y && then y) xs) ≡ filter then (cond a (x ∷ filter first xs) (filter first xs))

@@ -14,12 +14,13 @@ use Rattle.flow_types.specs.Serial.{Contents, Function, job_of}
 use Rattle.outside.specs.Jobs.{IsShaped}
 use Rattle.run_history.specs.declared.options.Options.{Options}
 use Rattle.net_world.specs.declared.play.Play.{Play}
-use Rattle.net_world.specs.Holdings.{given_at, held_in}
+use Rattle.world_contents.specs.Holdings.{given_at, held_in}
 use Rattle.net_world.specs.Plays.{IsFit, IsShown}
-use Rattle.net_world.specs.Reach.{EndsSo, Failures, MayAnswer}
-use Rattle.net_world.specs.Due.{Ended, RunsSo, local_due}
+use Rattle.world_peers.specs.Runs.{EndsSo, Failures}
+use Rattle.world_laws.specs.Reach.{MayAnswer}
+use Rattle.world_laws.specs.Due.{Ended, RunsSo, local_due}
 use Rattle.net_world.specs.Steps.{RunsLocally, job_in}
-use Rattle.net_world.specs.Worlds.{World, closes, job_at, records_in, rule_at, runs_local, the_rule, want_at}
+use Rattle.world_laws.specs.Worlds.{World, closes, job_at, records_in, rule_at, runs_local, the_rule, want_at}
 
 -- ---- the job
 

@@ -17,23 +17,28 @@ use Rattle.worker_core.specs.Workers.{Worker, reports}
 use Rattle.foreman_core.specs.Steps.{hears_down}
 use Rattle.flow_types.specs.declared.numbers.Amounts.{Amounts}
 use Rattle.flow_types.specs.declared.messages.Message.TheVariants as messages
-use Rattle.net_world.specs.declared.doing.Doing.{Doing}
-use Rattle.net_world.specs.declared.doing.Doing.TheVariants as doings
-use Rattle.net_world.specs.declared.events.Party.{Party}
-use Rattle.net_world.specs.declared.events.Sent.{Sent}
-use Rattle.net_world.specs.declared.member.Home.{Home}
-use Rattle.net_world.specs.declared.member.Home.TheVariants.{AtForeman, AtMaster}
-use Rattle.net_world.specs.declared.member.Member.{Member}
-use Rattle.net_world.specs.declared.member.Member.TheVariants.{Leads, Works}
+use Rattle.world_peers.specs.declared.doing.Doing.{Doing}
+use Rattle.world_peers.specs.declared.doing.Doing.TheVariants as doings
+use Rattle.world_peers.specs.declared.sent.Party.{Party}
+use Rattle.world_peers.specs.declared.sent.Sent.{Sent}
+use Rattle.world_peers.specs.declared.member.Home.{Home}
+use Rattle.world_peers.specs.declared.member.Home.TheVariants.{AtForeman, AtMaster}
+use Rattle.world_peers.specs.declared.member.Member.{Member}
+use Rattle.world_peers.specs.declared.member.Member.TheVariants.{Leads, Works}
 use Rattle.net_world.specs.declared.play.Play.{Play}
-use Rattle.net_world.specs.declared.doing.Parting.{Parting}
-use Rattle.net_world.specs.declared.doing.Parting.TheVariants as partings
-use Rattle.net_world.specs.Doings.{IsStep, welcomes, RunsMember, RunsUnless, Stepped, departed, done, heard_by, hears_foreman, hears_master, hears_peer, hears_worker, home_parting, loses_at, parted_from, parting_of, still}
-use Rattle.net_world.specs.Worlds.{World, Lead, Machine, cut_where, hello_of, is_under, led, next_below, told_to, welcomed, with_one_more, from_foreman, from_worker, goes, goes_from, least_job, link_at, loses_below, next_job, party_of, ran, ran_on, sent_more, to_member, to_other, with_member, with_peers, works_on}
-use Rattle.net_world.specs.Reach.{EndsSo, Failures, MayAnswer}
-use Rattle.net_world.specs.Due.{Ended, RunsSo, peer_due}
-use Rattle.net_world.specs.Runs.{RunsNext}
-use Rattle.net_world.specs.Plays.{IsShown, IsTable, kept_in}
+use Rattle.world_peers.specs.declared.doing.Parting.{Parting}
+use Rattle.world_peers.specs.declared.doing.Parting.TheVariants as partings
+use Rattle.world_peers.specs.Doings.{IsStep, welcomes, RunsMember, RunsUnless, Stepped, departed, heard_by, hears_foreman, hears_master, hears_peer, hears_worker, home_parting, loses_at, parting_of, still}
+use Rattle.net_world.specs.Done.{done, parted_from}
+use Rattle.world_laws.specs.Worlds.{World, led, welcomed, from_foreman, from_worker, goes, goes_from, loses_below, ran, ran_on, sent_more, to_member, to_other, with_member, with_peers, works_on}
+use Rattle.world_peers.specs.Peers.{Lead, Machine, hello_of, next_below, told_to, with_one_more, least_job}
+use Rattle.world_peers.specs.Company.{cut_where, is_under, link_at, next_job, party_of}
+use Rattle.world_peers.specs.Runs.{EndsSo, Failures}
+use Rattle.world_laws.specs.Reach.{MayAnswer}
+use Rattle.world_laws.specs.Due.{Ended, RunsSo, peer_due}
+use Rattle.world_peers.specs.Runs.{RunsNext}
+use Rattle.net_world.specs.Plays.{IsShown, IsTable}
+use Rattle.world_contents.specs.Holdings.{kept_in}
 
 -- beside the peers and the messages nothing has changed
 pub record IsSameMaster (old new : Play) : Type 0 where

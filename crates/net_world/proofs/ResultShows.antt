@@ -13,11 +13,11 @@ use Rattle.run_history.specs.Storage.{is_present}
 use Rattle.task_core.specs.Stands.{Stands}
 use Rattle.net_world.specs.declared.play.Play.{Play}
 use Rattle.net_world.specs.declared.world.Holding.{Holding}
-use Rattle.net_world.specs.Holdings.{held_in}
+use Rattle.world_contents.specs.Holdings.{held_in}
 use Rattle.net_world.specs.Plays.{IsShown}
 use Rattle.net_world.specs.Results.{holding_of, holdings, is_made, present_holding}
-use Rattle.net_world.specs.Worlds.{World, records_in}
-use Rattle.net_world.proofs.LinkShows.{numbers_more}
+use Rattle.world_laws.specs.Worlds.{World, records_in}
+use Rattle.world_contents.proofs.Numbers.{numbers_more}
 
 -- a file with its content
 abbrev pub holding_at : ℕ → List ℕ → Holding

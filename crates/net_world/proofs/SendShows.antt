@@ -11,10 +11,11 @@ use Rattle.flow_types.specs.declared.messages.Message.TheVariants as messages
 use Rattle.flow_types.specs.declared.numbers.FileNo.{FileNo}
 use Rattle.flow_types.specs.Serial.{Contents}
 use Rattle.run_history.specs.declared.options.Options.{Options}
-use Rattle.net_world.specs.declared.events.Sent.{Sent}
+use Rattle.world_peers.specs.declared.sent.Sent.{Sent}
 use Rattle.net_world.specs.declared.play.Play.{Play}
-use Rattle.net_world.specs.Holdings.{held_in}
-use Rattle.net_world.specs.Worlds.{World, down_to, put_of, puts_and_task, sent_more}
+use Rattle.world_contents.specs.Holdings.{held_in}
+use Rattle.world_laws.specs.Worlds.{World, put_of, puts_and_task, sent_more}
+use Rattle.world_peers.specs.Peers.{down_to}
 use Rattle.net_world.specs.Plays.{IsShown}
 use Rattle.net_world.proofs.PeerShows.{IsSameMaster, peers_shown}
 

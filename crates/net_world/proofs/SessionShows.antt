@@ -8,11 +8,12 @@ use Rattle.run_history.specs.declared.options.Options.{Options}
 use Rattle.run_history.specs.Links.{records_of}
 use Rattle.link_session.specs.Sessions.{State}
 use Rattle.net_world.specs.declared.play.Play.{Play}
-use Rattle.net_world.specs.Members.{Every}
-use Rattle.net_world.specs.Worlds.{Connection, World, session_set, with_session}
-use Rattle.net_world.specs.Plays.{AreOurs, IsOurs, IsShown, IsTable, kept_in}
+use Rattle.world_laws.specs.Members.{Every}
+use Rattle.world_laws.specs.Worlds.{Connection, World, session_set, with_session}
+use Rattle.net_world.specs.Plays.{AreOurs, IsOurs, IsShown, IsTable}
+use Rattle.world_contents.specs.Holdings.{kept_in}
 use Rattle.net_world.proofs.Lines.{Ascends, links_ascend, numbers_of}
-use Rattle.net_world.proofs.Members.{every_map}
+use Rattle.world_laws.proofs.Members.{every_map}
 
 -- beside the links nothing has changed
 pub record IsBesideLines (old new : Play) : Type 0 where

@@ -22,9 +22,10 @@ use Rattle.task_core.specs.States.{TableState, row_at}
 use Rattle.flow_types.specs.declared.job.Outcome.{Outcome}
 use Rattle.flow_types.specs.declared.job.Outcome.TheVariants as outcomes
 use Rattle.net_world.specs.declared.play.Play.{Play}
-use Rattle.net_world.specs.Members.{Every}
-use Rattle.net_world.specs.Worlds.{World, closed_as, closed_at, logged, loses_rule}
-use Rattle.net_world.specs.Plays.{AreOurs, IsShown, IsTable, kept_in}
+use Rattle.world_laws.specs.Members.{Every}
+use Rattle.world_laws.specs.Worlds.{World, closed_as, closed_at, logged, loses_rule}
+use Rattle.net_world.specs.Plays.{AreOurs, IsShown, IsTable}
+use Rattle.world_contents.specs.Holdings.{kept_in}
 use Rattle.net_world.proofs.Lines.{GoesOn, goes_logged, goes_nowhere, numbers_of, ours_keep}
 
 not_empty : (xs : List Record) (x : Record) → is_empty (xs ++ (x ∷ [])) ≡ false

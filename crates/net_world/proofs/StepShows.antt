@@ -5,16 +5,16 @@ use Rattle.flow_types.specs.declared.lists.Memory.{Memory}
 use Rattle.flow_types.specs.declared.job.Outcome.TheVariants as outcomes
 use Rattle.flow_types.specs.declared.numbers.LinkNo.{LinkNo}
 use Rattle.flow_types.specs.Serial.{Function}
-use Rattle.net_world.specs.declared.events.Cut.{Cut}
-use Rattle.net_world.specs.declared.events.WorldEvent.{WorldEvent}
-use Rattle.net_world.specs.declared.events.WorldEvent.TheVariants as events
-use Rattle.net_world.specs.declared.fault.WorldFault.{WorldFault}
+use Rattle.world_laws.specs.declared.events.Cut.{Cut}
+use Rattle.world_laws.specs.declared.events.WorldEvent.{WorldEvent}
+use Rattle.world_laws.specs.declared.events.WorldEvent.TheVariants as events
+use Rattle.world_peers.specs.declared.fault.WorldFault.{WorldFault}
 use Rattle.net_world.specs.declared.play.Play.{Play}
 use Rattle.net_world.specs.Plays.{IsShown, Turns}
-use Rattle.net_world.specs.Reach.{Failures}
-use Rattle.net_world.specs.Due.{RunsSo, due_down, due_up}
+use Rattle.world_peers.specs.Runs.{Failures}
+use Rattle.world_laws.specs.Due.{RunsSo, due_down, due_up}
 use Rattle.net_world.specs.Steps.{RunsAs, StepsBy, in_world}
-use Rattle.net_world.specs.Worlds.{cut_short, happens_down, happens_up, job_run, loses_link, stopped}
+use Rattle.world_laws.specs.Worlds.{cut_short, happens_down, happens_up, job_run, loses_link, stopped}
 
 -- what an event makes of a world while the master runs
 abbrev pub StepsUp : Function → Failures → WorldEvent → Play → Play → Type 0

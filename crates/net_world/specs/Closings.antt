@@ -9,7 +9,7 @@ use Rattle.links.specs.Honesty.{HasRun}
 use Rattle.outside.specs.Jobs.{IsShaped}
 use Rattle.run_history.specs.declared.options.Options.{Options}
 use Rattle.net_world.specs.declared.play.Play.{Play}
-use Rattle.net_world.specs.Worlds.{World, closed_at}
+use Rattle.world_laws.specs.Worlds.{World, closed_at}
 use Rattle.net_world.specs.Plays.{IsShown}
 
 -- the outcome has the shape that the rule's job asks for, if it ran

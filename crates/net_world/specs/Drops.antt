@@ -5,7 +5,7 @@ use Rattle.flow_types.specs.declared.numbers.FileNo.{FileNo}
 use Rattle.run_history.specs.declared.options.Options.{Options}
 use Rattle.run_history.specs.Storage.{wanted}
 use Rattle.net_world.specs.declared.play.Play.{Play}
-use Rattle.net_world.specs.Worlds.{World, collects, drop_logged, dropped, records_in, unlinks}
+use Rattle.world_laws.specs.Worlds.{World, collects, drop_logged, dropped, records_in, unlinks}
 use Rattle.net_world.specs.Plays.{IsShown}
 
 -- This file is collected, and a collection logs that it is dropped; without one a collection

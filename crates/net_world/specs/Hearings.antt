@@ -1,18 +1,14 @@
 -- What the master makes of a word.
-use Rattle.std.specs.Prelude.{◌≡◌, ◌≤◌, ℕ, Option, Some, None, Result, Ok, Err, length, sum_by}
+use Rattle.std.specs.Prelude.{◌≡◌, ℕ, Option, Some, None, Result, Ok, Err}
 use Rattle.flow_types.specs.declared.plan.Plan.{Plan}
-use Rattle.flow_types.specs.declared.job.Outcome.{Outcome}
-use Rattle.flow_types.specs.declared.job.Outcome.TheVariants as outcomes
 use Rattle.flow_types.specs.declared.job.Report.{Report}
 use Rattle.flow_types.specs.declared.messages.Message.{Message}
-use Rattle.flow_types.specs.Plans.{most_bytes}
 use Rattle.link_session.specs.declared.word.SessionFault.{SessionFault}
 use Rattle.link_session.specs.declared.word.Word.{Word}
 use Rattle.run_history.specs.declared.options.Options.{Options}
-use Rattle.wq_messages.specs.Spelling.{most_outputs}
 use Rattle.net_world.specs.declared.play.Play.{Play}
-use Rattle.net_world.specs.Members.{Stands}
-use Rattle.net_world.specs.Worlds.{Connection, World, end_in, end_logged, follows}
+use Rattle.world_laws.specs.Members.{Stands}
+use Rattle.world_laws.specs.Worlds.{Connection, World, end_in, end_logged, follows}
 use Rattle.net_world.specs.Plays.{IsFit, IsShown}
 
 -- the word that was answered, if one was
@@ -39,10 +35,3 @@ Follows k p word old new =
     (P : Plan) (O : Options) (w : World) (c : Connection) → IsShown P O w old → c.link ≡ k
     → c.peer ≡ p → ((d : Connection) × (d.link ≡ k) × Stands d w.connections)
     → IsShown P O (follows P w c word) new
-
--- the contents of an outcome are few and small
-abbrev pub IsSmall : Outcome → Type 0
-IsSmall (outcomes.Success contents) =
-    (length contents ≤ most_outputs) × (sum_by (λ c. length c) contents ≤ most_bytes)
-IsSmall (outcomes.Failed why) = Unit {0}
-IsSmall outcomes.NotRun = Unit {0}

@@ -23,10 +23,12 @@ use Rattle.outside.specs.Jobs.{IsShaped}
 use Rattle.task_core.specs.Stands.{Stands}
 use Rattle.task_core.specs.States.{TableState}
 use Rattle.net_world.specs.declared.play.Play.{Play}
-use Rattle.net_world.specs.Members.{Every}
-use Rattle.net_world.specs.Worlds.{Connection, World, claim_logged, claimed_rule, claims, closes, dispatched_on, job_at, next_job, ran_on, rule_at, sent_out}
-use Rattle.net_world.specs.Reach.{Failures}
-use Rattle.net_world.specs.Due.{RunsSo, peer_due}
+use Rattle.world_contents.specs.Holdings.{kept_in}
+use Rattle.world_laws.specs.Members.{Every}
+use Rattle.world_laws.specs.Worlds.{Connection, World, claim_logged, claimed_rule, claims, closes, dispatched_on, job_at, ran_on, rule_at, sent_out}
+use Rattle.world_peers.specs.Company.{next_job}
+use Rattle.world_peers.specs.Runs.{Failures}
+use Rattle.world_laws.specs.Due.{RunsSo, peer_due}
 
 -- The table stands behind the moves of a run of this plan that was opened and that no stop ends,
 -- and these are their records.
@@ -42,11 +44,6 @@ pub record IsTable (P : Plan) (O : Options) (M : List Move) (table : TableState)
 -- rule r runs, on link k
 abbrev pub runs_there : List Record → ℕ → ℕ → Bool
 runs_there H k r = is_running H r && runs_on H k r
-
--- what is kept at a place, where there is such a place
-abbrev pub kept_in : Option (Option (List ℕ)) → Option (List ℕ)
-kept_in None = None
-kept_in (Some kept) = kept
 
 -- An open attempt is one that was started, with the bounds of its rule's outputs.
 pub record IsOurs (P : Plan) (H : List Record) (o : Open) : Type 0 where

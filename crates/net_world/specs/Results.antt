@@ -1,25 +1,14 @@
 -- What a run of a world answers.
-use Rattle.std.specs.Prelude.{◌≡◌, ◌==◌, ◌&&◌, ℕ, Bool, List, Option, None, if◌then◌else◌, filter_map, is_some, length, nat_le}
-use Rattle.std.specs.List.{list_all}
+use Rattle.std.specs.Prelude.{◌≡◌, ℕ, Bool, List, Option, None, if◌then◌else◌, filter_map, is_some}
 use Rattle.std.specs.Option.{option_map}
 use Rattle.flow_types.specs.declared.plan.Plan.{Plan}
-use Rattle.flow_types.specs.Plans.{made_files, maker_of, most_bytes, sources_of}
-use Rattle.flow_types.specs.Serial.{Contents, content_of}
+use Rattle.flow_types.specs.Plans.{made_files, maker_of}
+use Rattle.flow_types.specs.Serial.{Contents}
 use Rattle.run_history.specs.Answers.{file_no}
 use Rattle.run_history.specs.Storage.{is_present}
 use Rattle.net_world.specs.declared.world.Holding.{Holding}
 use Rattle.net_world.specs.declared.world.World.{World as WorldValue}
-use Rattle.net_world.specs.Worlds.{World, records_in}
-
--- there is one content for each source, each within its limit
-abbrev pub fit_sources : Plan → List (List ℕ) → Bool
-fit_sources P sources =
-    (length sources == length (sources_of P))
-    && list_all (λ content. nat_le (length content) most_bytes) sources
-
--- the contents of the sources, from one for each in the order of their numbers
-abbrev pub sources_in : Plan → List (List ℕ) → Contents
-sources_in P sources f = content_of f (sources_of P) sources
+use Rattle.world_laws.specs.Worlds.{World, records_in}
 
 -- a file with its content, where the master holds it
 abbrev pub holding_of : Contents → ℕ → Option Holding

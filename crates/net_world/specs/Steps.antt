@@ -9,15 +9,15 @@ use Rattle.flow_types.specs.declared.numbers.AttemptNo.{AttemptNo}
 use Rattle.flow_types.specs.declared.numbers.RuleNo.{RuleNo}
 use Rattle.flow_types.specs.Serial.{Function, job_of}
 use Rattle.run_history.specs.declared.options.Options.{Options}
-use Rattle.net_world.specs.declared.events.WorldEvent.{WorldEvent}
-use Rattle.net_world.specs.declared.fault.WorldFault.{WorldFault}
-use Rattle.net_world.specs.declared.fault.WorldFault.TheVariants as faults
+use Rattle.world_laws.specs.declared.events.WorldEvent.{WorldEvent}
+use Rattle.world_peers.specs.declared.fault.WorldFault.{WorldFault}
+use Rattle.world_peers.specs.declared.fault.WorldFault.TheVariants as faults
 use Rattle.net_world.specs.declared.play.Play.{Play}
-use Rattle.net_world.specs.Worlds.{World, happens, is_local, job_run, records_in, rule_at, runs_local}
-use Rattle.net_world.specs.Reach.{Failures}
-use Rattle.net_world.specs.Due.{Plays, RunsSo, job_due, local_due}
+use Rattle.world_laws.specs.Worlds.{World, happens, is_local, job_run, records_in, rule_at, runs_local}
+use Rattle.world_peers.specs.Runs.{Failures}
+use Rattle.world_laws.specs.Due.{Plays, RunsSo, job_due, local_due}
 use Rattle.net_world.specs.Plays.{IsShown}
-use Rattle.net_world.specs.Holdings.{held_in}
+use Rattle.world_contents.specs.Holdings.{held_in}
 
 -- the job of a rule over the contents that are kept
 abbrev pub job_in : Play → ℕ → Option Job

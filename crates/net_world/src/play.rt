@@ -5,32 +5,27 @@ pub(crate) mod begins;
 mod claims;
 mod closings;
 mod collects;
-mod contents;
-mod copies;
 mod crashes;
 mod deliveries;
 mod doings;
 mod ends;
 mod evictions;
-mod jobs;
 mod joins;
 mod leaving;
 mod locals;
 mod losses;
-mod members;
 mod runs;
 mod sending;
 mod shows;
-mod spelling;
 mod steps;
 mod words;
 
-use crate::{Member, Sent};
 use flow_types::{Bytes, LinkNo, Memory, Record};
 use link_session::Session;
 use std::alloc::Global;
 use std::marker::Model;
 use task_core::Table;
+use world_peers::{Member, Sent};
 
 /// A link of the master that lives, with the peer at its other end and its session.
 #[derive(Drop)]
@@ -41,7 +36,7 @@ pub(crate) struct Line {
 }
 
 impl Model for Line {
-    ghost use Rattle.net_world.specs.Worlds.{Connection};
+    ghost use Rattle.world_laws.specs.Worlds.{Connection};
 
     ghost Value = { Connection };
 

@@ -1,19 +1,17 @@
 //! Worlds that are played over the machines of the programs.
-ghost use Rattle.std.specs.Prelude.{◌≡◌, ◌<◌, ◌≤◌, ◌+◌, ◌^◌, ◌∷◌, [], IfOk, IsErrOf, IsTrue, filter};
-ghost use Rattle.std.specs.Prelude.{length, nat_le};
-ghost use Rattle.std.specs.List.{list_all};
+ghost use Rattle.std.specs.Prelude.{◌<◌, ◌≤◌, IfOk, IsErrOf, IsTrue};
 ghost use Rattle.flow_types.specs.declared.job.Job.{Job as JobValue};
-ghost use Rattle.flow_types.specs.Plans.{IsValid, is_source, most_bytes, sources_of};
+ghost use Rattle.flow_types.specs.Plans.{IsValid};
 ghost use Rattle.net_world.specs.Ends.{EndsIn};
-ghost use Rattle.net_world.specs.Results.{fit_sources};
+ghost use Rattle.world_contents.specs.Sources.{fit_sources};
 
 use crate::play::Play;
-use crate::play::begins::is_source;
-use crate::{Sent, WorldEvent, WorldFault};
 use flow_types::{Bytes, FileNo, Memory, Plan, Record, Rows};
 use outside::{Commands, Runner};
 use run_history::Options;
 use std::alloc::Global;
+use world_laws::WorldEvent;
+use world_peers::{Sent, WorldFault};
 
 /// A made file that is present, with its content.
 #[derive(Drop)]
@@ -29,14 +27,6 @@ pub struct World {
     pub records: Rows<Record>,
     pub files: Rows<Holding>,
     pub sent: Rows<Sent>,
-}
-
-/// There is one content for each source of the plan, each of at most 67,108,864 bytes.
-pub fn fit_sources(plan: &Plan, sources: &Rows<Bytes>) -> bool
-    requires { IsValid plan.now }
-    ensures { result ≡ fit_sources plan.now sources.now }
-{
-    sources.len() == source_count(plan) && are_small(sources.as_slice())
 }
 
 /// Plays these events in their order over the machines that the programs run; one that isn't
@@ -67,41 +57,4 @@ pub fn run_world<F: Commands, R: Runner<F>>(
         Ok(world) => Ok(world),
         Err(Memory) => Err(WorldFault::Memory),
     }
-}
-
-// How many sources the plan has.
-fn source_count(plan: &Plan) -> usize
-    requires { IsValid plan.now }
-    ensures { result ≡ length (sources_of plan.now) }
-{
-    let mut count = 0;
-    for file in 0..plan.files.len() as u32 {
-        count = count_source(count, plan, FileNo(file));
-    }
-    count
-}
-
-// One more, where the file is a source.
-fn count_source(count: usize, plan: &Plan, file: FileNo) -> usize
-    requires { count < 2 ^ 32 }
-    ensures counted { result ≡ count + length (filter (is_source plan.now) (file.0 ∷ [])) }
-    ensures most { result ≤ count + 1 }
-{
-    if is_source(plan, file) {
-        count + 1
-    } else {
-        count
-    }
-}
-
-/// The most bytes of a source.
-const MOST_BYTES: usize = 67_108_864;
-
-// Each content is within its limit.
-fn are_small(contents: &[Bytes]) -> bool
-    ensures { result ≡ list_all (λ content. nat_le (length content) most_bytes) contents.now }
-{
-    contents
-        .iter()
-        .all(|content| content.as_slice().len() <= MOST_BYTES)
 }

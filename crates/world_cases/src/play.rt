@@ -1,7 +1,7 @@
 //! Cases that are played.
 ghost use Rattle.std.specs.Prelude.{IsTrue};
 ghost use Rattle.flow_types.specs.Plans.{IsValid};
-ghost use Rattle.net_world.specs.Results.{fit_sources};
+ghost use Rattle.world_contents.specs.Sources.{fit_sources};
 
 use crate::checks::first_bad;
 use crate::random::{Random, draw_events};

@@ -6,15 +6,13 @@ ghost use Rattle.link_session.specs.Sessions.{is_open, started};
 ghost use Rattle.run_history.specs.Links.{records_of};
 ghost use Rattle.run_history.specs.declared.options.Options.{Options as OptionsValue};
 ghost use Rattle.net_world.specs.Plays.{Dispatches, IsClaimed, IsShown, SendsOut, Turns};
-ghost use Rattle.net_world.specs.Worlds.{World, at_link, claimed_rule, claims, task_at};
-ghost use Rattle.net_world.specs.Worlds.{task_with};
+ghost use Rattle.world_laws.specs.Worlds.{World, at_link, claimed_rule, claims, task_at};
+ghost use Rattle.world_laws.specs.Worlds.{task_with};
 
-use crate::play::closings::{rule_at, rule_of};
-use crate::play::jobs::wants;
 use crate::play::{Line, Play, note};
-use flow_types::{AttemptNo, FileNo, LinkNo, Memory, Plan, Record, Rows, Rule, Task};
-use std::alloc::Global;
+use flow_types::{AttemptNo, FileNo, LinkNo, Memory, Record, Rows, Task};
 use task_core::Started;
+use world_contents::{rule_at, rule_of, task_with};
 
 impl Play {
     // The task of an attempt, where its rule is one of the plan.
@@ -114,35 +112,4 @@ fn begin(line: &mut Line, task: &Task) -> Result<Rows<FileNo>, Memory>
         ≡ record line.old { session = started line.old.session task.now }) }
 {
     line.session.start(task)
-}
-
-// The task of an attempt at a rule, in a run.
-fn task_with(
-    alloc: Global,
-    plan: &Plan,
-    rule: &Rule,
-    attempt: AttemptNo,
-    run: u64,
-) -> Result<Task, Memory>
-    ensures { IfOk result (λ task. task ≡ task_with plan.now rule.now attempt run) }
-{
-    let Rule {
-        inputs,
-        outputs,
-        command,
-        local: _,
-        needs,
-        env,
-        bound: _,
-    } = rule.copy(alloc)?;
-    let outputs = wants(alloc, plan, outputs)?;
-    Ok(Task {
-        attempt,
-        run,
-        command,
-        needs,
-        env,
-        inputs,
-        outputs,
-    })
 }

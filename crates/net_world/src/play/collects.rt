@@ -3,13 +3,13 @@ ghost use Rattle.std.specs.Prelude.{◌≡◌, ◌∷◌, ◌++◌, [], IfOk, On
 ghost use Rattle.run_history.specs.Storage.{wanted};
 ghost use Rattle.net_world.specs.Drops.{Drops};
 ghost use Rattle.net_world.specs.Plays.{Turns};
-ghost use Rattle.net_world.specs.Worlds.{collects, drop_logged, forgets, knows, records_in};
-ghost use Rattle.net_world.specs.Worlds.{unlink_on, unlinks};
+ghost use Rattle.world_laws.specs.Worlds.{collects, drop_logged, forgets, knows, records_in};
+ghost use Rattle.world_laws.specs.Worlds.{unlink_on, unlinks};
 
-use crate::play::contents::take_away;
 use crate::play::{Line, Play, note};
-use crate::{Party, Sent};
 use flow_types::{FileNo, Key, Memory, Message, Record};
+use world_contents::take_away;
+use world_peers::{Party, Sent};
 
 impl Play {
     // The wanted file is dropped, where the log has a place for that; answers it.

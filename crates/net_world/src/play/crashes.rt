@@ -1,5 +1,5 @@
 //! Masters that stop, and begin anew.
-ghost use Rattle.std.specs.Prelude.{◌≡◌, ◌<◌, ◌==◌, ℕ, IfOk, List, OnOk, false, if◌then◌else◌};
+ghost use Rattle.std.specs.Prelude.{◌≡◌, ◌<◌, ℕ, IfOk, List, OnOk, false, if◌then◌else◌};
 ghost use Rattle.std.specs.Prelude.{[], length};
 ghost use Rattle.flow_types.specs.declared.plan.Plan.{Plan as PlanValue};
 ghost use Rattle.rule_graph.specs.Spelling.{plan_digest};
@@ -7,20 +7,18 @@ ghost use Rattle.run_history.specs.declared.moves.Move.{Move};
 ghost use Rattle.run_history.specs.declared.options.Options.{Options as OptionsValue};
 ghost use Rattle.run_history.specs.History.{is_cleaned};
 ghost use Rattle.run_history.specs.Links.{records_of};
-ghost use Rattle.run_history.specs.Storage.{is_present};
 ghost use Rattle.task_core.specs.Parts.{IsOver};
 ghost use Rattle.task_core.specs.Stands.{Stands};
-ghost use Rattle.net_world.specs.Holdings.{held_in};
+ghost use Rattle.world_contents.specs.Holdings.{held_in};
 ghost use Rattle.net_world.specs.Plays.{IsShown, Turns};
-ghost use Rattle.net_world.specs.Worlds.{World, present_only, records_in, resumes, resumption};
-ghost use Rattle.net_world.specs.Worlds.{stopped};
+ghost use Rattle.world_laws.specs.Worlds.{World, present_only, records_in, resumes, resumption};
+ghost use Rattle.world_laws.specs.Worlds.{stopped};
 
-use crate::play::contents::take_away;
 use crate::play::{Play, note};
-use flow_types::{Bytes, FileNo, Memory, Record};
+use flow_types::{Memory, Record};
 use rule_graph::plan_digest;
-use run_history::FileState;
 use task_core::Table;
+use world_contents::keep_present;
 
 impl Play {
     // A table over the records.
@@ -94,44 +92,5 @@ fn resumption(table: &Table) -> Record
         run: table.runs_so_far(),
         retries: options.retries,
         limit: options.limit,
-    }
-}
-
-// The file is present.
-pub(crate) fn is_present(table: &Table, file: FileNo) -> bool
-    requires { file.0 < length table.now.plan.files }
-    ensures { (moves : List Move) → Stands table.now moves
-        → result ≡ is_present table.now.plan (records_of moves) file.0 }
-{
-    match table.file(file) {
-        FileState::Present(_) => true,
-        FileState::Absent | FileState::Collected => false,
-    }
-}
-
-// The content of this file is forgotten, where it isn't present.
-fn keep_if_present(table: &Table, contents: &mut Vec<Option<Bytes>>, file: FileNo)
-    requires { file.0 < length table.now.plan.files }
-    ensures places { length contents.new.items ≡ length contents.old.items }
-    ensures held { (moves : List Move) → Stands table.now moves
-        → (f : ℕ) → held_in contents.new.items f ≡ (if f == file.0
-        then present_only table.now.plan (records_of moves) (held_in contents.old.items) f
-        else held_in contents.old.items f) }
-{
-    if !is_present(table, file) {
-        take_away(contents, file);
-    }
-}
-
-// Contents that aren't present are forgotten.
-fn keep_present(table: &Table, contents: &mut Vec<Option<Bytes>>)
-    ensures places { length contents.new.items ≡ length contents.old.items }
-    ensures held { (moves : List Move) → Stands table.now moves
-        → length contents.old.items ≡ length table.now.plan.files
-        → (f : ℕ) → held_in contents.new.items f
-        ≡ present_only table.now.plan (records_of moves) (held_in contents.old.items) f }
-{
-    for file in 0..table.plan().files.len() as u32 {
-        keep_if_present(table, contents, FileNo(file));
     }
 }

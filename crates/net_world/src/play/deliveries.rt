@@ -3,16 +3,16 @@ ghost use Rattle.std.specs.Prelude.{◌≡◌, ◌<◌, find, length, position, 
 ghost use Rattle.link_session.specs.Sessions.{told};
 ghost use Rattle.net_world.specs.Hearings.{word_in};
 ghost use Rattle.net_world.specs.Plays.{Turns};
-ghost use Rattle.net_world.specs.Worlds.{at_peer, delivered, delivery_logged, message_logged};
-ghost use Rattle.net_world.specs.Worlds.{link_at, to_master, to_other, to_peer};
+ghost use Rattle.world_laws.specs.Worlds.{at_peer, delivered, delivery_logged, message_logged};
+ghost use Rattle.world_peers.specs.Company.{link_at};
+ghost use Rattle.world_laws.specs.Worlds.{to_master, to_other, to_peer};
 
-use crate::play::copies::copy_message;
 use crate::play::evictions::link_of;
-use crate::play::spelling::body_of;
 use crate::play::{Line, Play};
-use crate::{Home, Member, Party};
-use flow_types::{LinkNo, Memory, Message};
+use flow_types::{Memory, Message};
 use link_session::{Session, SessionFault, Word};
+use world_contents::copy_message;
+use world_peers::{Party, body_of, link_at};
 use wq_messages::{View, read_message};
 
 impl Play {
@@ -162,30 +162,4 @@ fn hear(line: &mut Line, view: &View<'_>) -> Result<Option<Word>, Memory>
         ≡ record line.old { session = (told line.old.session view.now).state }) }
 {
     tell(&mut line.session, view)
-}
-
-// The link of a worker at a foreman, if it has one there.
-fn link_at(peers: &[Member], foreman: u32, worker: u32) -> Option<LinkNo>
-    ensures { result ≡ link_at foreman (slice_get peers.now worker) }
-{
-    match peers.get(worker as usize) {
-        Some(member) => link_of_member(member, foreman),
-        None => None,
-    }
-}
-
-// The link of a peer at a foreman, if it is a worker that has one there.
-fn link_of_member(member: &Member, foreman: u32) -> Option<LinkNo>
-    ensures { result ≡ link_at foreman (Some member.now) }
-{
-    match member {
-        Member::Works { home, .. } => match home {
-            Home::AtMaster => None,
-            Home::AtForeman {
-                foreman: other,
-                link,
-            } => { if *other == foreman { *link } else { None } }
-        },
-        Member::Leads(_) => None,
-    }
 }

@@ -1,7 +1,7 @@
 //! Ends of a run.
 ghost use Rattle.std.specs.Prelude.{◌≡◌, OnOk};
 ghost use Rattle.run_history.specs.Answers.{kind_of};
-ghost use Rattle.net_world.specs.Worlds.{ends};
+ghost use Rattle.world_laws.specs.Worlds.{ends};
 ghost use Rattle.net_world.specs.Plays.{Turns};
 
 use crate::play::{Play, note};

@@ -1,14 +1,13 @@
 //! Peers that are evicted.
 ghost use Rattle.std.specs.Prelude.{◌≡◌, find, slice_get, OnOk};
 ghost use Rattle.std.specs.Option.{option_map};
-ghost use Rattle.net_world.specs.Doings.{parted_from};
-ghost use Rattle.net_world.specs.Worlds.{at_peer, evicts, goes, loses_below, parts};
+ghost use Rattle.net_world.specs.Done.{parted_from};
+ghost use Rattle.world_laws.specs.Worlds.{at_peer, evicts, goes, loses_below, parts};
 ghost use Rattle.net_world.specs.Plays.{Turns};
 
-use crate::doing::Parting;
-use crate::play::doings::cut_under;
 use crate::play::{Line, Play};
 use flow_types::{LinkNo, Memory};
+use world_peers::{Parting, cut_under};
 
 impl Play {
     // The link of a peer is lost, where it has one.

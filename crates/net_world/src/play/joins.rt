@@ -1,5 +1,5 @@
 //! Links that begin.
-ghost use Rattle.std.specs.Prelude.{◌≡◌, ◌∷◌, ◌++◌, [], find, is_none, length, slice_get};
+ghost use Rattle.std.specs.Prelude.{◌≡◌, ◌∷◌, ◌++◌, [], find, is_none, slice_get};
 ghost use Rattle.std.specs.Prelude.{◌||◌, if◌then◌else◌, IfOk, OnOk, Some};
 ghost use Rattle.flow_types.specs.declared.plan.Plan.{Plan as PlanValue};
 ghost use Rattle.flow_types.specs.declared.messages.Message.TheVariants as messages;
@@ -7,29 +7,28 @@ ghost use Rattle.link_session.specs.Sessions.{State};
 ghost use Rattle.run_history.specs.Moves.{join_refusal};
 ghost use Rattle.run_history.specs.declared.options.Options.{Options as OptionsValue};
 ghost use Rattle.worker_core.specs.Workers.{Worker};
-ghost use Rattle.net_world.specs.declared.events.Joiner.TheVariants as joiners;
-ghost use Rattle.net_world.specs.declared.member.Home.{Home as HomeValue};
-ghost use Rattle.net_world.specs.declared.member.Member.TheVariants as members;
-ghost use Rattle.net_world.specs.Doings.{next_at, next_number};
-ghost use Rattle.net_world.specs.Worlds.{Lead, Machine, World, at_peer, back_to, comes_again};
-ghost use Rattle.net_world.specs.Worlds.{comes_below, greeted, is_below, joins, linked, welcomed};
+ghost use Rattle.world_laws.specs.declared.events.Joiner.TheVariants as joiners;
+ghost use Rattle.world_peers.specs.declared.member.Home.{Home as HomeValue};
+ghost use Rattle.world_peers.specs.declared.member.Member.TheVariants as members;
+ghost use Rattle.world_peers.specs.Doings.{next_number};
+ghost use Rattle.world_peers.specs.Peers.{Lead, Machine};
+ghost use Rattle.world_laws.specs.Worlds.{World, at_peer, back_to, comes_again};
+ghost use Rattle.world_laws.specs.Worlds.{comes_below, greeted, joins, linked, welcomed};
 ghost use Rattle.net_world.specs.Plays.{IsShown, Turns};
 
-use crate::doing::Returning;
-use crate::leader::NOTHING;
 use crate::play::evictions::link_of;
 use crate::play::{Line, Play};
-use crate::{Home, Joiner, Leader, Member, Peer};
 use flow_types::{Amounts, LinkNo, Memory, Message};
 use link_session::Session;
 use std::alloc::Global;
+use world_laws::Joiner;
+use world_peers::{
+    Home, Leader, Member, NOTHING, Peer, Returning, add_peer, is_below_at, next_link, next_number,
+};
 use wq_messages::{read_message, write_message};
 
 /// The most links that live, the local place among them, when one more may join.
 const MOST_LINKS: usize = 32;
-
-/// The most peers that are numbered.
-const MOST_PEERS: u64 = 4_294_967_296;
 
 /// The most joins and changes.
 const MOST_JOINS: u64 = 1_000_000;
@@ -224,48 +223,6 @@ impl Play {
             return Ok(());
         }
         self.join_now(joiner)
-    }
-}
-
-// One more peer.
-fn add_peer(peers: &mut Vec<Member>, peer: Member) -> Result<(), Memory>
-    ensures { OnOk result (peers.new.items ≡ peers.old.items ++ peer ∷ []) }
-{
-    match peers.push(peer) {
-        Ok(()) => Ok(()),
-        Err(_) => Err(Memory),
-    }
-}
-
-// The number of one more peer, where one is left.
-fn next_number(peers: &[Member]) -> Option<u32>
-    ensures { result ≡ next_number peers.now }
-{
-    let count = peers.len() as u64;
-    if count < MOST_PEERS {
-        Some(count as u32)
-    } else {
-        None
-    }
-}
-
-// The number of the next link of a foreman to which somebody may come.
-fn next_link(peers: &[Member], foreman: u32) -> Option<LinkNo>
-    ensures { result ≡ next_at (slice_get peers.now foreman) }
-{
-    match peers.get(foreman as usize) {
-        Some(member) => member.next_link(),
-        None => None,
-    }
-}
-
-// The peer is a worker of a foreman.
-fn is_below_at(peers: &[Member], peer: u32) -> bool
-    ensures { result ≡ is_below (slice_get peers.now peer) }
-{
-    match peers.get(peer as usize) {
-        Some(member) => member.is_below(),
-        None => false,
     }
 }
 

@@ -4,7 +4,7 @@ ghost use Rattle.std.specs.Prelude.{IfOk, List, OnOk};
 ghost use Rattle.run_history.specs.declared.moves.Move.{Move};
 ghost use Rattle.run_history.specs.Links.{records_of, running_on};
 ghost use Rattle.task_core.specs.Stands.{Stands};
-ghost use Rattle.net_world.specs.Worlds.{at_link, leaves, loses_link};
+ghost use Rattle.world_laws.specs.Worlds.{at_link, leaves, loses_link};
 ghost use Rattle.net_world.specs.Plays.{Turns, runs_there};
 
 use crate::play::{Line, Play};

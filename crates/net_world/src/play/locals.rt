@@ -4,19 +4,17 @@ ghost use Rattle.flow_types.specs.declared.job.Job.{Job as JobValue};
 ghost use Rattle.flow_types.specs.declared.plan.Plan.{Plan as PlanValue};
 ghost use Rattle.outside.specs.Jobs.{IsShaped};
 ghost use Rattle.run_history.specs.declared.options.Options.{Options as OptionsValue};
-ghost use Rattle.net_world.specs.Due.{local_due};
+ghost use Rattle.world_laws.specs.Due.{local_due};
 ghost use Rattle.net_world.specs.Plays.{IsShown};
-ghost use Rattle.net_world.specs.Reach.{EndsSo};
+ghost use Rattle.world_peers.specs.Runs.{EndsSo};
 ghost use Rattle.net_world.specs.Steps.{NoneDue, RunsAs, RunsLocally, job_in};
-ghost use Rattle.net_world.specs.Worlds.{World, job_at, runs_local};
+ghost use Rattle.world_laws.specs.Worlds.{World, job_at, runs_local};
 
-use crate::WorldFault;
-use crate::peer::run_job;
 use crate::play::Play;
-use crate::play::closings::{rule_at, rule_of};
-use crate::play::jobs::job_of;
 use flow_types::{AttemptNo, Memory, Outcome, RuleNo};
 use outside::{Commands, Runner};
+use world_contents::{job_of, rule_at, rule_of};
+use world_peers::{WorldFault, run_job};
 
 impl Play {
     // The rule that the attempt runs on the local place.

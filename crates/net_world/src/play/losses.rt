@@ -1,7 +1,7 @@
 //! Attempts that are lost.
 ghost use Rattle.std.specs.Prelude.{◌≡◌, length, map, nat_lt, fold, OnOk, Some};
 ghost use Rattle.flow_types.specs.declared.job.Outcome.TheVariants as outcomes;
-ghost use Rattle.net_world.specs.Worlds.{closed_at, loses_rule};
+ghost use Rattle.world_laws.specs.Worlds.{closed_at, loses_rule};
 ghost use Rattle.net_world.specs.Plays.{Turns};
 
 use crate::play::{Play, note};

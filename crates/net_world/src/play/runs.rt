@@ -3,10 +3,10 @@ ghost use Rattle.std.specs.Prelude.{◌≡◌, ◌<◌, ◌≤◌, IsErrOf, OnOk
 ghost use Rattle.flow_types.specs.declared.job.Job.{Job as JobValue};
 ghost use Rattle.net_world.specs.Plays.{RunsPeer};
 
-use crate::WorldFault;
 use crate::play::Play;
 use flow_types::Memory;
 use outside::{Commands, Runner};
+use world_peers::WorldFault;
 
 impl Play {
     // A worker that isn't gone runs its least job and reports it.

@@ -1,14 +1,15 @@
 //! Messages that the master sends.
 ghost use Rattle.std.specs.Prelude.{◌≡◌, ◌∷◌, ◌++◌, [], ℕ, filter_map, map, OnOk};
-ghost use Rattle.net_world.specs.Holdings.{held_in};
+ghost use Rattle.world_contents.specs.Holdings.{held_in};
 ghost use Rattle.net_world.specs.Plays.{Turns};
-ghost use Rattle.net_world.specs.Worlds.{down_to, put_of, puts_and_task, sent_more};
+ghost use Rattle.world_peers.specs.Peers.{down_to};
+ghost use Rattle.world_laws.specs.Worlds.{put_of, puts_and_task, sent_more};
 
 use crate::play::Play;
-use crate::play::contents::content_at;
-use crate::{Party, Sent};
 use flow_types::{Bytes, FileNo, Key, Memory, Message, Task};
 use std::alloc::Global;
+use world_contents::content_at;
+use world_peers::{Party, Sent};
 
 impl Play {
     // The Puts of these files and then the task go to a peer.

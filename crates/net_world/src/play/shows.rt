@@ -5,13 +5,12 @@ ghost use Rattle.flow_types.specs.declared.plan.Plan.{Plan as PlanValue};
 ghost use Rattle.run_history.specs.declared.options.Options.{Options as OptionsValue};
 ghost use Rattle.net_world.specs.Plays.{IsShown};
 ghost use Rattle.net_world.specs.Results.{Shows, holdings, is_made, present_holding};
-ghost use Rattle.net_world.specs.Worlds.{World as WorldState};
+ghost use Rattle.world_laws.specs.Worlds.{World as WorldState};
 
 use crate::play::Play;
-use crate::play::contents::content_at;
-use crate::play::crashes::is_present;
 use crate::{Holding, World};
 use flow_types::{Bytes, FileNo, Memory, Plan, Rows};
+use world_contents::{content_at, is_present};
 
 impl Play {
     // The file is taken, with its content, where it was made and is present.

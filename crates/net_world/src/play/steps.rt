@@ -1,17 +1,18 @@
 //! Events of a world.
 ghost use Rattle.std.specs.Prelude.{◌≡◌, ◌<◌, ◌≤◌, IsErrOf, OnOk};
 ghost use Rattle.flow_types.specs.declared.job.Job.{Job as JobValue};
-ghost use Rattle.net_world.specs.declared.events.WorldEvent.TheVariants as events;
-ghost use Rattle.net_world.specs.Due.{due_down, due_up};
+ghost use Rattle.world_laws.specs.declared.events.WorldEvent.TheVariants as events;
+ghost use Rattle.world_laws.specs.Due.{due_down, due_up};
 ghost use Rattle.net_world.specs.Plays.{Turns};
 ghost use Rattle.net_world.specs.Steps.{Leads, RunsAs, StepsBy, in_world};
-ghost use Rattle.net_world.specs.Worlds.{claim_logged, claimed_rule, cut_short, happens_down};
-ghost use Rattle.net_world.specs.Worlds.{happens_up, job_run};
+ghost use Rattle.world_laws.specs.Worlds.{claim_logged, claimed_rule, cut_short, happens_down};
+ghost use Rattle.world_laws.specs.Worlds.{happens_up, job_run};
 
 use crate::play::Play;
-use crate::{Cut, WorldEvent, WorldFault};
 use flow_types::{LinkNo, Memory, Outcome};
 use outside::{Commands, Runner};
+use world_laws::{Cut, WorldEvent};
+use world_peers::WorldFault;
 
 impl Play {
     // What a claim logs, and nothing is sent.

@@ -1,11 +1,11 @@
 use Rattle.std.proofs.Common.{subst}
 use Rattle.net_world.specs.Plays.{IsShown}
-use Rattle.net_world.specs.Due.{Plays}
-use Rattle.net_world.specs.Reach.{first_world}
-use Rattle.net_world.specs.Results.{sources_in}
-use Rattle.net_world.proofs.BeginShows.{are_sources}
-use Rattle.net_world.proofs.Reached.{every_world}
-use Rattle.net_world.proofs.Runs.{plays_reach}
+use Rattle.world_laws.specs.Due.{Plays}
+use Rattle.world_laws.specs.Reach.{first_world}
+use Rattle.world_contents.specs.Sources.{sources_in}
+use Rattle.world_contents.proofs.Beginnings.{are_sources}
+use Rattle.world_laws.proofs.Reached.{every_world}
+use Rattle.world_laws.proofs.Runs.{plays_reach}
 use Rattle.net_world.proofs.world.run_world.Goals as goal
 
 pub returns-in-Ok-into_world-clause-reached : goal.returns-in-Ok-into_world-clause-reached

@@ -1,11 +1,12 @@
 use Rattle.std.proofs.Common.{◌++◌, ◌∷◌, [], false, length, refl, true, ap, ◌∙◌, subst}
 use Rattle.std.proofs.lemmas.Result.{on_ok_weaker}
-use Rattle.net_world.specs.declared.member.Home.TheVariants.{AtMaster}
-use Rattle.net_world.specs.declared.member.Member.{Member}
-use Rattle.net_world.specs.declared.member.Member.TheVariants.{Works}
-use Rattle.net_world.specs.Doings.{next_number}
+use Rattle.world_peers.specs.declared.member.Home.TheVariants.{AtMaster}
+use Rattle.world_peers.specs.declared.member.Member.{Member}
+use Rattle.world_peers.specs.declared.member.Member.TheVariants.{Works}
+use Rattle.world_peers.specs.Doings.{next_number}
 use Rattle.net_world.specs.Plays.{IsShown}
-use Rattle.net_world.specs.Worlds.{has_number, linked, new_machine, new_worker, with_more}
+use Rattle.world_laws.specs.Worlds.{has_number, linked, with_more}
+use Rattle.world_peers.specs.Peers.{new_machine, new_worker}
 use Rattle.net_world.proofs.JoinShows.{new_member_shown, none_left, numbered_shown, one_left, unnumbered_shown, world_left}
 use Rattle.net_world.proofs.play.Play.come.Goals as goal
 

@@ -2,7 +2,7 @@ use Rattle.std.proofs.Common.{rules, ◌≡◌, Some, ap, sym, ◌∙◌, subst}
 use Rattle.std.specs.Prelude.{find, slice_get}
 use Rattle.std.specs.Option.{option_map}
 use Rattle.std.proofs.lemmas.Result.{on_ok_weaker}
-use Rattle.net_world.specs.Worlds.{at_peer}
+use Rattle.world_laws.specs.Worlds.{at_peer}
 use Rattle.net_world.proofs.JoinShows.{Returns, again_shown, returned_shown}
 use Rattle.net_world.proofs.PeerShows.{item_at, member_at}
 use Rattle.net_world.proofs.play.Play.come_again.Goals as goal

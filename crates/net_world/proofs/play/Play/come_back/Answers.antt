@@ -2,11 +2,11 @@ use Rattle.std.proofs.Common.{◌≡◌, Some, refl, ap, sym, ◌∙◌}
 use Rattle.std.specs.Prelude.{slice_get}
 use Rattle.std.proofs.lemmas.Result.{on_ok_weaker}
 use Rattle.std.proofs.lemmas.Option.{slice_get_past}
-use Rattle.net_world.specs.declared.member.Member.TheVariants.{Works}
-use Rattle.net_world.specs.Doings.{next_at}
-use Rattle.net_world.specs.Worlds.{at_next}
+use Rattle.world_peers.specs.declared.member.Member.TheVariants.{Works}
+use Rattle.world_peers.specs.Doings.{next_at}
+use Rattle.world_peers.specs.Company.{at_next}
 use Rattle.net_world.proofs.JoinShows.{attached_shown, back_shown, foreman_open, next_in, not_open_back}
-use Rattle.net_world.proofs.Links.{still_leads}
+use Rattle.world_laws.proofs.Links.{still_leads}
 use Rattle.net_world.proofs.PeerShows.{item_at, member_at, member_put}
 use Rattle.net_world.proofs.play.Play.come_back.Goals as goal
 

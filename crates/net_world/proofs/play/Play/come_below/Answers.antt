@@ -1,13 +1,14 @@
 use Rattle.std.proofs.Common.{rules, ◌++◌, ◌∷◌, [], false, refl, true, Some, ap, sym, ◌∙◌}
 use Rattle.std.specs.Prelude.{slice_get}
 use Rattle.std.proofs.lemmas.Result.{on_ok_weaker}
-use Rattle.net_world.specs.declared.member.Home.TheVariants.{AtForeman}
-use Rattle.net_world.specs.declared.member.Member.{Member}
-use Rattle.net_world.specs.declared.member.Member.TheVariants.{Leads, Works}
-use Rattle.net_world.specs.Doings.{next_at, next_number}
-use Rattle.net_world.specs.Worlds.{at_next, new_machine, new_worker}
+use Rattle.world_peers.specs.declared.member.Home.TheVariants.{AtForeman}
+use Rattle.world_peers.specs.declared.member.Member.{Member}
+use Rattle.world_peers.specs.declared.member.Member.TheVariants.{Leads, Works}
+use Rattle.world_peers.specs.Doings.{next_at, next_number}
+use Rattle.world_peers.specs.Company.{at_next}
+use Rattle.world_peers.specs.Peers.{new_machine, new_worker}
 use Rattle.net_world.proofs.JoinShows.{came_shown, foreman_open, new_member_shown, next_in, no_number_comes, none_left, not_open_comes, some_left, world_left}
-use Rattle.net_world.proofs.Members.{get_left}
+use Rattle.world_laws.proofs.Members.{get_left}
 use Rattle.net_world.proofs.play.Play.come_below.Goals as goal
 
 pub returns-in_default : goal.returns-in_default

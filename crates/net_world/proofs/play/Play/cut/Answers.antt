@@ -1,5 +1,5 @@
 use Rattle.std.proofs.lemmas.Result.{on_ok_weaker}
-use Rattle.net_world.specs.declared.events.Cut.TheVariants as cuts
+use Rattle.world_laws.specs.declared.events.Cut.TheVariants as cuts
 use Rattle.net_world.proofs.StepShows.{cut_as}
 use Rattle.net_world.proofs.play.Play.cut.Goals as goal
 

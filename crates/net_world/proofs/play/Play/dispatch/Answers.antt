@@ -2,7 +2,7 @@ use Rattle.std.proofs.Common.{refl, ap, sym, ◌∙◌, subst}
 use Rattle.std.specs.Prelude.{slice_set}
 use Rattle.std.proofs.lemmas.Result.{on_ok_weaker}
 use Rattle.link_session.specs.Sessions.{is_open}
-use Rattle.net_world.specs.Worlds.{puts_and_task, sent_more}
+use Rattle.world_laws.specs.Worlds.{puts_and_task, sent_more}
 use Rattle.net_world.specs.Plays.{IsShown}
 use Rattle.net_world.proofs.ClaimShows.{dispatched_shown, new_there}
 use Rattle.net_world.proofs.PeerShows.{item_at}

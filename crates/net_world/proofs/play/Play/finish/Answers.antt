@@ -10,7 +10,7 @@ use Rattle.run_history.specs.Storage.{rule_bound}
 use Rattle.task_core.specs.Stands.{Stands}
 use Rattle.task_core.specs.States.{known_in}
 use Rattle.task_core.proofs.Outputs.{within-length}
-use Rattle.net_world.specs.Worlds.{row_for}
+use Rattle.world_laws.specs.Worlds.{row_for}
 use Rattle.net_world.proofs.CloseShows.{done_shown, idle_shown, may_finish}
 use Rattle.net_world.proofs.play.Play.finish.Goals as goal
 

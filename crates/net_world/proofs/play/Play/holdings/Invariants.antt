@@ -5,7 +5,7 @@ use Rattle.flow_types.specs.Plans.{numbers}
 use Rattle.run_history.specs.declared.options.Options.{Options}
 use Rattle.net_world.specs.Plays.{IsShown}
 use Rattle.net_world.specs.Results.{is_made, present_holding}
-use Rattle.net_world.specs.Worlds.{World}
+use Rattle.world_laws.specs.Worlds.{World}
 use Rattle.net_world.proofs.play.Play.holdings.Given as goal
 
 -- those below the next one are found

@@ -1,6 +1,6 @@
 use Rattle.std.proofs.Common.{rules, ◌≡◌, true, refl}
 use Rattle.std.specs.Prelude.{find, is_some}
-use Rattle.net_world.specs.Worlds.{at_link}
+use Rattle.world_laws.specs.Worlds.{at_link}
 use Rattle.net_world.proofs.LinkShows.{left_shown, local_stays}
 use Rattle.net_world.proofs.play.Play.leave.Goals as goal
 

@@ -1,7 +1,7 @@
 use Rattle.std.proofs.Common.{refl, sym, ap, ◌∙◌}
 use Rattle.std.specs.Prelude.{slice_get}
 use Rattle.std.proofs.lemmas.Result.{on_ok_weaker}
-use Rattle.net_world.specs.declared.events.Party.TheVariants.{Master, Peer}
+use Rattle.world_peers.specs.declared.sent.Party.TheVariants.{Master, Peer}
 use Rattle.net_world.proofs.HearShows.{delivery_shown}
 use Rattle.net_world.proofs.PeerShows.{item_at}
 use Rattle.net_world.proofs.play.Play.log_delivery.Goals as goal

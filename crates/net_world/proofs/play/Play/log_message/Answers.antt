@@ -4,7 +4,7 @@ use Rattle.std.proofs.lemmas.Result.{on_ok_weaker}
 use Rattle.link_session.specs.Sessions.{told}
 use Rattle.wq_messages.specs.Reading.{message_of}
 use Rattle.net_world.specs.Hearings.{word_in}
-use Rattle.net_world.specs.Worlds.{Connection, at_peer}
+use Rattle.world_laws.specs.Worlds.{Connection, at_peer}
 use Rattle.net_world.proofs.HearShows.{none_logged, same_message, unexpected_logged, word_logged}
 use Rattle.net_world.proofs.PeerShows.{item_at}
 use Rattle.net_world.proofs.play.Play.log_message.Goals as goal

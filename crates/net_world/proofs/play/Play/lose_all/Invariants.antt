@@ -1,7 +1,7 @@
 use Rattle.std.proofs.Common.{◌≡◌, drop, map, fold}
 use Rattle.flow_types.specs.declared.plan.Plan.{Plan}
 use Rattle.run_history.specs.declared.options.Options.{Options}
-use Rattle.net_world.specs.Worlds.{World, loses_rule}
+use Rattle.world_laws.specs.Worlds.{World, loses_rule}
 use Rattle.net_world.specs.Plays.{IsShown}
 use Rattle.net_world.proofs.play.Play.lose_all.Given as goal
 

@@ -2,7 +2,7 @@ use Rattle.std.proofs.Common.{ap, ◌∙◌}
 use Rattle.std.specs.Prelude.{find}
 use Rattle.std.specs.Option.{option_map}
 use Rattle.std.proofs.lemmas.Result.{on_ok_weaker}
-use Rattle.net_world.specs.Worlds.{at_peer}
+use Rattle.world_laws.specs.Worlds.{at_peer}
 use Rattle.net_world.proofs.LinkShows.{no_part_shown, part_shown}
 use Rattle.net_world.proofs.play.Play.part.Goals as goal
 

@@ -1,5 +1,5 @@
 use Rattle.std.proofs.Common.{arith}
-use Rattle.net_world.proofs.Runs.{next_plays}
+use Rattle.world_laws.proofs.Runs.{next_plays}
 use Rattle.net_world.proofs.play.Play.play.Goals as goal
 
 pub loop-event-preserved : goal.loop-event-preserved

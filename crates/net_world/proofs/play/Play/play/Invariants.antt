@@ -3,8 +3,8 @@ use Rattle.flow_types.specs.declared.job.Job.{Job}
 use Rattle.flow_types.specs.declared.plan.Plan.{Plan}
 use Rattle.run_history.specs.declared.options.Options.{Options}
 use Rattle.net_world.specs.Plays.{IsShown}
-use Rattle.net_world.specs.Due.{Plays}
-use Rattle.net_world.specs.Worlds.{World}
+use Rattle.world_laws.specs.Due.{Plays}
+use Rattle.world_laws.specs.Worlds.{World}
 use Rattle.net_world.proofs.play.Play.play.Given as goal
 
 -- what is left leads from here to where all leads from the beginning

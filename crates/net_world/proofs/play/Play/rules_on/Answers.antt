@@ -2,7 +2,8 @@ use Rattle.std.proofs.Common.{rules, ◌≤◌, length, ap, sym, ◌∙◌}
 use Rattle.std.specs.Prelude.{filter, ◌++◌, ◌∷◌, []}
 use Rattle.run_history.specs.Links.{records_of}
 use Rattle.net_world.specs.Plays.{runs_there}
-use Rattle.net_world.proofs.LinkShows.{all_found, numbers_more}
+use Rattle.net_world.proofs.LinkShows.{all_found}
+use Rattle.world_contents.proofs.Numbers.{numbers_more}
 use Rattle.net_world.proofs.play.Play.rules_on.Goals as goal
 
 pub loop-rule-preserved : goal.loop-rule-preserved

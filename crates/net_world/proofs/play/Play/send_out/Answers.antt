@@ -1,7 +1,7 @@
 use Rattle.std.proofs.Common.{rules, ◌≡◌, ◌<◌, length, None, ap, sym, ◌∙◌, subst}
 use Rattle.std.specs.Prelude.{position}
 use Rattle.std.proofs.lemmas.Result.{on_ok_weaker}
-use Rattle.net_world.specs.Worlds.{at_link}
+use Rattle.world_laws.specs.Worlds.{at_link}
 use Rattle.net_world.proofs.ClaimShows.{no_task_sent, none_sent, sent_shown}
 use Rattle.net_world.proofs.play.Play.send_out.Goals as goal
 

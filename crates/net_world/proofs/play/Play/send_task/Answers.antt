@@ -1,8 +1,9 @@
 use Rattle.std.proofs.Common.{◌++◌, refl, ap, ◌∙◌, map}
 use Rattle.std.specs.Prelude.{filter_map}
 use Rattle.std.proofs.lemmas.Result.{on_ok_weaker}
-use Rattle.net_world.specs.Holdings.{held_in}
-use Rattle.net_world.specs.Worlds.{down_to, put_of}
+use Rattle.world_contents.specs.Holdings.{held_in}
+use Rattle.world_peers.specs.Peers.{down_to}
+use Rattle.world_laws.specs.Worlds.{put_of}
 use Rattle.net_world.proofs.SendShows.{task_shown}
 use Rattle.net_world.proofs.play.Play.send_task.Goals as goal
 

@@ -1,5 +1,5 @@
 use Rattle.std.proofs.lemmas.Result.{on_ok_weaker}
-use Rattle.net_world.specs.declared.events.WorldEvent.TheVariants as events
+use Rattle.world_laws.specs.declared.events.WorldEvent.TheVariants as events
 use Rattle.net_world.proofs.StepShows.{answered_by, link_lost, up_as}
 use Rattle.net_world.proofs.play.Play.step_up.Goals as goal
 

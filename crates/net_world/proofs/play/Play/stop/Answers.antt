@@ -1,7 +1,7 @@
 use Rattle.std.proofs.Common.{rules, refl, subst, sym}
 use Rattle.rule_graph.specs.Spelling.{plan_digest}
 use Rattle.task_core.specs.Parts.{IsOver}
-use Rattle.net_world.specs.Worlds.{records_in}
+use Rattle.world_laws.specs.Worlds.{records_in}
 use Rattle.net_world.proofs.CrashShows.{stopped_shown}
 use Rattle.net_world.proofs.play.Play.stop.Goals as goal
 

@@ -4,8 +4,8 @@ use Rattle.std.proofs.lemmas.List.Elements.{All-map}
 use Rattle.std.proofs.lemmas.Result.{on_ok_weaker}
 use Rattle.flow_types.specs.Plans.{IsValid, files_of, makes}
 use Rattle.flow_types.specs.Serial.{with_contents}
-use Rattle.net_world.specs.Holdings.{held_in}
-use Rattle.net_world.proofs.CloseShows.{all_inside}
+use Rattle.world_contents.specs.Holdings.{held_in}
+use Rattle.world_contents.proofs.Numbers.{all_inside}
 use Rattle.net_world.proofs.play.Play.store.Goals as goal
 
 pub returns-clause-put : goal.returns-clause-put

@@ -1,7 +1,7 @@
 use Rattle.std.proofs.Common.{rules, ◌≡◌, true, sym, ◌∙◌, ap}
 use Rattle.std.specs.Prelude.{◌++◌, Some}
 use Rattle.std.proofs.lemmas.Result.{on_ok_weaker}
-use Rattle.net_world.specs.Holdings.{held_in}
+use Rattle.world_contents.specs.Holdings.{held_in}
 use Rattle.net_world.specs.Results.{is_made}
 use Rattle.net_world.proofs.ResultShows.{held_one}
 use Rattle.net_world.proofs.play.Play.take_holding.Goals as goal

@@ -2,7 +2,7 @@ use Rattle.std.proofs.Common.{refl, ap, ◌∙◌}
 use Rattle.std.specs.Prelude.{slice_get}
 use Rattle.std.proofs.lemmas.Result.{on_ok_weaker}
 use Rattle.std.proofs.lemmas.Option.{slice_get_past}
-use Rattle.net_world.specs.Worlds.{link_at}
+use Rattle.world_peers.specs.Company.{link_at}
 use Rattle.net_world.proofs.PeerShows.{item_at, member_put, no_other_hears, other_shown}
 use Rattle.net_world.proofs.play.Play.to_other.Goals as goal
 

@@ -3,9 +3,9 @@ use Rattle.std.specs.Prelude.{find, slice_get}
 use Rattle.std.specs.Option.{option_map}
 use Rattle.std.proofs.lemmas.Result.{on_ok_weaker}
 use Rattle.std.proofs.lemmas.Option.{slice_get_past}
-use Rattle.net_world.specs.Worlds.{at_peer}
+use Rattle.world_laws.specs.Worlds.{at_peer}
 use Rattle.net_world.proofs.HearShows.{no_link_hears, no_peer_hears, peer_heard}
-use Rattle.net_world.specs.Doings.{hears_master}
+use Rattle.world_peers.specs.Doings.{hears_master}
 use Rattle.net_world.specs.Plays.{IsShown}
 use Rattle.net_world.proofs.PeerShows.{item_at, member_at, member_put, step_shown, to_member_is}
 use Rattle.net_world.proofs.play.Play.to_peer.Goals as goal

@@ -1,6 +1,6 @@
 use Rattle.std.proofs.Common.{rules, ◌<◌, ap, ◌∙◌, length, arith}
 use Rattle.std.specs.Prelude.{slice_set}
-use Rattle.net_world.specs.Worlds.{forgets}
+use Rattle.world_laws.specs.Worlds.{forgets}
 use Rattle.net_world.proofs.CollectShows.{forgotten_step, unlinks_step}
 use Rattle.net_world.proofs.play.collects.unlink_on_lines.Goals as goal
 

@@ -1,6 +1,6 @@
 use Rattle.std.proofs.Common.{◌≡◌, ◌++◌, map, take}
 use Rattle.std.specs.Prelude.{filter}
-use Rattle.net_world.specs.Worlds.{knows, unlink_on}
+use Rattle.world_laws.specs.Worlds.{knows, unlink_on}
 use Rattle.net_world.proofs.CollectShows.{forgotten_below}
 use Rattle.net_world.proofs.play.collects.unlink_on_lines.Given as goal
 

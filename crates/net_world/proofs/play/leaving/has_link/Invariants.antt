@@ -1,6 +1,6 @@
 use Rattle.std.proofs.Common.{◌≡◌, drop}
 use Rattle.std.specs.Prelude.{find}
-use Rattle.net_world.specs.Worlds.{at_link}
+use Rattle.world_laws.specs.Worlds.{at_link}
 use Rattle.net_world.proofs.play.leaving.has_link.Given as goal
 
 -- what is left decides

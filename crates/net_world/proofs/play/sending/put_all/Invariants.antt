@@ -1,7 +1,8 @@
 use Rattle.std.proofs.Common.{◌≡◌, ◌++◌, map, take}
 use Rattle.std.specs.Prelude.{filter_map}
-use Rattle.net_world.specs.Holdings.{held_in}
-use Rattle.net_world.specs.Worlds.{down_to, put_of}
+use Rattle.world_contents.specs.Holdings.{held_in}
+use Rattle.world_peers.specs.Peers.{down_to}
+use Rattle.world_laws.specs.Worlds.{put_of}
 use Rattle.net_world.proofs.play.sending.put_all.Given as goal
 
 -- those below the next one are put

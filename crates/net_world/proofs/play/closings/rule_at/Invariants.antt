@@ -1,8 +1,0 @@
-use Rattle.std.proofs.Common.{◌≡◌, drop}
-use Rattle.std.specs.Prelude.{filter_map, slice_get}
-use Rattle.net_world.specs.Worlds.{rule_started}
-use Rattle.net_world.proofs.play.closings.rule_at.Given as goal
-
--- what is left decides
-abbrev pub invariant-loop-record : goal.invariant-loop-record
-invariant-loop-record l = slice_get (filter_map rule_started (drop l.record-index l.records)) l.before ≡ slice_get (filter_map rule_started l.records) l.fn.attempt.0

@@ -1,8 +1,0 @@
-use Rattle.std.proofs.Common.{◌≡◌}
-use Rattle.net_world.specs.Worlds.{cut_if, is_at}
-use Rattle.net_world.proofs.DoingShows.{mapped_below}
-use Rattle.net_world.proofs.play.doings.cut_at.Given as goal
-
--- the peers below the next one are done
-abbrev pub invariant-loop-at : goal.invariant-loop-at
-invariant-loop-at l = l.peers.items ≡ mapped_below (cut_if (is_at l.foreman l.link)) l.at l.initial.peers.items

@@ -1,8 +1,0 @@
-use Rattle.std.proofs.Common.{◌≡◌, ◌++◌}
-use Rattle.std.specs.Prelude.{filter_map}
-use Rattle.net_world.specs.Worlds.{sent_down}
-use Rattle.net_world.proofs.play.doings.send_below.Given as goal
-
--- what is left decides
-abbrev pub invariant-loop-sent : goal.invariant-loop-sent
-invariant-loop-sent l = l.bag.items ++ filter_map (sent_down l.peers l.foreman) l.sent-iterator.rest.items ≡ l.fn.bag.items ++ filter_map (sent_down l.peers l.foreman) l.fn.down

@@ -1,0 +1,8 @@
+use Rattle.std.proofs.Common.{◌≡◌}
+use Rattle.world_peers.specs.Company.{cut_if, is_at}
+use Rattle.world_peers.proofs.Loops.{mapped_below}
+use Rattle.world_peers.proofs.company.cut_at.Given as goal
+
+-- the peers below the next one are done
+abbrev pub invariant-loop-at : goal.invariant-loop-at
+invariant-loop-at l = l.peers.items ≡ mapped_below (cut_if (is_at l.foreman l.link)) l.at l.initial.peers.items

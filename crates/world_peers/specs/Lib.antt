@@ -1,0 +1,5 @@
+pub mod Peers
+pub mod Company
+pub mod Runs
+pub mod Doings
+pub mod Sizes
