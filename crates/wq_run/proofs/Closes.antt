@@ -22,6 +22,8 @@ use Rattle.local_run.specs.Underway.{AreAway, AwayState, HeldState, RunsAt, Unde
 use Rattle.local_run.proofs.AwayClosed.{away_at}
 use Rattle.local_run.proofs.Linked.{lives_by}
 use Rattle.wq_run.specs.Seats.{AreOn, AtPlace, AtSeat, IsAtSeat, IsInside, IsOpenAt, KeepsSeat, SeatState, seat_with}
+use Rattle.local_run.specs.Course.{GoesOn}
+use Rattle.wq_run.proofs.Earned.{unlinked_by}
 use Rattle.wq_run.proofs.Places.{inside_all, on_at, on_less, opens_less, split_in, split_out}
 
 module _ {S : Type 0} (trust : Type 0) (gives : Function) (may_fail : Job → Failure → Type 0) (sources : Contents) (tells kept sure : Type 0) (files : S → Files) (may_leave : S → Outcomes) (moment : S → ℕ)
@@ -122,6 +124,15 @@ module _ {S : Type 0} (trust : Type 0) (gives : Function) (may_fail : Job → Fa
       → UnderBy away first d held waiting heard halt → (next : AwayState) × (next.attempts ≡ front ++ back) × (next.links ≡ away.links) × UnderBy next first after held waiting heard (stopped halt)
 
   module _ {L : Type 0} where
+    -- No link stated anything over the end of an attempt.
+    pub close_unlinked : (d after : DeskState S) (held : HeldState) (s : SeatState L) (a : Attempt) (f b : List Attempt) (stopped : Option Halt → Option Halt) → s.attempts ≡ f ++ (a ∷ b) → EndsAway d after a stopped
+        → IsAtSeat trust gives may_fail sources tells kept sure files may_leave moment images_since d held s → link_moves after.moves ≡ link_moves d.moves
+    close_unlinked d after held s a f b stopped split ends is =
+        let at = is.at in
+        let e = ends at.away (is.front ++ f) (b ++ is.back) is.first held.attempts is.waiting is.heard held.halt (stands is.front is.back is.first d held is.waiting is.heard s f a b split (placed is.front is.back is.first d held is.waiting is.heard s at)) at.under in
+        unlinked_by trust gives may_fail sources tells files may_leave moment images_since e.0.links is.first d after
+        (subst (λ (l : List Move). GoesOn trust gives may_fail sources tells files may_leave moment images_since l is.first d) (sym e.2) at.under.goes) e.3.goes
+
     -- The seat is kept over the end of an attempt that isn't open any more.
     pub close_keeps : (d after : DeskState S) (held held_now : HeldState) (s s_now : SeatState L) (number : AttemptNo) (a : Attempt) (f b : List Attempt) (stopped : Option Halt → Option Halt) → s.attempts ≡ f ++ (a ∷ b) → a.number ≡ number
         → s_now ≡ seat_with s (f ++ b) → is_open number s.peer.session.attempts ≡ false → held_now.attempts ≡ held.attempts → held_now.halt ≡ stopped held.halt → EndsAway d after a stopped

@@ -124,6 +124,18 @@ met_same {L} {count} {got} {given} {idles} {c} {c_now} same =
       newest = ap (λ (x : CompanyState L). x.newest) same;
     }) (ap (λ (x : CompanyState L). x.failed) same) (ap (λ (x : CompanyState L). x.lost) same)
 
+-- A mark is set, which stays.
+pub marked_met : {L : Type 0} {count : ℕ} {got : List (Option LinkNo × L)} {given idles : ℕ} {inside : Inside} {failed lost lost_now : Bool} → (lost_now ≡ false → lost ≡ false) → Meets count count got got given given idles idles inside inside failed failed lost lost_now
+marked_met {L} {count} {got} {given} {idles} {inside} {failed} {lost} {lost_now} keeps =
+    let met = meets_none count got given idles inside failed lost in
+    record { later = met.later; idles_later = met.idles_later; fails = met.fails; stays = met.stays; counted = λ is. (keeps is, (met.counted (keeps is)).1); numbers = met.numbers }
+
+-- with a link in hand, and the company otherwise the same
+pub marked_hand : {L : Type 0} {count : ℕ} {got : List (Option LinkNo × L)} {given idles : ℕ} (link : Option LinkNo) (c c_now : CompanyState L) (lost_now : Bool) → (lost_now ≡ false → c.lost ≡ false) → c_now ≡ record c { lost = lost_now }
+    → Meets count count got got given given idles idles (with_hand link (inside_of c)) (with_hand link (inside_of c_now)) c.failed c_now.failed c.lost c_now.lost
+marked_hand {L} {count} {got} {given} {idles} link c c_now lost_now keeps same =
+    subst (λ (x : CompanyState L). Meets count count got got given given idles idles (with_hand link (inside_of c)) (with_hand link (inside_of x)) c.failed x.failed c.lost x.lost) (sym same) (marked_met keeps)
+
 -- ---- guests and seats
 
 pub guests_more : {L : Type 0} {fact : PeerState L → Type 0} (guests : List (PeerState L)) (p : PeerState L) → AreGuests fact guests → IsGuest fact p → AreGuests fact (guests ++ (p ∷ []))

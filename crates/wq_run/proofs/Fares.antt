@@ -37,12 +37,19 @@ use Rattle.peers.specs.declared.leave.Leave.TheVariants as leaves
 use Rattle.peers.specs.declared.told.Told.{Told}
 use Rattle.peers.specs.declared.told.Told.TheVariants as tell
 use Rattle.peers.specs.Hears.{ServesOn}
+use Rattle.peers.specs.Serves.{Serves}
 use Rattle.peers.specs.States.{LeavesAs, MaySend, PeerState, ReceivesOn}
 use Rattle.local_run.specs.declared.halt.Halt.{Halt}
+use Rattle.local_run.specs.Links.{link_moves}
 use Rattle.local_run.specs.Losses.{LosesIt, SparesAll, is_lost, starts_on}
-use Rattle.local_run.proofs.Going.{records_grown}
+use Rattle.local_run.proofs.Going.{links_grown, records_grown}
+use Rattle.flow_types.specs.declared.messages.Message.TheVariants as messages
+use Rattle.message_forms.specs.Streams.{Carries, IsAmong}
+use Rattle.peers.proofs.Owing.{went_and_came}
+use Rattle.wq_run.specs.Earned.{StatesOn}
 use Rattle.wq_run.specs.Seats.{SeatState}
 use Rattle.wq_run.proofs.Heards.{come_on, heard_come, heard_same, joins_append, ok_step, ok_with, quiet_on}
+use Rattle.wq_run.proofs.Earned.{linked_one, states_none, states_one, states_then}
 use Rattle.wq_run.specs.Losses.{GaveBack}
 use Rattle.wq_run.specs.Dues.{AddsSo, EndsWith, FaresSeat, GaveBackIf, GivesUp, IsGivenBack, HasHeard, HearsOn, IsFull, IsIllLink, IsStartedOn, LeavesFor, OffersMore, Shows, StaysHeard, ended}
 
@@ -188,6 +195,8 @@ module _ {L A : Type 0} {ill : LinkNo → L → Type 0} {history : L → List Pa
         let few = first.enough in
         let more = last.enough in
         record { now = last.now; came = last.came; heard = last.heard; enough = omega (arith, few, more) };
+    states = λ none. states_then (received_in (history s_mid.peer.way)) two.comes.0 (received_in (history s_now.peer.way)) s.link.0 M mid all two.comes.1 (one.states (two.going none))
+        (subst (λ (l : LinkNo). StatesOn (received_in (history s_now.peer.way)) l.0 mid all) one.link (two.states none));
   }
 
   -- The run stopped.
@@ -199,27 +208,29 @@ module _ {L A : Type 0} {ill : LinkNo → L → Type 0} {history : L → List Pa
     loses = λ none. absurd (halted_never why halt_now stopped none);
     leaves = λ none. absurd (halted_never why halt_now stopped none);
     counts = λ none. absurd (halted_never why halt_now stopped none);
+    states = λ none. absurd (halted_never why halt_now stopped none);
   }
 
   pub fares_stopped_same : {M all : List Move} {halt halt_now : Option Halt} {s : SeatState L} {r : Result A Leave} (why : Halt) → halt_now ≡ Some why → FaresSeat ill history M all halt halt_now s s r
   fares_stopped_same {M} {all} {halt} {halt_now} {s} why stopped = fares_stopped why refl (received_same (history s.peer.way) (history s.peer.way) refl) stopped
 
   -- Nothing was given up.
-  pub fares_spared : {M all : List Move} {halt halt_now : Option Halt} {s s_now : SeatState L} {r : Result A Leave} → s_now.link ≡ s.link → ReceivesOn (history s.peer.way) (history s_now.peer.way) → halt_now ≡ halt → SparesAll M all
+  pub fares_spared : {M all : List Move} {halt halt_now : Option Halt} {s s_now : SeatState L} {r : Result A Leave} → s_now.link ≡ s.link → ReceivesOn (history s.peer.way) (history s_now.peer.way) → halt_now ≡ halt → SparesAll M all → link_moves all ≡ link_moves M
       → IfErr r (LeavesFor ill all s_now) → OnOk r (StaysHeard history s.peer s_now.peer) → FaresSeat ill history M all halt halt_now s s_now r
-  fares_spared {M} {all} {halt} {halt_now} {s} {s_now} {r} link comes same spares leaves heard = record {
+  fares_spared {M} {all} {halt} {halt_now} {s} {s_now} {r} link comes same spares unlinked leaves heard = record {
     link = link;
     comes = comes;
     going = λ none. sym same ∙ none;
     loses = λ none. spares_so (IsGivenBack (received_in (history s_now.peer.way)) s.link.0) M all (unlost_back (received_in (history s_now.peer.way)) s.link.0) spares;
     leaves = λ none. leaves;
     counts = λ none. hears_quiet history r s.peer s_now.peer comes (quiet_on M spares.more all spares.are spares.quiet) heard;
+    states = λ none. states_none (received_in (history s_now.peer.way)) s.link.0 M all unlinked;
   }
 
   -- The moves are the same.
   pub fares_still : {M all : List Move} {halt halt_now : Option Halt} {s s_now : SeatState L} {r : Result A Leave} → s_now.link ≡ s.link → ReceivesOn (history s.peer.way) (history s_now.peer.way) → halt_now ≡ halt → all ≡ M
       → IfErr r (LeavesFor ill all s_now) → OnOk r (StaysHeard history s.peer s_now.peer) → FaresSeat ill history M all halt halt_now s s_now r
-  fares_still {M} link comes same still leaves heard = fares_spared link comes same (record { more = []; are = still ∙ sym (append-nil M); none = refl; quiet = refl }) leaves heard
+  fares_still {M} link comes same still leaves heard = fares_spared link comes same (record { more = []; are = still ∙ sym (append-nil M); none = refl; quiet = refl }) (ap link_moves still) leaves heard
 
   -- The same however else it was answered, where it went well.
   pub fares_ok : {B : Type 0} {M all : List Move} {halt halt_now : Option Halt} {s s_now : SeatState L} {x : B} {y : A} → FaresSeat ill history M all halt halt_now s s_now (Ok x) → FaresSeat ill history M all halt halt_now s s_now (Ok y)
@@ -230,6 +241,7 @@ module _ {L A : Type 0} {ill : LinkNo → L → Type 0} {history : L → List Pa
     loses = fares.loses;
     leaves = λ none. tt;
     counts = λ none n was. let is = fares.counts none n was in record { now = is.now; came = is.came; heard = is.heard; enough = is.enough };
+    states = fares.states;
   }
 
   -- And where it is left for the same.
@@ -241,12 +253,13 @@ module _ {L A : Type 0} {ill : LinkNo → L → Type 0} {history : L → List Pa
     loses = fares.loses;
     leaves = fares.leaves;
     counts = λ none n was. let is = fares.counts none n was in record { now = is.now; came = is.came; heard = tt; enough = is.enough };
+    states = fares.states;
   }
 
   -- A step that gives nothing up, and then this.
-  pub fares_behind : {M mid all : List Move} {halt halt_now : Option Halt} {s s_mid s_now : SeatState L} {r : Result A Leave} → s_mid.link ≡ s.link → ReceivesOn (history s.peer.way) (history s_mid.peer.way) → SparesAll M mid → StaysHeard history s.peer s_mid.peer
+  pub fares_behind : {M mid all : List Move} {halt halt_now : Option Halt} {s s_mid s_now : SeatState L} {r : Result A Leave} → s_mid.link ≡ s.link → ReceivesOn (history s.peer.way) (history s_mid.peer.way) → SparesAll M mid → link_moves mid ≡ link_moves M → StaysHeard history s.peer s_mid.peer
       → FaresSeat ill history mid all halt halt_now s_mid s_now r → FaresSeat ill history M all halt halt_now s s_now r
-  fares_behind {M} {mid} {all} {halt} {halt_now} {s} {s_mid} {s_now} {r} link comes spares heard fares =
+  fares_behind {M} {mid} {all} {halt} {halt_now} {s} {s_mid} {s_now} {r} link comes spares unlinked heard fares =
       let one : FaresSeat ill history M mid halt halt s s_mid (ended Leave) = record {
         link = link;
         comes = comes;
@@ -254,6 +267,7 @@ module _ {L A : Type 0} {ill : LinkNo → L → Type 0} {history : L → List Pa
         loses = λ none. spares_so (IsGivenBack (received_in (history s_mid.peer.way)) s.link.0) M mid (unlost_back (received_in (history s_mid.peer.way)) s.link.0) spares;
         leaves = λ none. tt;
         counts = λ none. hears_quiet history (ended Leave) s.peer s_mid.peer comes (quiet_on M spares.more mid spares.are spares.quiet) heard;
+        states = λ none. states_none (received_in (history s_mid.peer.way)) s.link.0 M mid unlinked;
       } in
       fares_then one fares
 
@@ -262,11 +276,11 @@ spares_same M all same = record { more = []; are = same ∙ sym (append-nil M); 
 
 module _ {L A : Type 0} {ill : LinkNo → L → Type 0} {history : L → List Passed} where
   -- where the seat is the same
-  pub fares_spared_same : {M all : List Move} {halt : Option Halt} {s : SeatState L} {x : A} → SparesAll M all → FaresSeat ill history M all halt halt s s (Ok x)
-  fares_spared_same {M} {all} {halt} {s} spares = fares_spared refl (received_same (history s.peer.way) (history s.peer.way) refl) refl spares tt (λ n was. was)
+  pub fares_spared_same : {M all : List Move} {halt : Option Halt} {s : SeatState L} {x : A} → SparesAll M all → link_moves all ≡ link_moves M → FaresSeat ill history M all halt halt s s (Ok x)
+  fares_spared_same {M} {all} {halt} {s} spares unlinked = fares_spared refl (received_same (history s.peer.way) (history s.peer.way) refl) refl spares unlinked tt (λ n was. was)
 
   pub fares_same : {M : List Move} {halt : Option Halt} {s : SeatState L} {x : A} → FaresSeat ill history M M halt halt s s (Ok x)
-  fares_same {M} = fares_spared_same (spares_same M M refl)
+  fares_same {M} = fares_spared_same (spares_same M M refl) refl
 
 pub same_way : {L : Type 0} (history : L → List Passed) (s s_now : SeatState L) → s_now.peer.way ≡ s.peer.way → ReceivesOn (history s.peer.way) (history s_now.peer.way)
 same_way history s s_now same = received_same (history s.peer.way) (history s_now.peer.way) (ap history same)
@@ -318,11 +332,14 @@ module _ {L : Type 0} (gives : Function) (may_fail : Job → Failure → Type 0)
   misspeaks_leaves M s leaves.Unexpected mis = inl (λ others. ill_misspeaks mis)
   misspeaks_leaves M s leaves.Memory mis = tt
 
+  what_came : (past : List Passed) (feed : Stream) (session : State) (said heard : List Message) (m : Message) → Serves gives may_fail past feed session said heard None → IsAmong m heard → Carries (received_in past) m
+  what_came past feed session said heard m serves among = (went_and_came gives may_fail past feed session said heard None m serves).1 among
+
   -- what a peer tells shows what was given back, and why it is left
   pub shows_by : (past : List Passed) (said heard : List Message) (feed : Stream) (session : State) (t : Result Told Leave) → ServesOn gives may_fail past said heard t feed session → Shows past t
   shows_by past said heard feed session (Ok tell.Nothing) on = tt
   shows_by past said heard feed session (Ok (tell.Joined total largest cache)) on = tt
-  shows_by past said heard feed session (Ok (tell.Changed total largest cache)) on = tt
+  shows_by past said heard feed session (Ok (tell.Changed total largest cache)) on = what_came past feed session said (heard ++ (on.message ∷ [])) (messages.Totals total largest cache) on.serves on.is_so
   shows_by past said heard feed session (Ok (tell.Finish attempt outs)) on = tt
   shows_by past said heard feed session (Ok (tell.Fail attempt why)) on = tt
   shows_by past said heard feed session (Ok (tell.Lose attempt)) on = record { heard = heard ++ (on.message ∷ []); came = (feed.rest, on.serves.came); so = on.is_so }
@@ -356,10 +373,17 @@ module _ {S : Type 0} where
   changes_few d after link total largest cache (Err refused.TooManyJoins) h = let same = ap (λ (b : DeskState S). joins_and_changes b.moves) h.1 in omega (arith, same)
   changes_few d after link total largest cache (Err refused.Memory) h = let same = ap (λ (b : DeskState S). joins_and_changes b.moves) h in omega (arith, same)
 
+  -- What it makes of what the link states.
+  changes_state : (up : List ℕ) (d after : DeskState S) (link : LinkNo) (total largest : Amounts) (cache : ℕ) (r : Result (Unit {0}) JoinRefused) → Changes d link total largest cache r after → Carries up (messages.Totals total largest cache) → StatesOn up link.0 d.moves after.moves
+  changes_state up d after link total largest cache (Ok done) h came = states_one up link.0 d.moves (moves.Changed link total largest cache) after.moves refl (ap (λ (b : DeskState S). b.moves) h.1) (refl, came)
+  changes_state up d after link total largest cache (Err refused.TooManyLinks) h came = states_none up link.0 d.moves after.moves (ap (λ (b : DeskState S). link_moves b.moves) h.1)
+  changes_state up d after link total largest cache (Err refused.TooManyJoins) h came = states_none up link.0 d.moves after.moves (ap (λ (b : DeskState S). link_moves b.moves) h.1)
+  changes_state up d after link total largest cache (Err refused.Memory) h came = states_none up link.0 d.moves after.moves (ap (λ (b : DeskState S). link_moves b.moves) h)
+
   -- A seat of which an offer more was heard changes its amounts, or is left.
   pub fares_changed : {L A : Type 0} {ill : LinkNo → L → Type 0} {history : L → List Passed} {halt : Option Halt} {before : SeatState L} (s s_now : SeatState L) (d after : DeskState S) (link : LinkNo) (total largest : Amounts) (cache : ℕ) (reply : Result (Unit {0}) JoinRefused) (r : Result A Leave)
-      → s_now ≡ s → Changes d link total largest cache reply after → OffersMore history before s → IfErr r (LeavesFor ill after.moves s_now) → FaresSeat ill history d.moves after.moves halt halt before s_now r
-  fares_changed {L} {A} {ill} {history} {halt} {before} s s_now d after link total largest cache reply r same changes offers leaves =
+      → s_now ≡ s → Changes d link total largest cache reply after → OffersMore history before s → link ≡ s.link → Carries (received_in (history s.peer.way)) (messages.Totals total largest cache) → IfErr r (LeavesFor ill after.moves s_now) → FaresSeat ill history d.moves after.moves halt halt before s_now r
+  fares_changed {L} {A} {ill} {history} {halt} {before} s s_now d after link total largest cache reply r same changes offers its came leaves =
       let more = subst (λ (x : SeatState L). OffersMore history before x) (sym same) offers in
       record {
         link = more.link;
@@ -372,6 +396,10 @@ module _ {S : Type 0} where
             let few = changes_few d after link total largest cache reply changes in
             let above = heard.1 in
             record { now = heard.0; came = heard_come history s_now.peer heard.0 heard.2; heard = ok_with r (HasHeard history s_now.peer heard.0) heard.2; enough = omega (arith, few, above) };
+        states = λ none.
+            let up = received_in (history s_now.peer.way) in
+            subst (λ (l : LinkNo). StatesOn up l.0 d.moves after.moves) (its ∙ sym (ap (λ (x : SeatState L). x.link) same) ∙ more.link)
+            (changes_state up d after link total largest cache reply changes (subst (λ (x : SeatState L). Carries (received_in (history x.peer.way)) (messages.Totals total largest cache)) (sym same) came));
       }
 
   -- why it is left then
@@ -383,7 +411,7 @@ module _ {S : Type 0} where
 -- ---- all that ran at a seat is given up
 
 pub gives_halted : {link : ℕ} {M all : List Move} {halt halt_now : Option Halt} (why : Halt) → halt_now ≡ Some why → GivesUp link M all halt halt_now
-gives_halted {link} {M} {all} {halt} {halt_now} why stopped = record { going = λ none. absurd (halted_never why halt_now stopped none); loses = λ none. absurd (halted_never why halt_now stopped none); quiet = λ none. absurd (halted_never why halt_now stopped none) }
+gives_halted {link} {M} {all} {halt} {halt_now} why stopped = record { going = λ none. absurd (halted_never why halt_now stopped none); loses = λ none. absurd (halted_never why halt_now stopped none); quiet = λ none. absurd (halted_never why halt_now stopped none); unlinked = λ none. absurd (halted_never why halt_now stopped none) }
 
 pub gives_then : {link : ℕ} {M mid all : List Move} {halt halt_mid halt_now : Option Halt} → GivesUp link M mid halt halt_mid → GivesUp link mid all halt_mid halt_now → GivesUp link M all halt halt_now
 gives_then {link} {M} {mid} {all} {halt} {halt_mid} {halt_now} one two = record {
@@ -392,6 +420,7 @@ gives_then {link} {M} {mid} {all} {halt} {halt_mid} {halt_now} one two = record 
       let later = two.loses none in
       adds_then (IsStartedOn link) (IsStartedOn link) M mid all (started_later link (records_of mid) (records_of later.more) (records_of all) (records_after (IsStartedOn link) mid all later)) (one.loses (two.going none)) later;
   quiet = λ none. two.quiet none ∙ one.quiet (two.going none);
+  unlinked = λ none. two.unlinked none ∙ one.unlinked (two.going none);
 }
 
 pub loses_gives : (M all : List Move) (link : ℕ) (a : Attempt) (halt : Option Halt) → a.link.0 ≡ link → LosesIt M a all → GivesUp link M all halt halt
@@ -399,9 +428,13 @@ loses_gives M all link a halt on loses = record {
   going = λ none. none;
   loses = λ none. it_so (IsStartedOn link) M all a loses (λ started. subst (λ (k : ℕ). list_any (starts_on k a.rule.0 a.number.0) (records_of all) ≡ true) on started);
   quiet = λ none. quiet_on M (moves.Logged (records.Lost loses.moment a.rule a.number) ∷ []) all loses.are refl;
+  unlinked = λ none. ap link_moves loses.are ∙ links_grown M (moves.Logged (records.Lost loses.moment a.rule a.number) ∷ []) ∙ append-nil (link_moves M);
 }
 
 module _ {S : Type 0} where
+  pub leaves_linked : (d after : DeskState S) (link : LinkNo) → Leaves d link after → link_moves after.moves ≡ link_moves d.moves ++ (moves.Left link ∷ [])
+  leaves_linked d after link h = linked_one d.moves (moves.Left link) after.moves refl (ap (λ (b : DeskState S). b.moves) h)
+
   pub leaves_spare : (d after : DeskState S) (link : LinkNo) → Leaves d link after → SparesAll d.moves after.moves
   leaves_spare d after link h = record { more = moves.Left link ∷ []; are = ap (λ (b : DeskState S). b.moves) h; none = refl; quiet = refl }
 

@@ -16,6 +16,12 @@ pub mod Working
 pub mod Trusts
 pub mod Called
 pub mod Turns
+pub mod Earned
 pub mod Heards
 pub mod Fares
 pub mod Duly
+pub mod Duties
+pub mod Leaving
+pub mod Vain
+pub mod Hands
+pub mod Whole

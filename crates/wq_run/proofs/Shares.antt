@@ -57,6 +57,10 @@ seats_join P O M (x ∷ xs) s ys among = (
   seats_join P O M xs s ys (record { seat = among.seat; apart = among.apart.1; rest = among.rest.2 }),
 )
 
+-- none of the others has its link
+pub apart_at : {L : Type 0} (P : Plan) (O : Options) (M : List Move) (xs : List (SeatState L)) (s : SeatState L) (ys seats : List (SeatState L)) → seats ≡ xs ++ (s ∷ ys) → AreSeats P O M seats → IsUnseated s.link.0 (xs ++ ys)
+apart_at P O M xs s ys seats are placed = (seats_split P O M xs s ys (subst (AreSeats P O M) are placed)).apart
+
 -- Seats stay seats where links live on.
 pub seats_live : {L : Type 0} (P Q : Plan) (O N : Options) (M K : List Move) → Q ≡ P → (xs : List (SeatState L))
     → ((k : ℕ) → is_live O M k ≡ true → is_live N K k ≡ true) → AreSeats P O M xs → AreSeats Q N K xs

@@ -44,7 +44,7 @@ use Rattle.local_run.specs.Course.{GoesOn, TellsJobs, begins_anew}
 use Rattle.local_run.specs.Underway.{AreAway, HeldState, NoneHas}
 use Rattle.local_run.proofs.Going.{records_grown}
 use Rattle.wq_run.specs.Seats.{IsAtSeat, IsGuest, IsManned, IsServed, KeepsManned, KeepsSeat, KeepsServed, SeatState, seat_with}
-use Rattle.wq_run.specs.Trusted.{EndsDue, IsHonestGuest, IsMeant, IsOf, IsOwn, IsTrusted, IsUpTo, MayAsk, MayOpen, SaysOwn, SpokenTo, TellsDue, WasAsked, own_task}
+use Rattle.wq_run.specs.Trusted.{EndsDue, IsAwaited, IsHonestGuest, IsMeant, IsOf, IsOwn, IsStranger, IsTrusted, IsUpTo, MayAsk, MayOpen, SaysOwn, SpokenTo, TellsDue, WasAsked, own_task}
 use Rattle.wq_run.proofs.Closes.{placed, stands}
 use Rattle.wq_run.proofs.Places.{all_at, none_left, none_right, unique_back, unique_front}
 use Rattle.wq_run.proofs.Told.{hears_on}
@@ -531,19 +531,30 @@ module _ {L : Type 0} (gives : Function) (may_fail : Job → Failure → Type 0)
   abbrev pub Guest : PeerState L → Type 0
   Guest p = IsHonestGuest gives may_fail history honest p
 
+  abbrev pub Stranger : PeerState L → Type 0
+  Stranger p = IsStranger gives may_fail history honest p
+
   -- a peer that came over an honest link
-  pub new_meant : (holds : Type 0) (p : PeerState L) (way : L) (run : ℕ) → history way ≡ [] → (holds → honest way) → p ≡ new_peer way run → (history way ≡ [] → Serves gives may_fail (history p.way) p.feed p.session [] [] None)
-      → IsGuest (IsMeant holds gives may_fail history honest) p
-  new_meant holds p way run fresh on same serves = record {
+  pub new_awaited : (holds : Type 0) (p : PeerState L) (way : L) (run : ℕ) → history way ≡ [] → (holds → honest way) → p ≡ new_peer way run → (history way ≡ [] → Serves gives may_fail (history p.way) p.feed p.session [] [] None)
+      → IsGuest (IsAwaited holds gives may_fail history honest) p
+  new_awaited holds p way run fresh on same serves = record {
     opens = subst (λ (q : PeerState L). AllByRecursion (λ (o : Open). ⊥) q.session.attempts) (sym same) tt;
     going = ap (λ (q : PeerState L). q.feed.stop) same;
-    so = λ held. record { heard = []; serves = serves fresh; honestly = subst (λ (q : PeerState L). honest q.way) (sym same) (on held) };
+    so = λ held. record { serves = serves fresh; honestly = subst (λ (q : PeerState L). honest q.way) (sym same) (on held) };
   }
 
   -- bytes came of it
-  pub come_guest : (p q : PeerState L) → ((said heard : List Message) (waiting : Option Task) → honest p.way → Serves gives may_fail (history p.way) p.feed p.session said heard waiting → Serves gives may_fail (history q.way) q.feed q.session said heard waiting)
-      → (honest p.way → honest q.way) → Guest p → Guest q
-  come_guest p q stays on was = record { heard = was.heard; serves = stays [] was.heard None was.honestly was.serves; honestly = on was.honestly }
+  pub come_stranger : (p q : PeerState L) → ((said heard : List Message) (waiting : Option Task) → honest p.way → Serves gives may_fail (history p.way) p.feed p.session said heard waiting → Serves gives may_fail (history q.way) q.feed q.session said heard waiting)
+      → (honest p.way → honest q.way) → Stranger p → Stranger q
+  come_stranger p q stays on was = record { serves = stays [] [] None was.honestly was.serves; honestly = on was.honestly }
+
+  -- nothing was heard of it
+  pub guest_of : (holds : Type 0) (p : PeerState L) → IsGuest (IsAwaited holds gives may_fail history honest) p → IsGuest (IsMeant holds gives may_fail history honest) p
+  guest_of holds p guest = record {
+    opens = guest.opens;
+    going = guest.going;
+    so = λ held. record { heard = []; serves = (guest.so held).serves; honestly = (guest.so held).honestly };
+  }
 
   -- what a call that hears a message does
   abbrev pub HearsGuest : PeerState L → PeerState L → Told → Type 0
@@ -566,12 +577,23 @@ module _ {L : Type 0} (gives : Function) (may_fail : Job → Failure → Type 0)
       by_told (tell.Stale attempt) tells = by (tell.Stale attempt) tells
 
   -- A guest stays one while bytes come of it.
-  pub listened_guest : (holds : Type 0) (p q : PeerState L) → q.session ≡ p.session → (p.feed.stop ≡ None → q.feed.stop ≡ None) → (Guest p → Guest q) → IsGuest (IsMeant holds gives may_fail history honest) p → IsGuest (IsMeant holds gives may_fail history honest) q
+  pub listened_guest : (holds : Type 0) (p q : PeerState L) → q.session ≡ p.session → (p.feed.stop ≡ None → q.feed.stop ≡ None) → (Stranger p → Stranger q) → IsGuest (IsAwaited holds gives may_fail history honest) p → IsGuest (IsAwaited holds gives may_fail history honest) q
   listened_guest holds p q session going on guest = record {
     opens = subst (λ (s : State). AllByRecursion (λ (o : Open). ⊥) s.attempts) (sym session) guest.opens;
     going = going guest.going;
     so = λ held. on (guest.so held);
   }
+
+  -- And while nothing whole is there to be heard.
+  pub waits_guest : (holds : Type 0) (p q : PeerState L) → (let r : Result Told Leave = Ok tell.Nothing in p.feed.stop ≡ None → Hears p.feed p.session r q.feed q.session) → HearsGuest p q tell.Nothing → (honest p.way → honest q.way)
+      → IsGuest (IsAwaited holds gives may_fail history honest) p → IsGuest (IsAwaited holds gives may_fail history honest) q
+  waits_guest holds p q hears serves on guest =
+      let h = hears_on (λ (o : Open). ⊥) (λ o none. none) p.feed q.feed p.session q.session tell.Nothing guest.going guest.opens (hears guest.going) in
+      record {
+        opens = h.opens;
+        going = h.going;
+        so = λ held. let was = guest.so held in record { serves = serves [] [] was.honestly was.serves; honestly = on was.honestly };
+      }
 
   -- And while messages are heard of it.
   pub told_guest : (holds : Type 0) (p q : PeerState L) (t : Told) → (let r : Result Told Leave = Ok t in p.feed.stop ≡ None → Hears p.feed p.session r q.feed q.session) → HearsGuest p q t → (honest p.way → honest q.way)

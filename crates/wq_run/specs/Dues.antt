@@ -17,7 +17,8 @@ use Rattle.run_history.specs.Moves.{joins_and_changes, most_joins}
 use Rattle.links.specs.declared.passing.Passed.{Passed}
 use Rattle.links.specs.Ill.{Account, IsIll, Misspeaks, offers_in}
 use Rattle.links.specs.Passings.{received_in, sent_in}
-use Rattle.message_forms.specs.Streams.{BeginsWith}
+use Rattle.flow_types.specs.declared.messages.Message.TheVariants as messages
+use Rattle.message_forms.specs.Streams.{BeginsWith, Carries}
 use Rattle.desk.specs.declared.attempt.Attempt.{Attempt}
 use Rattle.peers.specs.declared.leave.Leave.{Leave}
 use Rattle.peers.specs.declared.leave.Leave.TheVariants as leaves
@@ -26,7 +27,9 @@ use Rattle.peers.specs.declared.told.Told.TheVariants as tell
 use Rattle.peers.specs.Serves.{WasHonest}
 use Rattle.peers.specs.States.{PeerState, ReceivesOn}
 use Rattle.local_run.specs.declared.halt.Halt.{Halt}
+use Rattle.local_run.specs.Links.{link_moves}
 use Rattle.local_run.specs.Losses.{LosesIt, SparesAll, starts_on}
+use Rattle.wq_run.specs.Earned.{StatesOn}
 use Rattle.wq_run.specs.Losses.{GaveBack, account_of}
 use Rattle.wq_run.specs.Seats.{CompanyState, SeatState}
 
@@ -43,8 +46,9 @@ GaveBackIf up number (outcomes.Success outs) = Unit {0}
 GaveBackIf up number (outcomes.Failed why) = Unit {0}
 GaveBackIf up number outcomes.NotRun = GaveBack up number
 
--- What the next message of a peer shows: an attempt that is lost was given back, and a peer that is left has misspoken.
+-- What the next message of a peer shows: an attempt that is lost was given back, other amounts were received, and a peer that is left has misspoken.
 abbrev pub Shows : List Passed → Result Told Leave → Type 0
+Shows history (Ok (tell.Changed total largest cache)) = Carries (received_in history) (messages.Totals total largest cache)
 Shows history (Ok (tell.Lose attempt)) = GaveBack (received_in history) attempt
 Shows history (Ok t) = Unit {0}
 Shows history (Err leaves.Memory) = Unit {0}
@@ -138,7 +142,7 @@ pub record AddsSo (so : List Record → Record → Type 0) (M all : List Move) :
 abbrev pub ended : (E : Type 0) → Result (Unit {0}) E
 ended E = Ok tt
 
--- What a call makes of a seat and of the moves: its link is the same and what came over it stays, and where nothing stopped the run nothing had, and what was given up was given back there. Where the seat is left then, this is why. Joins and changes were added for offers that came.
+-- What a call makes of a seat and of the moves: its link is the same and what came over it stays, and where nothing stopped the run nothing had, and what was given up was given back there. Where the seat is left then, this is why. Joins and changes were added for offers that came, and its link alone stated anything, as was received there.
 pub record FaresSeat {L A : Type 0} (ill : LinkNo → L → Type 0) (history : L → List Passed) (M all : List Move) (halt halt_now : Option Halt) (s s_now : SeatState L) (result : Result A Leave) : Type 0 where
   pub link : s_now.link ≡ s.link
   pub comes : ReceivesOn (history s.peer.way) (history s_now.peer.way)
@@ -146,6 +150,7 @@ pub record FaresSeat {L A : Type 0} (ill : LinkNo → L → Type 0) (history : L
   pub loses : halt_now ≡ None → AddsSo (IsGivenBack (received_in (history s_now.peer.way)) s.link.0) M all
   pub leaves : halt_now ≡ None → IfErr result (LeavesFor ill all s_now)
   pub counts : halt_now ≡ None → (n : ℕ) → HasHeard history s.peer n → HearsOn history M all s_now.peer result n
+  pub states : halt_now ≡ None → StatesOn (received_in (history s_now.peer.way)) s.link.0 M all
 
 -- A seat as a message made it by which its peer offers something else.
 pub record OffersMore {L : Type 0} (history : L → List Passed) (s s_now : SeatState L) : Type 0 where
@@ -158,6 +163,7 @@ pub record GivesUp (link : ℕ) (M all : List Move) (halt halt_now : Option Halt
   pub going : halt_now ≡ None → halt ≡ None
   pub loses : halt_now ≡ None → AddsSo (IsStartedOn link) M all
   pub quiet : halt_now ≡ None → joins_and_changes all ≡ joins_and_changes M
+  pub unlinked : halt_now ≡ None → link_moves all ≡ link_moves M
 
 -- ---- all of them
 

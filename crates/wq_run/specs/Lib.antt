@@ -3,7 +3,10 @@ pub mod Seats
 pub mod Comes
 pub mod Works
 pub mod Trusted
+pub mod Earned
 pub mod Losses
 pub mod Dues
+pub mod Keeping
+pub mod Vain
 pub mod Calls
 pub mod Turns

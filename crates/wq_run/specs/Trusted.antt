@@ -138,3 +138,12 @@ pub record IsHonestGuest {L : Type 0} (gives : Function) (may_fail : Job → Fai
 -- It is so where anything is known of links.
 abbrev pub IsMeant : {L : Type 0} → Type 0 → Function → (Job → Failure → Type 0) → (L → List Passed) → (L → Type 0) → PeerState L → Type 0
 IsMeant known gives may_fail history honest p = known → IsHonestGuest gives may_fail history honest p
+
+-- Nothing was said to the peer yet and nothing was heard of it, and this is so of its link.
+pub record IsStranger {L : Type 0} (gives : Function) (may_fail : Job → Failure → Type 0) (history : L → List Passed) (honest : L → Type 0) (p : PeerState L) : Type 0 where
+  pub serves : Serves gives may_fail (history p.way) p.feed p.session [] [] None
+  pub honestly : honest p.way
+
+-- It is so where anything is known of links.
+abbrev pub IsAwaited : {L : Type 0} → Type 0 → Function → (Job → Failure → Type 0) → (L → List Passed) → (L → Type 0) → PeerState L → Type 0
+IsAwaited known gives may_fail history honest p = known → IsStranger gives may_fail history honest p

@@ -15,7 +15,7 @@ use Rattle.desk.specs.State.{DeskState}
 use Rattle.links.specs.declared.passing.Passed.{Passed}
 use Rattle.local_run.specs.Course.{TellsJobs}
 use Rattle.local_run.specs.Underway.{HeldState, IsShapedPool, IsSurePool, IsWantHalt, ToldOf}
-use Rattle.wq_run.specs.Dues.{KeepsDue}
+use Rattle.wq_run.specs.Keeping.{KeepsOn}
 use Rattle.wq_run.specs.Seats.{CompanyState, IsServed, KeepsServed, Meets, SeatState, inside_of}
 use Rattle.wq_run.specs.Trusted.{IsOf, IsOpen}
 
@@ -40,6 +40,6 @@ pub record ServedOn {S L : Type 0} (trust : Type 0) (gives : Function) (may_fail
   pub served : KeepsServed trust gives may_fail sources tells kept (IsSurePool fits) files may_leave moment images_since d after held held_now pool.waiting pool_now.waiting pool.heard pool_now.heard company.seats company_now.seats
   pub line : pool_now.line ≡ pool.line
   pub coming : IsOpen holds listens honest
-  pub due : told → KeepsDue ill history d.moves after.moves held.halt held_now.halt company company_now got got_now
+  pub due : told → KeepsOn ill history d.moves after.moves held.halt held_now.halt company company_now got got_now
   pub met : Meets count count_now got got_now given given_now idles idles_now (inside_of company) (inside_of company_now) company.failed company_now.failed company.lost company_now.lost
   pub heard : (IsWantHalt held_now.halt → ⊥) → pool_now.waiting ≡ []

@@ -1,6 +1,7 @@
 //! All workers of a run.
 ghost use Rattle.std.specs.Prelude.{◌≡◌, ◌<◌, [], false, true};
 ghost use Rattle.wq_run.specs.Dues.{left_lost};
+ghost use Rattle.wq_run.specs.Earned.{refused_lost};
 ghost use Rattle.wq_run.specs.Seats.{IsUnseated, gathered};
 
 mod guests;
@@ -16,6 +17,7 @@ use links::Link;
 use outside::Commands;
 use peers::{Leave, Peer};
 pub(crate) use rounds::{disband, dismiss, round};
+use run_history::JoinRefused;
 use std::alloc::Global;
 use std::marker::Model;
 pub(crate) use visits::ask_all;
@@ -42,7 +44,7 @@ pub(crate) struct Company<F: Commands, L: Link<F>, T: Trust> {
 
 impl<F: Commands, L: Link<F>, T: Trust> Model for Company<F, L, T> {
     ghost use Rattle.wq_run.specs.Seats.{AreGuests, CompanyState};
-    ghost use Rattle.wq_run.specs.Trusted.{IsFair, IsHeard, IsMeant};
+    ghost use Rattle.wq_run.specs.Trusted.{IsAwaited, IsFair, IsHeard};
 
     ghost Value = { CompanyState L };
 
@@ -54,7 +56,7 @@ impl<F: Commands, L: Link<F>, T: Trust> Model for Company<F, L, T> {
       newest = c.newest;
     } };
 
-    ghost invariant = { λ c. AreGuests (IsMeant (IsHeard T.holds L.tells) F.gives F.may_fail L.history (IsFair T.holds L.tells L.honest))
+    ghost invariant = { λ c. AreGuests (IsAwaited (IsHeard T.holds L.tells) F.gives F.may_fail L.history (IsFair T.holds L.tells L.honest))
         c.guests.items };
 }
 
@@ -138,6 +140,23 @@ impl<F: Commands, L: Link<F>, T: Trust> Company<F, L, T> {
         if leave == Leave::Memory {
             self.lost = true;
         }
+    }
+
+    /// The desk refuses a guest for this. Where that is want of memory the run can't go on.
+    fn refuses(&mut self, why: JoinRefused)
+        ensures refused { self.new
+            ≡ record self.old { lost = refused_lost why self.old.lost } }
+    {
+        if why == JoinRefused::Memory {
+            self.lost = true;
+        }
+    }
+
+    /// Whether a peer that came hasn't joined yet.
+    pub fn has_guests(&self) -> bool
+        ensures { result ≡ false → self.now.guests ≡ [] }
+    {
+        !self.guests.is_empty()
     }
 
     /// Ends it, with nobody left.

@@ -3,7 +3,7 @@ ghost use Rattle.std.specs.Prelude.{◌≡◌, ◌≤◌, ◌<◌, ◌-◌, ℕ,
 ghost use Rattle.std.specs.Prelude.{None, false};
 ghost use Rattle.flow_types.specs.Plans.{IsValid};
 ghost use Rattle.run_history.specs.declared.moves.Move.{Move};
-ghost use Rattle.run_history.specs.Answers.{has_ended};
+ghost use Rattle.run_history.specs.Answers.{before_end, has_ended};
 ghost use Rattle.run_history.specs.Links.{records_of};
 ghost use Rattle.run_history.specs.Moves.{joins_and_changes};
 ghost use Rattle.run_history.specs.Storage.{running_rules};
@@ -15,6 +15,7 @@ ghost use Rattle.local_run.specs.Runs.{IsCutRun};
 ghost use Rattle.wq_run.specs.Ends.{AreBack, EndsHere, IsSparedRunners, LosesOnLinks, StopsBy};
 ghost use Rattle.wq_run.specs.Losses.{AreDueLosses};
 ghost use Rattle.wq_run.specs.Trusted.{IsOf};
+ghost use Rattle.wq_run.specs.Vain.{AreVain, IfWaited};
 
 use crate::company::{Company, disband};
 use crate::reliance::Trust;
@@ -85,6 +86,10 @@ pub fn work<
         → OnOk result (AreDueLosses F.gives F.may_fail H.Way.history H.Way.count
         H.Way.idle_count H.Way.is_closed workers.limit (H.got hall.old) (H.got hall.new)
         (records_of desk.old.moves) (records_of desk.new.moves)) }
+    ensures vain { H.Way.tells → joins_and_changes desk.old.moves ≡ 0
+        → IfOk result (λ check. IfWaited check (AreVain F.gives F.may_fail H.Way.history
+        H.Way.count H.Way.idle_count H.Way.is_closed workers.limit desk.new.plan desk.new.options
+        (before_end (records_of desk.new.moves)) (H.got hall.old) (H.got hall.new))) }
 {
     match hall.listen(workers.port) {
         Ok(()) => {}

@@ -8,7 +8,8 @@ ghost use Rattle.local_run.specs.declared.halt.Halt.{Halt as HaltValue};
 ghost use Rattle.local_run.specs.declared.halt.Halt.TheVariants as halts;
 ghost use Rattle.local_run.specs.Underway.{IsSurePool, halt_after};
 ghost use Rattle.wq_run.specs.Comes.{Finished};
-ghost use Rattle.wq_run.specs.Dues.{IsIllLink, KeepsDue};
+ghost use Rattle.wq_run.specs.Dues.{IsIllLink};
+ghost use Rattle.wq_run.specs.Keeping.{KeepsOn};
 ghost use Rattle.wq_run.specs.Seats.{IsManned, Manned, Meets, inside_of};
 ghost use Rattle.wq_run.specs.Trusted.{StaysOpen};
 
@@ -55,7 +56,7 @@ pub(crate) fn finish<B: PoolTerms, F: Commands, S: Site, H: Hall<F>, T: Terms + 
         company.new.seats result }
     ensures listens { StaysOpen T.holds (H.listens hall.old) (H.honest hall.old)
         (H.listens hall.new) (H.honest hall.new) }
-    ensures due { (limit : ℕ) → H.Way.tells → KeepsDue
+    ensures due { (limit : ℕ) → H.Way.tells → KeepsOn
         (IsIllLink F.gives F.may_fail H.Way.history H.Way.count H.Way.idle_count H.Way.is_closed limit)
         H.Way.history desk.old.moves desk.new.moves held.halt (halt_after result None) company.old
         company.new (H.got hall.old) (H.got hall.new) }

@@ -10,9 +10,11 @@ ghost use Rattle.worker_pool.specs.Crews.{AllSure, AllTell};
 ghost use Rattle.desk.specs.State.{IsFine};
 ghost use Rattle.local_run.specs.Course.{TellsJobs};
 ghost use Rattle.wq_run.specs.Ends.{IsOver};
-ghost use Rattle.wq_run.specs.Dues.{IsIllLink, KeepsDue};
+ghost use Rattle.wq_run.specs.Dues.{IsIllLink};
+ghost use Rattle.wq_run.specs.Keeping.{KeepsOn};
 ghost use Rattle.wq_run.specs.Seats.{AreSeats, Meets, gathered, inside_of};
 ghost use Rattle.wq_run.specs.Trusted.{IsOf, IsOpen};
+ghost use Rattle.wq_run.specs.Vain.{IfWaited, IsAlone};
 ghost use Rattle.wq_run.specs.Works.{EndsNow, IsLast, IsOn, Rounds, Works, with_check};
 
 use crate::company::Company;
@@ -81,7 +83,8 @@ fn end<F: Commands, S: Site, T: Terms, C: Clock>(
     }
 }
 
-/// Waits for workers, and tells how often nobody came if that was too often.
+/// Waits for workers, and tells how often nobody came if that was too often and nobody who came is
+/// still to join.
 fn wait_round<W: Wait, F: Commands, S: Site, H: Hall<F>, C: Clock, T: Terms + Trust>(
     rt: &W,
     alloc: Global,
@@ -107,7 +110,7 @@ fn wait_round<W: Wait, F: Commands, S: Site, H: Hall<F>, C: Clock, T: Terms + Tr
     ensures listens { IsOpen T.holds (H.listens hall.new) (H.honest hall.new) }
     ensures seats { AreSeats desk.new.plan desk.new.options desk.new.moves company.new.seats }
     ensures none { gathered company.new.seats ≡ [] }
-    ensures due { H.Way.tells → OnOk result (KeepsDue
+    ensures due { H.Way.tells → OnOk result (KeepsOn
         (IsIllLink F.gives F.may_fail H.Way.history H.Way.count H.Way.idle_count H.Way.is_closed limit)
         H.Way.history desk.old.moves desk.new.moves None None company.old
         company.new (H.got hall.old) (H.got hall.new)) }
@@ -117,6 +120,7 @@ fn wait_round<W: Wait, F: Commands, S: Site, H: Hall<F>, C: Clock, T: Terms + Tr
         company.old.failed company.new.failed company.old.lost company.new.lost }
     ensures sound { IfOk result (λ turn. IsLast turn
         → (company.new.failed ≡ false) × (company.new.lost ≡ false)) }
+    ensures alone { IfOk result (IsAlone company.new.guests) }
 {
     let before = hall.idles();
     match wait::<Brand, W, F, S, H, T, C>(rt, alloc, desk, company, hall, limit, clock) {
@@ -124,7 +128,7 @@ fn wait_round<W: Wait, F: Commands, S: Site, H: Hall<F>, C: Clock, T: Terms + Tr
         Err(halt) => return Err(Stopped::Halted(halt)),
     }
     let idles = hall.idles() - before;
-    if company.is_going() && idles >= u64::from(limit) {
+    if company.is_going() && !company.has_guests() && idles >= u64::from(limit) {
         return Ok(Turn::Vain(idles));
     }
     Ok(Turn::Again)
@@ -172,7 +176,7 @@ fn go_round<
     ensures tells { (job : Job) → AllTell R.tells runners.old job → AllTell R.tells runners.new job }
     ensures seats { AreSeats desk.new.plan desk.new.options desk.new.moves company.new.seats }
     ensures none { gathered company.new.seats ≡ [] }
-    ensures due { H.Way.tells → OnOk result (KeepsDue
+    ensures due { H.Way.tells → OnOk result (KeepsOn
         (IsIllLink F.gives F.may_fail H.Way.history H.Way.count H.Way.idle_count H.Way.is_closed limit)
         H.Way.history desk.old.moves desk.new.moves None None company.old
         company.new (H.got hall.old) (H.got hall.new)) }
@@ -183,6 +187,7 @@ fn go_round<
     ensures listens { IsOpen T.holds (H.listens hall.new) (H.honest hall.new) }
     ensures sound { IfOk result (λ turn. IsLast turn
         → (company.new.failed ≡ false) × (company.new.lost ≡ false)) }
+    ensures alone { IfOk result (IsAlone company.new.guests) }
 {
     match serve_all(rt, alloc, desk, company, hall, limit, runners, gate, clock) {
         Ok(()) => {}
@@ -263,7 +268,7 @@ pub(crate) fn run_all<
         n (H.count hall.new) (H.idle_count hall.old) (H.idle_count hall.new) result }
     ensures seats { AreSeats desk.new.plan desk.new.options desk.new.moves company.new.seats }
     ensures none { gathered company.new.seats ≡ [] }
-    ensures due { H.Way.tells → OnOk result (KeepsDue
+    ensures due { H.Way.tells → OnOk result (KeepsOn
         (IsIllLink F.gives F.may_fail H.Way.history H.Way.count H.Way.idle_count H.Way.is_closed limit)
         H.Way.history desk.old.moves desk.new.moves None None company.old
         company.new (H.got hall.old) (H.got hall.new)) }
@@ -273,6 +278,7 @@ pub(crate) fn run_all<
         company.old.failed company.new.failed company.old.lost company.new.lost }
     ensures sound { OnOk result
         ((company.new.failed ≡ false) × (company.new.lost ≡ false)) }
+    ensures alone { IfOk result (λ check. IfWaited check (company.new.guests ≡ [])) }
 {
     for _ in rt.forever() {
         match go_round(rt, alloc, desk, company, hall, limit, runners, gate, clock) {

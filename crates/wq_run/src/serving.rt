@@ -15,7 +15,8 @@ ghost use Rattle.local_run.specs.Course.{TellsJobs};
 ghost use Rattle.local_run.specs.Underway.{IsShapedPool, IsSurePool, IsWantHalt, ToldOf};
 ghost use Rattle.local_run.specs.Underway.{halt_after};
 ghost use Rattle.wq_run.specs.Comes.{ComesOn};
-ghost use Rattle.wq_run.specs.Dues.{IsIllLink, KeepsDue};
+ghost use Rattle.wq_run.specs.Dues.{IsIllLink};
+ghost use Rattle.wq_run.specs.Keeping.{KeepsOn};
 ghost use Rattle.wq_run.specs.Seats.{AreSeats, IsServed, KeepsServed, Meets};
 ghost use Rattle.wq_run.specs.Seats.{gathered, inside_of};
 ghost use Rattle.wq_run.specs.Trusted.{IsOf, IsOpen};
@@ -65,7 +66,7 @@ fn start_more<B: PoolTerms, W: Wait, F: Commands, S: Site, H: Hall<F>, T: Terms 
         company.old.seats company.new.seats }
     ensures line { pool.new.line ≡ pool.old.line }
     ensures listens { IsOpen T.holds (H.listens hall.new) (H.honest hall.new) }
-    ensures due { (limit : ℕ) → H.Way.tells → KeepsDue
+    ensures due { (limit : ℕ) → H.Way.tells → KeepsOn
         (IsIllLink F.gives F.may_fail H.Way.history H.Way.count H.Way.idle_count H.Way.is_closed limit)
         H.Way.history desk.old.moves desk.new.moves held.old.halt held.new.halt company.old
         company.new (H.got hall.old) (H.got hall.new) }
@@ -118,7 +119,7 @@ fn turn<B: PoolTerms, W: Wait, F: Commands, S: Site, H: Hall<F>, T: Terms + Trus
         company.old.seats company.new.seats }
     ensures line { pool.new.line ≡ pool.old.line }
     ensures listens { IsOpen T.holds (H.listens hall.new) (H.honest hall.new) }
-    ensures due { H.Way.tells → KeepsDue
+    ensures due { H.Way.tells → KeepsOn
         (IsIllLink F.gives F.may_fail H.Way.history H.Way.count H.Way.idle_count H.Way.is_closed limit)
         H.Way.history desk.old.moves desk.new.moves held.old.halt held.new.halt company.old
         company.new (H.got hall.old) (H.got hall.new) }
@@ -169,7 +170,7 @@ fn wind_down<B: PoolTerms, W: Wait, F: Commands, S: Site, H: Hall<F>, T: Terms +
     ensures listens { IsOpen T.holds (H.listens hall.new) (H.honest hall.new) }
     ensures due { (limit : ℕ) → H.Way.tells
         → (held.old.halt ≡ None → company.old.failed ≡ false → company.old.lost ≡ false → ⊥)
-        → KeepsDue
+        → KeepsOn
         (IsIllLink F.gives F.may_fail H.Way.history H.Way.count H.Way.idle_count H.Way.is_closed limit)
         H.Way.history desk.old.moves desk.new.moves held.old.halt held.new.halt company.old
         company.new (H.got hall.old) (H.got hall.new) }
@@ -221,7 +222,7 @@ fn serve<B: PoolTerms, W: Wait, F: Commands, S: Site, H: Hall<F>, T: Terms + Tru
         company.old.seats company.new.seats }
     ensures line { pool.new.line ≡ pool.old.line }
     ensures listens { IsOpen T.holds (H.listens hall.new) (H.honest hall.new) }
-    ensures due { H.Way.tells → KeepsDue
+    ensures due { H.Way.tells → KeepsOn
         (IsIllLink F.gives F.may_fail H.Way.history H.Way.count H.Way.idle_count H.Way.is_closed limit)
         H.Way.history desk.old.moves desk.new.moves held.old.halt held.new.halt company.old
         company.new (H.got hall.old) (H.got hall.new) }
@@ -362,7 +363,7 @@ fn serve_beside<
         company.old.seats company.new.seats }
     ensures line { pool.new.line ≡ pool.old.line }
     ensures listens { IsOpen T.holds (H.listens hall.new) (H.honest hall.new) }
-    ensures due { H.Way.tells → KeepsDue
+    ensures due { H.Way.tells → KeepsOn
         (IsIllLink F.gives F.may_fail H.Way.history H.Way.count H.Way.idle_count H.Way.is_closed limit)
         H.Way.history desk.old.moves desk.new.moves held.old.halt held.new.halt company.old
         company.new (H.got hall.old) (H.got hall.new) }
@@ -452,7 +453,7 @@ fn serve_in<
     ensures seats { AreSeats desk.new.plan desk.new.options desk.new.moves company.new.seats }
     ensures none { gathered company.new.seats ≡ [] }
     ensures listens { IsOpen T.holds (H.listens hall.new) (H.honest hall.new) }
-    ensures due { H.Way.tells → KeepsDue
+    ensures due { H.Way.tells → KeepsOn
         (IsIllLink F.gives F.may_fail H.Way.history H.Way.count H.Way.idle_count H.Way.is_closed limit)
         H.Way.history desk.old.moves desk.new.moves None (halt_after result None) company.old
         company.new (H.got hall.old) (H.got hall.new) }
@@ -516,7 +517,7 @@ pub(crate) fn serve_all<
     ensures seats { AreSeats desk.new.plan desk.new.options desk.new.moves company.new.seats }
     ensures none { gathered company.new.seats ≡ [] }
     ensures listens { IsOpen T.holds (H.listens hall.new) (H.honest hall.new) }
-    ensures due { H.Way.tells → KeepsDue
+    ensures due { H.Way.tells → KeepsOn
         (IsIllLink F.gives F.may_fail H.Way.history H.Way.count H.Way.idle_count H.Way.is_closed limit)
         H.Way.history desk.old.moves desk.new.moves None (halt_after result None) company.old
         company.new (H.got hall.old) (H.got hall.new) }

@@ -6,7 +6,8 @@ ghost use Rattle.run_history.specs.Storage.{running_rules};
 ghost use Rattle.desk.specs.State.{IsFine};
 ghost use Rattle.local_run.specs.Underway.{IsSurePool, halt_after};
 ghost use Rattle.wq_run.specs.Comes.{ComesOn};
-ghost use Rattle.wq_run.specs.Dues.{IsIllLink, KeepsDue};
+ghost use Rattle.wq_run.specs.Dues.{IsIllLink};
+ghost use Rattle.wq_run.specs.Keeping.{KeepsOn};
 ghost use Rattle.wq_run.specs.Seats.{AreSeats, IsManned, KeepsManned, Meets, gathered, inside_of};
 ghost use Rattle.wq_run.specs.Trusted.{IsOf, IsOpen};
 
@@ -43,7 +44,7 @@ fn look<B: PoolTerms, W: Wait, F: Commands, S: Site, H: Hall<F>, T: Terms + Trus
         S.files S.may_leave S.moment S.images_since desk.old desk.new
         held.old held.new company.old.seats company.new.seats }
     ensures listens { IsOpen T.holds (H.listens hall.new) (H.honest hall.new) }
-    ensures due { H.Way.tells → KeepsDue
+    ensures due { H.Way.tells → KeepsOn
         (IsIllLink F.gives F.may_fail H.Way.history H.Way.count H.Way.idle_count H.Way.is_closed limit)
         H.Way.history desk.old.moves desk.new.moves held.old.halt held.new.halt company.old
         company.new (H.got hall.old) (H.got hall.new) }
@@ -98,7 +99,7 @@ pub(crate) fn wait<
     ensures seats { AreSeats desk.new.plan desk.new.options desk.new.moves company.new.seats }
     ensures none { gathered company.new.seats ≡ [] }
     ensures listens { IsOpen T.holds (H.listens hall.new) (H.honest hall.new) }
-    ensures due { H.Way.tells → KeepsDue
+    ensures due { H.Way.tells → KeepsOn
         (IsIllLink F.gives F.may_fail H.Way.history H.Way.count H.Way.idle_count H.Way.is_closed limit)
         H.Way.history desk.old.moves desk.new.moves None (halt_after result None) company.old
         company.new (H.got hall.old) (H.got hall.new) }

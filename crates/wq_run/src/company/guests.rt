@@ -1,11 +1,17 @@
 //! Peers that came and haven't joined yet.
-ghost use Rattle.std.specs.Prelude.{◌≡◌, ◌⊎◌, ◌++◌, ◌∷◌, [], ℕ, IfOk, IfSome, None, OnOk, Option};
-ghost use Rattle.std.specs.Prelude.{false};
+ghost use Rattle.std.specs.Prelude.{◌≡◌, ◌⊎◌, ◌++◌, ◌∷◌, [], ℕ, IfErr, IfOk, IfSome, None, OnOk};
+ghost use Rattle.std.specs.Prelude.{Option, false};
+ghost use Rattle.flow_types.specs.declared.messages.Message.TheVariants as messages;
+ghost use Rattle.links.specs.Passings.{received_in};
+ghost use Rattle.message_forms.specs.Streams.{Carries};
+ghost use Rattle.peers.specs.States.{LeavesAs};
 ghost use Rattle.local_run.specs.declared.halt.Halt.{Halt as HaltValue};
 ghost use Rattle.local_run.specs.Underway.{HeldState, IsSurePool};
-ghost use Rattle.wq_run.specs.Dues.{HasHeard, IsIllLink, KeepsDue};
+ghost use Rattle.wq_run.specs.Dues.{HasHeard, IsIllLink};
+ghost use Rattle.wq_run.specs.Keeping.{KeepsOn};
+ghost use Rattle.wq_run.specs.Earned.{LeavesGuest};
 ghost use Rattle.wq_run.specs.Seats.{IsGuest, IsUnseated, KeepsManned, Meets, inside_of, with_hand};
-ghost use Rattle.wq_run.specs.Trusted.{IsFair, IsHeard, IsHonestGuest, IsMeant, StaysOpen};
+ghost use Rattle.wq_run.specs.Trusted.{IsAwaited, IsFair, IsHeard, IsMeant, IsStranger, StaysOpen};
 
 use super::Company;
 use super::hall::hand_back;
@@ -16,7 +22,7 @@ use flow_types::Amounts;
 use links::{Hall, Link};
 use local_run::join;
 use outside::{Commands, Site};
-use peers::{Leave, Listened, Peer, Told};
+use peers::{Leave, Peer, Told};
 use std::alloc::Global;
 use worker_pool::Terms as PoolTerms;
 
@@ -39,34 +45,39 @@ fn listen<F: Commands, L: Link<F>, T: Trust>(
 ) -> Result<(), Leave>
     ensures session { peer.new.session ≡ peer.old.session }
     ensures going { peer.old.feed.stop ≡ None → peer.new.feed.stop ≡ None }
-    ensures honest { IsHonestGuest F.gives F.may_fail L.history
+    ensures stranger { IsStranger F.gives F.may_fail L.history
         (IsFair T.holds L.tells L.honest) peer.old
-        → OnOk result (IsHonestGuest F.gives F.may_fail L.history
+        → OnOk result (IsStranger F.gives F.may_fail L.history
         (IsFair T.holds L.tells L.honest) peer.new) }
+    ensures leaves { IfErr result (LeavesAs (L.is_closed peer.new.way) (L.count peer.old.way)
+        (L.count peer.new.way)) }
 {
     if !peer.ready() && !is_turn {
         return Ok(());
     }
     match peer.listen(alloc) {
-        Ok(Listened::Piece) => Ok(()),
-        Ok(Listened::Idle(idles)) => {
-            if idles >= MOST_IDLES {
-                return Err(Leave::Closed);
-            }
-            Ok(())
-        }
+        Ok(_) => Ok(()),
         Err(leave) => Err(leave),
     }
 }
 
-// What a guest offers, once its hello has come.
+// What a guest offers, once its hello has come. It is to be left where it was idle for too long before
+// that, but only once all that came was heard.
 fn greet<F: Commands, L: Link<F>, T: Trust>(
     peer: &mut Peer<F, L>,
     alloc: Global,
     is_turn: bool,
 ) -> Result<Option<Offer>, Leave>
-    requires guest { IsGuest (IsMeant (IsHeard T.holds L.tells) F.gives F.may_fail L.history (IsFair T.holds L.tells L.honest)) peer.old }
+    requires guest { IsGuest (IsAwaited (IsHeard T.holds L.tells) F.gives F.may_fail L.history (IsFair T.holds L.tells L.honest)) peer.old }
     ensures guest { OnOk result (IsGuest (IsMeant (IsHeard T.holds L.tells) F.gives F.may_fail L.history (IsFair T.holds L.tells L.honest)) peer.new) }
+    ensures waits { IfOk result (λ offer. offer ≡ None
+        → IsGuest (IsAwaited (IsHeard T.holds L.tells) F.gives F.may_fail L.history (IsFair T.holds L.tells L.honest)) peer.new) }
+    ensures offers { IfOk result (λ offer. IfSome offer (λ o. L.tells
+        → Carries (received_in (L.history peer.new.way))
+        (messages.Hello o.total o.largest o.cache))) }
+    ensures leaves { (limit : ℕ) → L.tells → IfErr result (LeavesGuest
+        (IsIllLink F.gives F.may_fail L.history L.count L.idle_count L.is_closed limit)
+        peer.new.way) }
     ensures offered { IfOk result (λ offer. IfSome offer
         (λ _. L.tells → HasHeard L.history peer.new 1)) }
 {
@@ -75,32 +86,38 @@ fn greet<F: Commands, L: Link<F>, T: Trust>(
         Err(leave) => return Err(leave),
     }
     match peer.hear(alloc) {
-        Ok(Told::Nothing) => Ok(None),
-        Ok(
+        Ok(told) => match told {
+            Told::Nothing => {
+                if peer.idles() >= MOST_IDLES {
+                    return Err(Leave::Closed);
+                }
+                Ok(None)
+            }
             Told::Joined {
                 total,
                 largest,
                 cache,
-            },
-        ) => Ok(Some(Offer {
-            total,
-            largest,
-            cache,
-        })),
-        Ok(_) => Err(Leave::Unexpected),
+            } => Ok(Some(Offer {
+                total,
+                largest,
+                cache,
+            })),
+            _ => Err(Leave::Unexpected),
+        },
         Err(leave) => Err(leave),
     }
 }
 
-/// A guest stays one.
+/// A guest stays one. Where there is no memory for it the run can't go on.
 fn stay<F: Commands, H: Hall<F>, T: Trust>(
     company: &mut Company<F, H::Way, T>,
     alloc: Global,
     hall: &mut H,
     peer: Peer<F, H::Way>,
 )
-    requires guest { IsGuest (IsMeant (IsHeard T.holds H.Way.tells) F.gives F.may_fail H.Way.history (IsFair T.holds H.Way.tells H.Way.honest)) peer }
+    requires guest { IsGuest (IsAwaited (IsHeard T.holds H.Way.tells) F.gives F.may_fail H.Way.history (IsFair T.holds H.Way.tells H.Way.honest)) peer }
     ensures seats { company.new.seats ≡ company.old.seats }
+    ensures kept { company.new.lost ≡ false → H.got hall.new ≡ H.got hall.old }
     ensures listens { StaysOpen T.holds (H.listens hall.old) (H.honest hall.old)
         (H.listens hall.new) (H.honest hall.new) }
     ensures met { Meets (H.count hall.old) (H.count hall.new) (H.got hall.old)
@@ -111,6 +128,7 @@ fn stay<F: Commands, H: Hall<F>, T: Trust>(
 {
     if let Err(failed) = company.guests.push(peer) {
         hand_back::<F, H, T>(company, alloc, hall, None, failed.value.into_way());
+        company.lost = true;
     }
 }
 
@@ -126,8 +144,9 @@ fn take_seat<F: Commands, H: Hall<F>, T: Trust>(
     ensures seats { (company.new.seats ≡ company.old.seats)
         ⊎ (IsUnseated seat.link.0 company.old.seats
         × (company.new.seats ≡ company.old.seats ++ seat ∷ [])) }
-    ensures seated { company.new.lost ≡ false
-        → company.new.seats ≡ company.old.seats ++ seat ∷ [] }
+    ensures seated { company.new.lost ≡ false → (H.got hall.new ≡ H.got hall.old)
+        × IsUnseated seat.link.0 company.old.seats
+        × (company.new.seats ≡ company.old.seats ++ seat ∷ []) }
     ensures listens { StaysOpen T.holds (H.listens hall.old) (H.honest hall.old)
         (H.listens hall.new) (H.honest hall.new) }
     ensures met { Meets (H.count hall.old) (H.count hall.new) (H.got hall.old)
@@ -150,7 +169,8 @@ fn take_seat<F: Commands, H: Hall<F>, T: Trust>(
     }
 }
 
-/// A guest joins with what it offers. Where the desk refuses it its link is handed back.
+/// A guest joins with what it offers. Where the desk refuses it its link is handed back, and where
+/// that is for want of memory the run can't go on.
 fn seat_guest<B: PoolTerms, F: Commands, S: Site, H: Hall<F>, T: Terms + Trust>(
     company: &mut Company<F, H::Way, T>,
     alloc: Global,
@@ -160,13 +180,15 @@ fn seat_guest<B: PoolTerms, F: Commands, S: Site, H: Hall<F>, T: Terms + Trust>(
     offer: Offer,
 )
     requires guest { IsGuest (IsMeant (IsHeard T.holds H.Way.tells) F.gives F.may_fail H.Way.history (IsFair T.holds H.Way.tells H.Way.honest)) peer }
+    requires came { H.Way.tells → Carries (received_in (H.Way.history peer.way))
+        (messages.Hello offer.total offer.largest offer.cache) }
     requires offered { H.Way.tells → HasHeard H.Way.history peer 1 }
     ensures manned { (held : HeldState) → KeepsManned T.trust F.gives F.may_fail T.sources S.tells T.kept (IsSurePool B.fits)
         S.files S.may_leave S.moment S.images_since desk.old desk.new
         held held company.old.seats company.new.seats }
     ensures listens { StaysOpen T.holds (H.listens hall.old) (H.honest hall.old)
         (H.listens hall.new) (H.honest hall.new) }
-    ensures due { (limit : ℕ) (halt : Option HaltValue) → H.Way.tells → KeepsDue
+    ensures due { (limit : ℕ) (halt : Option HaltValue) → H.Way.tells → KeepsOn
         (IsIllLink F.gives F.may_fail H.Way.history H.Way.count H.Way.idle_count H.Way.is_closed limit)
         H.Way.history desk.old.moves desk.new.moves halt halt company.old
         company.new (H.got hall.old) (H.got hall.new) }
@@ -178,7 +200,10 @@ fn seat_guest<B: PoolTerms, F: Commands, S: Site, H: Hall<F>, T: Terms + Trust>(
 {
     match join::<B, F, S, T>(desk, offer.total, offer.largest, offer.cache) {
         Ok(link) => take_seat::<F, H, T>(company, alloc, hall, Seat::new(alloc, peer, link)),
-        Err(_) => hand_back::<F, H, T>(company, alloc, hall, None, peer.into_way()),
+        Err(why) => {
+            company.refuses(why);
+            hand_back::<F, H, T>(company, alloc, hall, None, peer.into_way());
+        }
     }
 }
 
@@ -196,7 +221,7 @@ fn greet_next<B: PoolTerms, F: Commands, S: Site, H: Hall<F>, T: Terms + Trust>(
         held held company.old.seats company.new.seats }
     ensures listens { StaysOpen T.holds (H.listens hall.old) (H.honest hall.old)
         (H.listens hall.new) (H.honest hall.new) }
-    ensures due { (limit : ℕ) (halt : Option HaltValue) → H.Way.tells → KeepsDue
+    ensures due { (limit : ℕ) (halt : Option HaltValue) → H.Way.tells → KeepsOn
         (IsIllLink F.gives F.may_fail H.Way.history H.Way.count H.Way.idle_count H.Way.is_closed limit)
         H.Way.history desk.old.moves desk.new.moves halt halt company.old
         company.new (H.got hall.old) (H.got hall.new) }
@@ -218,7 +243,8 @@ fn greet_next<B: PoolTerms, F: Commands, S: Site, H: Hall<F>, T: Terms + Trust>(
             seat_guest::<B, F, S, H, T>(company, alloc, desk, hall, peer, offer);
             true
         }
-        Err(_) => {
+        Err(leave) => {
+            company.leaves(leave);
             hand_back::<F, H, T>(company, alloc, hall, None, peer.into_way());
             true
         }
@@ -238,7 +264,7 @@ pub(super) fn greet_all<B: PoolTerms, F: Commands, S: Site, H: Hall<F>, T: Terms
         held held company.old.seats company.new.seats }
     ensures listens { StaysOpen T.holds (H.listens hall.old) (H.honest hall.old)
         (H.listens hall.new) (H.honest hall.new) }
-    ensures due { (limit : ℕ) (halt : Option HaltValue) → H.Way.tells → KeepsDue
+    ensures due { (limit : ℕ) (halt : Option HaltValue) → H.Way.tells → KeepsOn
         (IsIllLink F.gives F.may_fail H.Way.history H.Way.count H.Way.idle_count H.Way.is_closed limit)
         H.Way.history desk.old.moves desk.new.moves halt halt company.old
         company.new (H.got hall.old) (H.got hall.new) }

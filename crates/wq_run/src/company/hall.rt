@@ -1,7 +1,7 @@
 //! Where peers come and go.
 ghost use Rattle.std.specs.Prelude.{◌≡◌, ◌∷◌, ◌++◌, [], IfOk, None, false};
 ghost use Rattle.wq_run.specs.Seats.{IsGuest, Meets, inside_of, with_hand};
-ghost use Rattle.wq_run.specs.Trusted.{IsFair, IsHeard, IsMeant, IsOpen, StaysOpen};
+ghost use Rattle.wq_run.specs.Trusted.{IsAwaited, IsFair, IsHeard, IsOpen, StaysOpen};
 
 use super::Company;
 use crate::reliance::Trust;
@@ -53,13 +53,13 @@ fn guest_at<F: Commands, L: Link<F>, T: Trust>(alloc: Global, way: L) -> Result<
     requires fresh { L.history way ≡ [] }
     requires honest { T.holds → L.honest way }
     ensures guest { IfOk result
-        (IsGuest (IsMeant (IsHeard T.holds L.tells) F.gives F.may_fail L.history (IsFair T.holds L.tells L.honest))) }
+        (IsGuest (IsAwaited (IsHeard T.holds L.tells) F.gives F.may_fail L.history (IsFair T.holds L.tells L.honest))) }
 {
     honest_links_were_honest::<F, L>();
     Peer::new(alloc, way, 0)
 }
 
-/// A peer comes over this link.
+/// A peer comes over this link. Where there is no memory for it the run can't go on.
 fn let_in<F: Commands, H: Hall<F>, T: Trust>(
     company: &mut Company<F, H::Way, T>,
     alloc: Global,
@@ -69,6 +69,7 @@ fn let_in<F: Commands, H: Hall<F>, T: Trust>(
     requires fresh { H.Way.history way ≡ [] }
     requires honest { T.holds → H.Way.honest way }
     ensures seats { company.new.seats ≡ company.old.seats }
+    ensures kept { company.new.lost ≡ false → H.got hall.new ≡ H.got hall.old }
     ensures listens { StaysOpen T.holds (H.listens hall.old) (H.honest hall.old)
         (H.listens hall.new) (H.honest hall.new) }
     ensures met { Meets (H.count hall.old) (H.count hall.new) (H.got hall.old)
@@ -81,9 +82,13 @@ fn let_in<F: Commands, H: Hall<F>, T: Trust>(
         Ok(peer) => {
             if let Err(failed) = company.guests.push(peer) {
                 hand_back::<F, H, T>(company, alloc, hall, None, failed.value.into_way());
+                company.lost = true;
             }
         }
-        Err(way) => hand_back::<F, H, T>(company, alloc, hall, None, way),
+        Err(way) => {
+            hand_back::<F, H, T>(company, alloc, hall, None, way);
+            company.lost = true;
+        }
     }
 }
 
@@ -95,6 +100,7 @@ fn wait<F: Commands, H: Hall<F>, T: Trust>(
 ) -> bool
     requires { IsOpen T.holds (H.listens hall.old) (H.honest hall.old) }
     ensures seats { company.new.seats ≡ company.old.seats }
+    ensures kept { company.new.lost ≡ false → H.got hall.new ≡ H.got hall.old }
     ensures listens { IsOpen T.holds (H.listens hall.new) (H.honest hall.new) }
     ensures met { Meets (H.count hall.old) (H.count hall.new) (H.got hall.old)
         (H.got hall.new) (H.given hall.old) (H.given hall.new) (H.idle_count hall.old)
@@ -128,6 +134,7 @@ pub(super) fn meet<F: Commands, H: Hall<F>, T: Trust>(
 ) -> bool
     requires { IsOpen T.holds (H.listens hall.old) (H.honest hall.old) }
     ensures seats { company.new.seats ≡ company.old.seats }
+    ensures kept { company.new.lost ≡ false → H.got hall.new ≡ H.got hall.old }
     ensures listens { IsOpen T.holds (H.listens hall.new) (H.honest hall.new) }
     ensures met { Meets (H.count hall.old) (H.count hall.new) (H.got hall.old)
         (H.got hall.new) (H.given hall.old) (H.given hall.new) (H.idle_count hall.old)

@@ -5,7 +5,8 @@ ghost use Rattle.flow_types.specs.Plans.{IsValid};
 ghost use Rattle.worker_pool.specs.declared.hand.Tally.{Tally};
 ghost use Rattle.desk.specs.State.{DeskState};
 ghost use Rattle.local_run.specs.Underway.{IsSurePool};
-ghost use Rattle.wq_run.specs.Dues.{IsFull, IsIllLink, KeepsDueBut, MayLeaveAt};
+ghost use Rattle.wq_run.specs.Dues.{IsFull, IsIllLink, MayLeaveAt};
+ghost use Rattle.wq_run.specs.Keeping.{KeepsOnBut};
 ghost use Rattle.wq_run.specs.Seats.{IsParting, IsPartingAt, Manned, Meets, Parts, PartsAt};
 ghost use Rattle.wq_run.specs.Seats.{SeatState, inside_of, with_hand};
 ghost use Rattle.wq_run.specs.Trusted.{StaysOpen};
@@ -53,7 +54,7 @@ pub(super) fn part<B: PoolTerms, F: Commands, S: Site, H: Hall<F>, T: Terms + Tr
         → (held.old.halt ≡ None → company.old.failed ≡ false → company.old.lost ≡ false
         → IsIllLink F.gives F.may_fail H.Way.history H.Way.count H.Way.idle_count H.Way.is_closed
         limit seat.link seat.peer.way ⊎ IsFull desk.old.moves)
-        → KeepsDueBut
+        → KeepsOnBut
         (IsIllLink F.gives F.may_fail H.Way.history H.Way.count H.Way.idle_count H.Way.is_closed limit)
         H.Way.history (length before) desk.old.moves desk.new.moves held.old.halt held.new.halt
         (record company.old { seats = before ++ seat ∷ behind }) company.new (H.got hall.old)
@@ -102,7 +103,7 @@ pub(super) fn part_at<B: PoolTerms, F: Commands, S: Site, H: Hall<F>, T: Terms +
         → (held.old.halt ≡ None → company.old.failed ≡ false → company.old.lost ≡ false
         → MayLeaveAt (IsIllLink F.gives F.may_fail H.Way.history H.Way.count H.Way.idle_count
         H.Way.is_closed limit) desk.old.moves at company.old.seats)
-        → KeepsDueBut
+        → KeepsOnBut
         (IsIllLink F.gives F.may_fail H.Way.history H.Way.count H.Way.idle_count H.Way.is_closed limit)
         H.Way.history at desk.old.moves desk.new.moves held.old.halt held.new.halt company.old
         company.new (H.got hall.old) (H.got hall.new) }

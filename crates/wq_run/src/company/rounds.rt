@@ -5,8 +5,10 @@ ghost use Rattle.run_history.specs.declared.moves.Move.{Move};
 ghost use Rattle.run_history.specs.Links.{records_of};
 ghost use Rattle.local_run.specs.Underway.{IsSurePool};
 ghost use Rattle.wq_run.specs.Dues.{IsIllLink, KeepsDue};
+ghost use Rattle.wq_run.specs.Keeping.{KeepsOn};
 ghost use Rattle.wq_run.specs.Seats.{IsManned, KeepsManned, Meets, gathered, inside_of};
 ghost use Rattle.wq_run.specs.Trusted.{IsOf, IsOpen, StaysOpen};
+ghost use Rattle.wq_run.specs.Vain.{HandsBack};
 
 use super::Company;
 use super::guests::greet_all;
@@ -61,7 +63,7 @@ pub(crate) fn round<B: PoolTerms, F: Commands, S: Site, H: Hall<F>, T: Terms + T
         S.files S.may_leave S.moment S.images_since desk.old desk.new
         held.old held.new company.old.seats company.new.seats }
     ensures listens { IsOpen T.holds (H.listens hall.new) (H.honest hall.new) }
-    ensures due { H.Way.tells → KeepsDue
+    ensures due { H.Way.tells → KeepsOn
         (IsIllLink F.gives F.may_fail H.Way.history H.Way.count H.Way.idle_count H.Way.is_closed limit)
         H.Way.history desk.old.moves desk.new.moves held.old.halt held.new.halt company.old
         company.new (H.got hall.old) (H.got hall.new) }
@@ -103,7 +105,7 @@ fn dismiss_last<B: PoolTerms, F: Commands, S: Site, H: Hall<F>, T: Terms + Trust
         (H.listens hall.new) (H.honest hall.new) }
     ensures due { (limit : ℕ) → H.Way.tells
         → (held.old.halt ≡ None → company.old.failed ≡ false → company.old.lost ≡ false → ⊥)
-        → KeepsDue
+        → KeepsOn
         (IsIllLink F.gives F.may_fail H.Way.history H.Way.count H.Way.idle_count H.Way.is_closed limit)
         H.Way.history desk.old.moves desk.new.moves held.old.halt held.new.halt company.old
         company.new (H.got hall.old) (H.got hall.new) }
@@ -147,7 +149,7 @@ pub(crate) fn dismiss<B: PoolTerms, F: Commands, S: Site, H: Hall<F>, T: Terms +
         (H.listens hall.new) (H.honest hall.new) }
     ensures due { (limit : ℕ) → H.Way.tells
         → (held.old.halt ≡ None → company.old.failed ≡ false → company.old.lost ≡ false → ⊥)
-        → KeepsDue
+        → KeepsOn
         (IsIllLink F.gives F.may_fail H.Way.history H.Way.count H.Way.idle_count H.Way.is_closed limit)
         H.Way.history desk.old.moves desk.new.moves held.old.halt held.new.halt company.old
         company.new (H.got hall.old) (H.got hall.new) }
@@ -176,6 +178,8 @@ pub(crate) fn disband<F: Commands, H: Hall<F>, T: Terms + Trust>(
         (IsIllLink F.gives F.may_fail H.Way.history H.Way.count H.Way.idle_count H.Way.is_closed limit)
         H.Way.history moves moves None None company.old company.new (H.got hall.old)
         (H.got hall.new) }
+    ensures hands { H.Way.tells → company.old.guests ≡ [] → company.new.lost ≡ false
+        → HandsBack H.Way.history company.old.seats (H.got hall.old) (H.got hall.new) }
     ensures met { Meets (H.count hall.old) (H.count hall.new) (H.got hall.old)
         (H.got hall.new) (H.given hall.old) (H.given hall.new) (H.idle_count hall.old)
         (H.idle_count hall.new) (inside_of company.old) (inside_of company.new)

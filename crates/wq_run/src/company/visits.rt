@@ -3,7 +3,8 @@ ghost use Rattle.std.specs.Prelude.{◌≡◌, ◌<◌, ℕ, length};
 ghost use Rattle.flow_types.specs.Plans.{IsValid};
 ghost use Rattle.run_history.specs.Links.{records_of};
 ghost use Rattle.local_run.specs.Underway.{IsSurePool};
-ghost use Rattle.wq_run.specs.Dues.{DuesAt, IsIllLink, KeepsDue};
+ghost use Rattle.wq_run.specs.Dues.{IsIllLink};
+ghost use Rattle.wq_run.specs.Keeping.{KeepsAt, KeepsOn};
 ghost use Rattle.wq_run.specs.Seats.{IsManned, KeepsManned, Meets, SeatsAfter, inside_of, seats_under};
 ghost use Rattle.wq_run.specs.Trusted.{IsOf, StaysOpen};
 
@@ -38,7 +39,7 @@ fn hear_at<B: PoolTerms, F: Commands, S: Site, H: Hall<F>, T: Terms + Trust, C: 
     ensures manned { SeatsAfter T.trust F.gives F.may_fail T.sources S.tells T.kept (IsSurePool B.fits)
         S.files S.may_leave S.moment S.images_since at desk.old desk.new
         held.old held.new company.old.seats company.new.seats result }
-    ensures due { H.Way.tells → DuesAt
+    ensures due { H.Way.tells → KeepsAt
         (IsIllLink F.gives F.may_fail H.Way.history H.Way.count H.Way.idle_count H.Way.is_closed limit)
         H.Way.history at desk.old.moves desk.new.moves held.old.halt held.new.halt company.old
         company.new result }
@@ -74,7 +75,7 @@ fn claim_at<B: PoolTerms, F: Commands, S: Site, H: Hall<F>, T: Terms + Trust, C:
     ensures manned { SeatsAfter T.trust F.gives F.may_fail T.sources S.tells T.kept (IsSurePool B.fits)
         S.files S.may_leave S.moment S.images_since at desk.old desk.new
         held.old held.new company.old.seats company.new.seats result }
-    ensures due { (limit : ℕ) → H.Way.tells → DuesAt
+    ensures due { (limit : ℕ) → H.Way.tells → KeepsAt
         (IsIllLink F.gives F.may_fail H.Way.history H.Way.count H.Way.idle_count H.Way.is_closed limit)
         H.Way.history at desk.old.moves desk.new.moves held.old.halt held.new.halt company.old
         company.new result }
@@ -117,7 +118,7 @@ fn visit<B: PoolTerms, F: Commands, S: Site, H: Hall<F>, T: Terms + Trust, C: Cl
         held.old held.new company.old.seats company.new.seats }
     ensures listens { StaysOpen T.holds (H.listens hall.old) (H.honest hall.old)
         (H.listens hall.new) (H.honest hall.new) }
-    ensures due { H.Way.tells → KeepsDue
+    ensures due { H.Way.tells → KeepsOn
         (IsIllLink F.gives F.may_fail H.Way.history H.Way.count H.Way.idle_count H.Way.is_closed limit)
         H.Way.history desk.old.moves desk.new.moves held.old.halt held.new.halt company.old
         company.new (H.got hall.old) (H.got hall.new) }
@@ -157,7 +158,7 @@ fn ask<B: PoolTerms, F: Commands, S: Site, H: Hall<F>, T: Terms + Trust, C: Cloc
         held.old held.new company.old.seats company.new.seats }
     ensures listens { StaysOpen T.holds (H.listens hall.old) (H.honest hall.old)
         (H.listens hall.new) (H.honest hall.new) }
-    ensures due { (limit : ℕ) → H.Way.tells → KeepsDue
+    ensures due { (limit : ℕ) → H.Way.tells → KeepsOn
         (IsIllLink F.gives F.may_fail H.Way.history H.Way.count H.Way.idle_count H.Way.is_closed limit)
         H.Way.history desk.old.moves desk.new.moves held.old.halt held.new.halt company.old
         company.new (H.got hall.old) (H.got hall.new) }
@@ -198,7 +199,7 @@ pub(super) fn visit_all<B: PoolTerms, F: Commands, S: Site, H: Hall<F>, T: Terms
         held.old held.new company.old.seats company.new.seats }
     ensures listens { StaysOpen T.holds (H.listens hall.old) (H.honest hall.old)
         (H.listens hall.new) (H.honest hall.new) }
-    ensures due { H.Way.tells → KeepsDue
+    ensures due { H.Way.tells → KeepsOn
         (IsIllLink F.gives F.may_fail H.Way.history H.Way.count H.Way.idle_count H.Way.is_closed limit)
         H.Way.history desk.old.moves desk.new.moves held.old.halt held.new.halt company.old
         company.new (H.got hall.old) (H.got hall.new) }
@@ -236,7 +237,7 @@ pub(crate) fn ask_all<B: PoolTerms, F: Commands, S: Site, H: Hall<F>, T: Terms +
         held.old held.new company.old.seats company.new.seats }
     ensures listens { StaysOpen T.holds (H.listens hall.old) (H.honest hall.old)
         (H.listens hall.new) (H.honest hall.new) }
-    ensures due { (limit : ℕ) → H.Way.tells → KeepsDue
+    ensures due { (limit : ℕ) → H.Way.tells → KeepsOn
         (IsIllLink F.gives F.may_fail H.Way.history H.Way.count H.Way.idle_count H.Way.is_closed limit)
         H.Way.history desk.old.moves desk.new.moves held.old.halt held.new.halt company.old
         company.new (H.got hall.old) (H.got hall.new) }

@@ -1,9 +1,12 @@
 //! What a worker tells.
 ghost use Rattle.std.specs.Prelude.{◌≡◌, ◌<◌, ℕ, IfErr, IfOk, List, None, OnOk, Option, false, true};
 ghost use Rattle.flow_types.specs.declared.messages.Message.{Message};
+ghost use Rattle.flow_types.specs.declared.messages.Message.TheVariants as messages;
 ghost use Rattle.flow_types.specs.declared.numbers.AttemptNo.{AttemptNo as AttemptNoValue};
 ghost use Rattle.flow_types.specs.Plans.{IsValid};
 ghost use Rattle.run_history.specs.Links.{is_live, records_of};
+ghost use Rattle.links.specs.Passings.{received_in};
+ghost use Rattle.message_forms.specs.Streams.{Carries};
 ghost use Rattle.wq_frames.specs.Frames.{front, part};
 ghost use Rattle.peers.specs.Hears.{Hears};
 ghost use Rattle.peers.specs.Serves.{IsStillOwed, Serves};
@@ -126,6 +129,8 @@ impl<F: Commands, L: Link<F>, T: Terms + Trust> Seat<F, L, T> {
         cache: u64,
     ) -> Result<bool, Leave>
         requires lives { is_live desk.old.options desk.old.moves self.old.link.0 ≡ true }
+        requires came { L.tells → Carries (received_in (L.history self.old.peer.way))
+            (messages.Totals total largest cache) }
         ensures keeps { (held : HeldState) → SeatAfter T.trust F.gives F.may_fail T.sources
             S.tells T.kept (IsSurePool B.fits) S.files S.may_leave S.moment S.images_since
             desk.old desk.new held held self.old self.new result }

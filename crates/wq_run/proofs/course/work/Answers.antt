@@ -1,5 +1,6 @@
-use Rattle.std.proofs.Common.{List, Option, [], ap, arith, false, rules, subst, sym, true≢false, ◌++◌, ◌∙◌, ◌≡◌}
-use Rattle.std.specs.Prelude.{OnOk, sum_by}
+use Rattle.std.proofs.Common.{List, Option, [], ap, arith, false, rules, subst, sym, true≢false, ◌++◌, ◌-◌, ◌∙◌, ◌≡◌}
+use Rattle.std.specs.Prelude.{IfOk, OnOk, sum_by}
+use Rattle.run_history.specs.Answers.{before_end}
 use Rattle.std.proofs.lemmas.List.{append-nil}
 use Rattle.worker_pool.specs.Crews.{AllSure}
 use Rattle.wq_run.specs.Seats.{AreSeats, CompanyState, gathered, links_in}
@@ -8,7 +9,10 @@ use Rattle.wq_run.proofs.Working.{are_back, damage_by, ends_by_waiting, spared_b
 use Rattle.flow_types.specs.declared.numbers.LinkNo.{LinkNo}
 use Rattle.run_history.specs.Links.{records_of}
 use Rattle.wq_run.specs.Losses.{AreDueLosses}
+use Rattle.wq_run.specs.Vain.{AreVain, IfWaited}
 use Rattle.wq_run.proofs.Duly.{due_whole}
+use Rattle.wq_run.proofs.Heards.{ok_step}
+use Rattle.wq_run.proofs.Whole.{vain_whole}
 use Rattle.wq_run.proofs.course.work.Goals as goal
 
 pub returns-in-Err-Failed : goal.returns-in-Err-Failed
@@ -27,6 +31,7 @@ returns-in-Err-Failed g c =
       never = λ is. tt;
       lost = tt;
       due_losses = λ tells first. tt;
+      vain = λ tells first. tt;
       ends = tt;
       back = λ uncut. record { more = []; are = c.listen.ensures.got ∙ sym (append-nil (g.H.Hall.got c.args.hall.now)); many = (let given = c.listen.ensures.given in omega (arith, given)); apart = λ k. omega arith };
     }
@@ -47,6 +52,7 @@ returns-in-Err-Memory g c =
       never = λ is. tt;
       lost = tt;
       due_losses = λ tells first. tt;
+      vain = λ tells first. tt;
       ends = tt;
       back = λ uncut. absurd (uncut tt);
     }
@@ -87,6 +93,7 @@ returns-then-has_lost g c =
       never = λ is. tt;
       lost = tt;
       due_losses = λ tells first. tt;
+      vain = λ tells first. tt;
       ends = tt;
       back = λ uncut. absurd (uncut tt);
     }
@@ -116,7 +123,15 @@ returns g c =
           let none : company.seats ≡ [] = ap (λ (x : CompanyState g.row.H-Way.Denot). x.seats) c.new-company.ensures in
           let kept : c.disband.new.company.lost ≡ false = search rules in
           subst (λ (xs : List (Option LinkNo × g.row.H-Way.Denot)). OnOk c.run_all-done.result (AreDueLosses g.F.Commands.gives g.F.Commands.may_fail g.H.Way.Link.history g.H.Way.Link.count g.H.Way.Link.idle_count g.H.Way.Link.is_closed c.args.workers.limit xs (g.H.Hall.got c.disband.new.hall) (records_of c.args.desk.now.moves) (records_of c.run_all-done.new.desk.moves))) c.listen.ensures.got
-          (due_whole g.F.Commands.gives g.F.Commands.may_fail g.H.Way.Link.history g.H.Way.Link.count g.H.Way.Link.idle_count g.H.Way.Link.is_closed c.args.workers.limit c.args.desk.now.moves c.run_all-done.new.desk.moves company c.run_all-done.new.company c.disband.new.company (g.H.Hall.got c.listen.new.self) (g.H.Hall.got c.run_all-done.new.hall) (g.H.Hall.got c.disband.new.hall) c.run_all-done.result first none (c.run_all-done.ensures.due tells) c.run_all-done.ensures.sound (c.disband.ensures.due c.args.workers.limit c.run_all-done.new.desk.moves tells) c.disband.ensures.failed kept c.disband.ensures.seats);
+          (due_whole g.F.Commands.gives g.F.Commands.may_fail g.H.Way.Link.history g.H.Way.Link.count g.H.Way.Link.idle_count g.H.Way.Link.is_closed c.args.workers.limit c.args.desk.now.moves c.run_all-done.new.desk.moves company c.run_all-done.new.company c.disband.new.company (g.H.Hall.got c.listen.new.self) (g.H.Hall.got c.run_all-done.new.hall) (g.H.Hall.got c.disband.new.hall) c.run_all-done.result first none (ok_step c.run_all-done.result _ _ (λ keeps. keeps.due) (c.run_all-done.ensures.due tells)) c.run_all-done.ensures.sound (c.disband.ensures.due c.args.workers.limit c.run_all-done.new.desk.moves tells) c.disband.ensures.failed kept c.disband.ensures.seats);
+      vain = λ tells first.
+          let company : CompanyState g.row.H-Way.Denot = c.new-company.result in
+          let none : company.seats ≡ [] = ap (λ (x : CompanyState g.row.H-Way.Denot). x.seats) c.new-company.ensures in
+          let kept : c.disband.new.company.lost ≡ false = search rules in
+          subst (λ (xs : List (Option LinkNo × g.row.H-Way.Denot)). IfOk c.run_all-done.result (λ check. IfWaited check (AreVain g.F.Commands.gives g.F.Commands.may_fail g.H.Way.Link.history g.H.Way.Link.count g.H.Way.Link.idle_count g.H.Way.Link.is_closed c.args.workers.limit c.run_all-done.new.desk.plan c.run_all-done.new.desk.options (before_end (records_of c.run_all-done.new.desk.moves)) xs (g.H.Hall.got c.disband.new.hall)))) c.listen.ensures.got
+          (vain_whole g.F.Commands.gives g.F.Commands.may_fail g.H.Way.Link.history g.H.Way.Link.count g.H.Way.Link.idle_count g.H.Way.Link.is_closed c.args.workers.limit c.run_all-done.new.desk.plan c.run_all-done.new.desk.options c.args.workers.limit (g.H.Hall.idle_count c.disband.new.hall - g.H.Hall.idle_count c.args.hall.now) c.args.desk.now.moves c.run_all-done.new.desk.moves company c.run_all-done.new.company c.disband.new.company (g.H.Hall.got c.listen.new.self) (g.H.Hall.got c.run_all-done.new.hall) (g.H.Hall.got c.disband.new.hall) first none c.run_all-done.result
+          (c.run_all-done.ensures.due tells) c.run_all-done.ensures.sound c.run_all-done.ensures.alone (ends_by_waiting g.S.Site.tells g.T.Terms.kept (AllSure g.R.Runner.sure c.args.runners.now) g.S.Site.files c.args.workers.limit c.run_all-done.new.desk (sum_by g.R.Runner.count c.args.runners.now) (sum_by g.R.Runner.count c.run_all-done.new.runners) (g.H.Hall.count c.listen.new.self) (g.H.Hall.count c.run_all-done.new.hall) (g.H.Hall.idle_count c.listen.new.self) (g.H.Hall.idle_count c.run_all-done.new.hall) (g.H.Hall.idle_count c.args.hall.now) (g.H.Hall.idle_count c.disband.new.hall) c.run_all-done.result (omega (arith, idles)) (omega (arith, looked)) w.ended) c.run_all-done.ensures.seats (c.disband.ensures.due c.args.workers.limit c.run_all-done.new.desk.moves tells) c.disband.ensures.failed kept c.disband.ensures.seats
+          (λ alone lost. c.disband.ensures.hands tells alone lost));
       ends = ends_by_waiting g.S.Site.tells g.T.Terms.kept (AllSure g.R.Runner.sure c.args.runners.now) g.S.Site.files c.args.workers.limit c.run_all-done.new.desk (sum_by g.R.Runner.count c.args.runners.now) (sum_by g.R.Runner.count c.run_all-done.new.runners) (g.H.Hall.count c.listen.new.self) (g.H.Hall.count c.run_all-done.new.hall) (g.H.Hall.idle_count c.listen.new.self) (g.H.Hall.idle_count c.run_all-done.new.hall) (g.H.Hall.idle_count c.args.hall.now) (g.H.Hall.idle_count c.disband.new.hall) c.run_all-done.result (omega (arith, idles)) (omega (arith, looked)) w.ended;
       back = λ uncut.
           let company : CompanyState g.row.H-Way.Denot = c.new-company.result in

@@ -4,7 +4,7 @@ use Rattle.local_run.specs.Underway.{IsSurePool}
 use Rattle.wq_run.specs.Seats.{gathered}
 use Rattle.wq_run.proofs.Services.{finished_by, manned_want, met_none, wanting_halts}
 use Rattle.wq_run.proofs.Fares.{halted_never}
-use Rattle.wq_run.proofs.Duly.{due_halted, due_settled, due_then}
+use Rattle.wq_run.proofs.Duties.{due_halted, due_settled, due_then}
 use Rattle.wq_run.proofs.finishing.finish.Goals as goal
 
 pub settle-requires-clause-underway : goal.settle-requires-clause-underway

@@ -1,4 +1,4 @@
-use Rattle.std.proofs.Common.{◌≤◌, None, Option, Ok, Err, length, arith, rules, subst, sym}
+use Rattle.std.proofs.Common.{◌≤◌, ◌∙◌, None, Option, Ok, Err, length, arith, rules, subst, sym}
 use Rattle.std.specs.Prelude.{sum_by}
 use Rattle.worker_pool.specs.Crews.{AllSure}
 use Rattle.local_run.specs.declared.ended.Stopped.TheVariants as stopped
@@ -6,6 +6,7 @@ use Rattle.local_run.specs.declared.halt.Halt.{Halt}
 use Rattle.local_run.specs.declared.halt.Halt.TheVariants as halts
 use Rattle.desk.specs.State.{DeskState}
 use Rattle.flow_types.specs.Plans.{IsValid}
+use Rattle.run_history.specs.Answers.{before_end}
 use Rattle.run_history.specs.Links.{records_of}
 use Rattle.run_history.specs.Storage.{running_rules}
 use Rattle.wq_run.specs.Seats.{AreSeats}
@@ -16,9 +17,12 @@ use Rattle.wq_run.proofs.Ending.{memory_halt, none_same}
 use Rattle.wq_run.proofs.Services.{met_then}
 use Rattle.wq_run.proofs.Working.{hall_rose, is_on, round_by, round_halted, round_over, round_unended, round_waits, seats_goes}
 use Rattle.wq_run.proofs.Trusts.{of_then}
-use Rattle.wq_run.proofs.Duly.{due_spared, due_then, ends_spare}
+use Rattle.wq_run.proofs.Duly.{ends_spare}
+use Rattle.wq_run.proofs.Duties.{due_spared, due_then, ends_unlinked}
+use Rattle.wq_run.proofs.Vain.{unwaited}
 use Rattle.wq_run.proofs.Heards.{ok_step}
-use Rattle.wq_run.specs.Dues.{IsIllLink, KeepsDue}
+use Rattle.wq_run.specs.Dues.{IsIllLink}
+use Rattle.wq_run.specs.Keeping.{KeepsOn}
 use Rattle.wq_run.proofs.rounds.go_round.Goals as goal
 
 pub returns-in-Err : goal.returns-in-Err
@@ -32,6 +36,7 @@ returns-in-Err g c = record {
   tells = c.serve_all.ensures.tells;
   due = λ tells. tt;
   sound = tt;
+  alone = tt;
 }
 
 pub returns-then-has_lost : goal.returns-then-has_lost
@@ -46,6 +51,7 @@ returns-then-has_lost g c = record {
   tells = c.serve_all.ensures.tells;
   due = λ tells. tt;
   sound = tt;
+  alone = tt;
 }
 
 pub returns-then-has_failed : goal.returns-then-has_failed
@@ -60,6 +66,7 @@ returns-then-has_failed g c = record {
   tells = c.serve_all.ensures.tells;
   due = λ tells. tt;
   sound = tt;
+  alone = tt;
 }
 
 pub end-requires-clause-fine : goal.end-requires-clause-fine
@@ -82,8 +89,13 @@ returns-in-Ok-Some g c = record {
   tells = c.serve_all.ensures.tells;
   due = λ tells.
       let ended = subst (λ (o : Option Check). EndsNow g.T.Terms.trust g.F.Commands.gives g.F.Commands.may_fail g.T.Terms.sources g.S.Site.tells g.T.Terms.kept g.S.Site.files g.S.Site.may_leave g.S.Site.moment g.S.Site.images_since c.serve_all.new.desk c.end.new.desk (Ok o)) c.in-Ok-Some.field-0-is c.in-Ok-Some.ensures.ended in
-      due_then _ _ (c.in-Ok.ensures.due tells) (due_spared _ _ (λ none. (none, ends_spare c.serve_all.new.desk.moves c.end.new.desk c.serve_all.new.desk.stop c.in-Ok-Some.check ended.ends.2)));
+      due_then _ _ (c.in-Ok.ensures.due tells) (due_spared _ _ (λ none. (none, ends_spare c.serve_all.new.desk.moves c.end.new.desk c.serve_all.new.desk.stop c.in-Ok-Some.check ended.ends.2))
+      (ends_unlinked c.serve_all.new.desk.moves c.end.new.desk c.serve_all.new.desk.stop c.in-Ok-Some.check ended.ends.2));
   sound = λ last. (search rules, search rules);
+  alone = (
+      let ended = subst (λ (o : Option Check). EndsNow g.T.Terms.trust g.F.Commands.gives g.F.Commands.may_fail g.T.Terms.sources g.S.Site.tells g.T.Terms.kept g.S.Site.files g.S.Site.may_leave g.S.Site.moment g.S.Site.images_since c.serve_all.new.desk c.end.new.desk (Ok o)) c.in-Ok-Some.field-0-is c.in-Ok-Some.ensures.ended in
+      unwaited c.end.new.desk.plan c.end.new.desk.options (before_end (records_of c.end.new.desk.moves)) c.serve_all.new.desk.stop c.in-Ok-Some.check (c.in-Ok.ensures.came.closed.1 ∙ c.requires.on.unset) ended.ends.2.answer
+      );
 }
 
 pub returns-in-Err-end : goal.returns-in-Err-end
@@ -97,6 +109,7 @@ returns-in-Err-end g c = record {
   tells = c.serve_all.ensures.tells;
   due = λ tells. tt;
   sound = tt;
+  alone = tt;
 }
 
 pub wait_round-requires-clause-valid : goal.wait_round-requires-clause-valid
@@ -128,6 +141,7 @@ returns g c = record {
   tells = c.serve_all.ensures.tells;
   due = λ tells.
       let same = none_same g.S.Site.tells g.T.Terms.kept g.S.Site.files c.serve_all.new.desk c.end.new.desk c.in-Ok-None.field-0 c.in-Ok-None.field-0-is c.in-Ok-None.ensures.ended.ends in
-      ok_step c.wait_round.result _ _ (λ two. due_then _ _ (subst (λ (d : DeskState g.row.S.Denot). let none : Option Halt = None in KeepsDue (IsIllLink g.F.Commands.gives g.F.Commands.may_fail g.H.Way.Link.history g.H.Way.Link.count g.H.Way.Link.idle_count g.H.Way.Link.is_closed c.args.limit) g.H.Way.Link.history c.args.desk.now.moves d.moves none none c.args.company.now c.serve_all.new.company (g.H.Hall.got c.args.hall.now) (g.H.Hall.got c.serve_all.new.hall)) (sym same) (c.in-Ok.ensures.due tells)) two) (c.wait_round.ensures.due tells);
+      ok_step c.wait_round.result _ _ (λ two. due_then _ _ (subst (λ (d : DeskState g.row.S.Denot). let none : Option Halt = None in KeepsOn (IsIllLink g.F.Commands.gives g.F.Commands.may_fail g.H.Way.Link.history g.H.Way.Link.count g.H.Way.Link.idle_count g.H.Way.Link.is_closed c.args.limit) g.H.Way.Link.history c.args.desk.now.moves d.moves none none c.args.company.now c.serve_all.new.company (g.H.Hall.got c.args.hall.now) (g.H.Hall.got c.serve_all.new.hall)) (sym same) (c.in-Ok.ensures.due tells)) two) (c.wait_round.ensures.due tells);
   sound = c.wait_round.ensures.sound;
+  alone = c.wait_round.ensures.alone;
 }

@@ -15,8 +15,11 @@ use Rattle.wq_run.proofs.Services.{met_none, met_then}
 use Rattle.wq_run.proofs.Working.{Stands, hall_rose, seats_goes, stands_begins, stands_then, stop_waited, unstopped, works_over, works_stopped, works_vain}
 use Rattle.wq_run.proofs.Trusts.{of_then}
 use Rattle.local_run.specs.declared.halt.Halt.{Halt}
-use Rattle.wq_run.specs.Dues.{IsIllLink, KeepsDue}
-use Rattle.wq_run.proofs.Duly.{due_none, due_spared, due_then, waiting_spares}
+use Rattle.wq_run.specs.Dues.{IsIllLink}
+use Rattle.wq_run.specs.Keeping.{KeepsOn}
+use Rattle.wq_run.proofs.Duties.{due_none, due_spared, due_then, waiting_rests}
+use Rattle.wq_run.proofs.Vain.{never_waits, ok_waits}
+use Rattle.wq_run.specs.Vain.{IsAlone}
 use Rattle.wq_run.proofs.Heards.{ok_step, ok_with}
 use Rattle.wq_run.proofs.rounds.run_all.Goals as goal
 
@@ -54,6 +57,7 @@ returns-in-Ok-Over g c = record {
   met = met_then c.loop.invariant.met c.go_round.ensures.met;
   due = λ tells. due_then _ _ (c.loop.invariant.due tells) (c.in-Ok-Over.ensures.due tells);
   sound = c.in-Ok-Over.ensures.sound (subst IsLast (sym c.in-Ok-Over.field-0-is) tt);
+  alone = never_waits c.in-Ok-Over.check _ (subst (IsAlone c.go_round.new.company.guests) c.in-Ok-Over.field-0-is c.in-Ok-Over.ensures.alone);
 }
 
 pub returns-in-Err : goal.returns-in-Err
@@ -65,6 +69,7 @@ returns-in-Err g c = record {
   met = met_then c.loop.invariant.met c.go_round.ensures.met;
   due = λ tells. tt;
   sound = tt;
+  alone = tt;
 }
 
 pub loop-preserved : goal.loop-preserved
@@ -100,7 +105,7 @@ loop-preserved-else-stop g c =
       seats = subst (λ (x : DeskState g.row.S.Denot). AreSeats x.plan x.options x.moves c.go_round.new.company.seats) (sym same) c.go_round.ensures.seats;
       none = c.go_round.ensures.none;
       met = met_then c.loop.invariant.met c.go_round.ensures.met;
-      due = λ tells. subst (λ (x : DeskState g.row.S.Denot). let none : Option Halt = None in KeepsDue (IsIllLink g.F.Commands.gives g.F.Commands.may_fail g.H.Way.Link.history g.H.Way.Link.count g.H.Way.Link.idle_count g.H.Way.Link.is_closed c.args.limit) g.H.Way.Link.history c.args.desk.now.moves x.moves none none c.args.company.now c.go_round.new.company (g.H.Hall.got c.args.hall.now) (g.H.Hall.got c.go_round.new.hall)) (sym same) (due_then _ _ (c.loop.invariant.due tells) (c.in-Ok-Vain.ensures.due tells));
+      due = λ tells. subst (λ (x : DeskState g.row.S.Denot). let none : Option Halt = None in KeepsOn (IsIllLink g.F.Commands.gives g.F.Commands.may_fail g.H.Way.Link.history g.H.Way.Link.count g.H.Way.Link.idle_count g.H.Way.Link.is_closed c.args.limit) g.H.Way.Link.history c.args.desk.now.moves x.moves none none c.args.company.now c.go_round.new.company (g.H.Hall.got c.args.hall.now) (g.H.Hall.got c.go_round.new.hall)) (sym same) (due_then _ _ (c.loop.invariant.due tells) (c.in-Ok-Vain.ensures.due tells));
     }
 
 pub end_waiting-requires-clause-fine : goal.end_waiting-requires-clause-fine
@@ -154,7 +159,8 @@ returns-then-stop g c =
       none = c.go_round.ensures.none;
       met = met_then c.loop.invariant.met c.go_round.ensures.met;
       due = λ tells.
-          let rounds = subst (λ (x : DeskState g.row.S.Denot). let none : Option Halt = None in KeepsDue (IsIllLink g.F.Commands.gives g.F.Commands.may_fail g.H.Way.Link.history g.H.Way.Link.count g.H.Way.Link.idle_count g.H.Way.Link.is_closed c.args.limit) g.H.Way.Link.history c.args.desk.now.moves x.moves none none c.args.company.now c.go_round.new.company (g.H.Hall.got c.args.hall.now) (g.H.Hall.got c.go_round.new.hall)) (sym c.stop.ensures.stop) (due_then _ _ (c.loop.invariant.due tells) (c.in-Ok-Vain.ensures.due tells)) in
-          ok_step c.end_waiting.result _ _ (λ spares. due_then _ _ rounds (due_spared _ _ (λ none. (none, spares)))) (waiting_spares g.S.Site.tells g.T.Terms.kept g.S.Site.files c.stop.new.self c.end_waiting.new.desk c.end_waiting.result c.end_waiting.ensures.ended.ends);
+          let rounds = subst (λ (x : DeskState g.row.S.Denot). let none : Option Halt = None in KeepsOn (IsIllLink g.F.Commands.gives g.F.Commands.may_fail g.H.Way.Link.history g.H.Way.Link.count g.H.Way.Link.idle_count g.H.Way.Link.is_closed c.args.limit) g.H.Way.Link.history c.args.desk.now.moves x.moves none none c.args.company.now c.go_round.new.company (g.H.Hall.got c.args.hall.now) (g.H.Hall.got c.go_round.new.hall)) (sym c.stop.ensures.stop) (due_then _ _ (c.loop.invariant.due tells) (c.in-Ok-Vain.ensures.due tells)) in
+          ok_step c.end_waiting.result _ _ (λ both. due_then _ _ rounds (due_spared _ _ (λ none. (none, both.0)) both.1)) (waiting_rests g.S.Site.tells g.T.Terms.kept g.S.Site.files c.stop.new.self c.end_waiting.new.desk c.end_waiting.result c.end_waiting.ensures.ended.ends);
       sound = ok_with c.end_waiting.result _ (c.in-Ok-Vain.ensures.sound (subst IsLast (sym c.in-Ok-Vain.field-0-is) tt));
+      alone = ok_waits c.end_waiting.result _ (subst (IsAlone c.go_round.new.company.guests) c.in-Ok-Vain.field-0-is c.in-Ok-Vain.ensures.alone);
     }

@@ -3,7 +3,8 @@ use Rattle.std.specs.Prelude.{sum_by}
 use Rattle.worker_pool.specs.Crews.{AllSure, AllTell}
 use Rattle.local_run.specs.Course.{TellsJobs}
 use Rattle.local_run.specs.declared.halt.Halt.{Halt}
-use Rattle.wq_run.specs.Dues.{IsIllLink, KeepsDue}
+use Rattle.wq_run.specs.Dues.{IsIllLink}
+use Rattle.wq_run.specs.Keeping.{KeepsOn}
 use Rattle.wq_run.specs.Seats.{AreSeats, Meets, gathered, inside_of}
 use Rattle.wq_run.specs.Trusted.{IsOpen}
 use Rattle.wq_run.proofs.Working.{Stands}
@@ -18,6 +19,6 @@ invariant-loop g l = record {
   listens : IsOpen g.T.Trust.holds (g.H.Hall.listens l.hall) (g.H.Hall.honest l.hall);
   seats : AreSeats l.desk.plan l.desk.options l.desk.moves l.company.seats;
   none : gathered l.company.seats ≡ [];
-  due : g.H.Way.Link.tells → (let none : Option Halt = None in KeepsDue (IsIllLink g.F.Commands.gives g.F.Commands.may_fail g.H.Way.Link.history g.H.Way.Link.count g.H.Way.Link.idle_count g.H.Way.Link.is_closed l.fn.limit) g.H.Way.Link.history l.fn.desk.moves l.desk.moves none none l.fn.company l.company (g.H.Hall.got l.fn.hall) (g.H.Hall.got l.hall));
+  due : g.H.Way.Link.tells → (let none : Option Halt = None in KeepsOn (IsIllLink g.F.Commands.gives g.F.Commands.may_fail g.H.Way.Link.history g.H.Way.Link.count g.H.Way.Link.idle_count g.H.Way.Link.is_closed l.fn.limit) g.H.Way.Link.history l.fn.desk.moves l.desk.moves none none l.fn.company l.company (g.H.Hall.got l.fn.hall) (g.H.Hall.got l.hall));
   met : Meets (g.H.Hall.count l.fn.hall) (g.H.Hall.count l.hall) (g.H.Hall.got l.fn.hall) (g.H.Hall.got l.hall) (g.H.Hall.given l.fn.hall) (g.H.Hall.given l.hall) (g.H.Hall.idle_count l.fn.hall) (g.H.Hall.idle_count l.hall) (inside_of l.fn.company) (inside_of l.company) l.fn.company.failed l.company.failed l.fn.company.lost l.company.lost;
 }

@@ -15,6 +15,7 @@ returns-in-Err g c = record {
   met = c.wait.ensures.met;
   due = λ tells. tt;
   sound = tt;
+  alone = tt;
 }
 
 pub returns-then-idles-from-clause-rounds : goal.returns-then-idles-from-clause-rounds
@@ -39,6 +40,7 @@ returns g c = record {
   met = c.wait.ensures.met;
   due = c.in-Ok.ensures.due;
   sound = λ last. absurd last;
+  alone = tt;
 }
 
 pub returns-then-idles-from-clause-due : goal.returns-then-idles-from-clause-due
@@ -46,3 +48,6 @@ returns-then-idles-from-clause-due g c tells = c.in-Ok.ensures.due tells
 
 pub returns-then-idles-from-clause-sound : goal.returns-then-idles-from-clause-sound
 returns-then-idles-from-clause-sound g c last = c.is_going.ensures.fine (search rules)
+
+pub returns-then-idles-from-clause-alone : goal.returns-then-idles-from-clause-alone
+returns-then-idles-from-clause-alone g c = c.has_guests.ensures (search rules)

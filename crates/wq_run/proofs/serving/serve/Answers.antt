@@ -7,7 +7,7 @@ use Rattle.wq_run.proofs.Services.{met_none, met_then}
 use Rattle.wq_run.proofs.Shares.{manned_on}
 use Rattle.wq_run.proofs.Trusts.{of_goes}
 use Rattle.local_run.specs.declared.halt.Halt.TheVariants as halts
-use Rattle.wq_run.proofs.Duly.{due_halted, due_none, due_then}
+use Rattle.wq_run.proofs.Duties.{due_halted, due_none, due_then}
 use Rattle.wq_run.proofs.serving.serve.Goals as goal
 use Rattle.wq_run.proofs.serving.serve.Goals.{then-not-is_going-via-then-not-is_going, then-not-is_going-via-else-not-is_going+then-not-is_going-2}
 

@@ -6,7 +6,7 @@ use Rattle.worker_pool.proofs.Crews.{all_report}
 use Rattle.local_run.specs.Underway.{IsSurePool}
 use Rattle.wq_run.proofs.Services.{met_none, on_less, on_want}
 use Rattle.local_run.specs.declared.halt.Halt.TheVariants as halts
-use Rattle.wq_run.proofs.Duly.{due_halted}
+use Rattle.wq_run.proofs.Duties.{due_halted}
 use Rattle.wq_run.proofs.serving.serve_all.Goals as goal
 
 pub serve_in-requires-clause-runners : goal.serve_in-requires-clause-runners

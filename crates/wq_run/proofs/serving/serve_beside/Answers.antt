@@ -5,7 +5,7 @@ use Rattle.wq_run.specs.Seats.{CompanyState}
 use Rattle.wq_run.proofs.Services.{manned_at, manned_left}
 use Rattle.wq_run.proofs.Turns.{heard_at, line_at, may_serve_at, met_at, open_at, silent}
 use Rattle.wq_run.specs.Dues.{IsIllLink}
-use Rattle.wq_run.proofs.Duly.{due_at}
+use Rattle.wq_run.proofs.Duties.{due_at}
 use Rattle.wq_run.proofs.serving.serve_beside.Goals as goal
 
 pub call_with_beside-back-requires-clause-takes : goal.call_with_beside-back-requires-clause-takes

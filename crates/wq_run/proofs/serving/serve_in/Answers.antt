@@ -9,8 +9,9 @@ use Rattle.local_run.specs.Underway.{IsSurePool}
 use Rattle.wq_run.proofs.Services.{begins_manned, came_finished, counted_more, met_none, met_then, on_want}
 use Rattle.local_run.specs.declared.halt.Halt.{Halt}
 use Rattle.local_run.specs.declared.halt.Halt.TheVariants as halts
-use Rattle.wq_run.specs.Dues.{IsIllLink, KeepsDue}
-use Rattle.wq_run.proofs.Duly.{due_halted, due_then}
+use Rattle.wq_run.specs.Dues.{IsIllLink}
+use Rattle.wq_run.specs.Keeping.{KeepsOn}
+use Rattle.wq_run.proofs.Duties.{due_halted, due_then}
 use Rattle.wq_run.proofs.serving.serve_in.Goals as goal
 
 pub returns-in_default : goal.returns-in_default
@@ -57,5 +58,5 @@ returns g c =
       none = f.empty;
       listens = c.finish.ensures.listens c.serve_beside.ensures.listens;
       met = met_then c.serve_beside.ensures.met c.finish.ensures.met;
-      due = λ tells. due_then _ _ (subst (λ (h : Option Halt). KeepsDue (IsIllLink g.F.Commands.gives g.F.Commands.may_fail g.H.Way.Link.history g.H.Way.Link.count g.H.Way.Link.idle_count g.H.Way.Link.is_closed c.args.limit) g.H.Way.Link.history c.args.desk.now.moves c.serve_beside.new.desk.moves h c.serve_beside.new.held.halt c.args.company.now c.serve_beside.new.company (g.H.Hall.got c.args.hall.now) (g.H.Hall.got c.serve_beside.new.hall)) c.new-held.ensures.halt (c.serve_beside.ensures.due tells)) (c.finish.ensures.due c.args.limit tells);
+      due = λ tells. due_then _ _ (subst (λ (h : Option Halt). KeepsOn (IsIllLink g.F.Commands.gives g.F.Commands.may_fail g.H.Way.Link.history g.H.Way.Link.count g.H.Way.Link.idle_count g.H.Way.Link.is_closed c.args.limit) g.H.Way.Link.history c.args.desk.now.moves c.serve_beside.new.desk.moves h c.serve_beside.new.held.halt c.args.company.now c.serve_beside.new.company (g.H.Hall.got c.args.hall.now) (g.H.Hall.got c.serve_beside.new.hall)) c.new-held.ensures.halt (c.serve_beside.ensures.due tells)) (c.finish.ensures.due c.args.limit tells);
     }

@@ -4,7 +4,8 @@ use Rattle.local_run.specs.Underway.{IsSurePool}
 use Rattle.wq_run.proofs.Services.{met_none, met_same, manned_same}
 use Rattle.wq_run.proofs.Shares.{manned_on}
 use Rattle.wq_run.proofs.Trusts.{of_goes}
-use Rattle.wq_run.proofs.Duly.{due_as, due_none, due_spared, due_then}
+use Rattle.wq_run.proofs.Earned.{unlinked_by}
+use Rattle.wq_run.proofs.Duties.{due_as, due_none, due_spared, due_then}
 use Rattle.wq_run.proofs.serving.start_more.Goals as goal
 
 pub go_on-requires-clause-base : goal.go_on-requires-clause-base
@@ -40,7 +41,7 @@ returns-then-go_on g c = record {
   line = c.go_on.ensures.line;
   listens = c.requires.listens;
   met = met_none;
-  due = λ limit tells. due_spared _ _ c.go_on.ensures.spares;
+  due = λ limit tells. due_spared _ _ c.go_on.ensures.spares (unlinked_by g.T.Terms.trust g.F.Commands.gives g.F.Commands.may_fail g.T.Terms.sources g.S.Site.tells g.S.Site.files g.S.Site.may_leave g.S.Site.moment g.S.Site.images_since c.requires.served.manned.away.links c.requires.served.first c.args.desk.now c.go_on.new.desk c.requires.served.manned.under.goes (c.go_on.ensures.underway c.requires.served.manned.away c.requires.served.first c.requires.served.manned.under).goes);
 }
 
 pub returns-then-ask_all : goal.returns-then-ask_all
@@ -49,7 +50,7 @@ returns-then-ask_all g c = record {
   line = c.go_on.ensures.line;
   listens = c.ask_all.ensures.listens c.requires.listens;
   met = c.ask_all.ensures.met;
-  due = λ limit tells. due_then _ _ (due_spared _ _ c.go_on.ensures.spares) (c.ask_all.ensures.due limit tells);
+  due = λ limit tells. due_then _ _ (due_spared _ _ c.go_on.ensures.spares (unlinked_by g.T.Terms.trust g.F.Commands.gives g.F.Commands.may_fail g.T.Terms.sources g.S.Site.tells g.S.Site.files g.S.Site.may_leave g.S.Site.moment g.S.Site.images_since c.requires.served.manned.away.links c.requires.served.first c.args.desk.now c.go_on.new.desk c.requires.served.manned.under.goes (c.go_on.ensures.underway c.requires.served.manned.away c.requires.served.first c.requires.served.manned.under).goes)) (c.ask_all.ensures.due limit tells);
 }
 
 pub returns : goal.returns
@@ -58,5 +59,5 @@ returns g c = record {
   line = c.go_on.ensures.line;
   listens = c.ask_all.ensures.listens c.requires.listens;
   met = met_same c.ask_all.new.company c.rest_at.new.self c.rest_at.ensures c.ask_all.ensures.met;
-  due = λ limit tells. due_as _ _ (sym c.rest_at.ensures) (due_then _ _ (due_spared _ _ c.go_on.ensures.spares) (c.ask_all.ensures.due limit tells));
+  due = λ limit tells. due_as _ _ (sym c.rest_at.ensures) (due_then _ _ (due_spared _ _ c.go_on.ensures.spares (unlinked_by g.T.Terms.trust g.F.Commands.gives g.F.Commands.may_fail g.T.Terms.sources g.S.Site.tells g.S.Site.files g.S.Site.may_leave g.S.Site.moment g.S.Site.images_since c.requires.served.manned.away.links c.requires.served.first c.args.desk.now c.go_on.new.desk c.requires.served.manned.under.goes (c.go_on.ensures.underway c.requires.served.manned.away c.requires.served.first c.requires.served.manned.under).goes)) (c.ask_all.ensures.due limit tells));
 }

@@ -5,7 +5,8 @@ use Rattle.local_run.specs.Underway.{IsSurePool, ToldOf}
 use Rattle.wq_run.proofs.Services.{met_then}
 use Rattle.wq_run.proofs.Shares.{manned_on}
 use Rattle.wq_run.proofs.Trusts.{of_goes, told_by}
-use Rattle.wq_run.proofs.Duly.{due_spared, due_then}
+use Rattle.wq_run.proofs.Earned.{unlinked_by}
+use Rattle.wq_run.proofs.Duties.{due_spared, due_then}
 use Rattle.wq_run.proofs.serving.turn.Goals as goal
 
 pub hear-requires-clause-valid : goal.hear-requires-clause-valid
@@ -56,7 +57,7 @@ returns-then-hear g c = record {
   line = c.hear.ensures.line ∙ c.start_more.ensures.line;
   listens = c.start_more.ensures.listens;
   met = c.start_more.ensures.met;
-  due = λ tells. due_then _ _ (c.start_more.ensures.due c.args.limit tells) (due_spared _ _ c.hear.ensures.spares);
+  due = λ tells. due_then _ _ (c.start_more.ensures.due c.args.limit tells) (due_spared _ _ c.hear.ensures.spares (let s = c.start_more.ensures.served c.requires.served.first c.requires.served.manned in unlinked_by g.T.Terms.trust g.F.Commands.gives g.F.Commands.may_fail g.T.Terms.sources g.S.Site.tells g.S.Site.files g.S.Site.may_leave g.S.Site.moment g.S.Site.images_since s.away.links c.requires.served.first c.start_more.new.desk c.hear.new.desk s.under.goes (c.hear.ensures.underway s.away c.requires.served.first s.under).goes));
 }
 
 pub returns : goal.returns
@@ -65,5 +66,5 @@ returns g c = record {
   line = c.hear.ensures.line ∙ c.start_more.ensures.line;
   listens = c.round.ensures.listens;
   met = met_then c.start_more.ensures.met c.round.ensures.met;
-  due = λ tells. due_then _ _ (due_then _ _ (c.start_more.ensures.due c.args.limit tells) (due_spared _ _ c.hear.ensures.spares)) (c.round.ensures.due tells);
+  due = λ tells. due_then _ _ (due_then _ _ (c.start_more.ensures.due c.args.limit tells) (due_spared _ _ c.hear.ensures.spares (let s = c.start_more.ensures.served c.requires.served.first c.requires.served.manned in unlinked_by g.T.Terms.trust g.F.Commands.gives g.F.Commands.may_fail g.T.Terms.sources g.S.Site.tells g.S.Site.files g.S.Site.may_leave g.S.Site.moment g.S.Site.images_since s.away.links c.requires.served.first c.start_more.new.desk c.hear.new.desk s.under.goes (c.hear.ensures.underway s.away c.requires.served.first s.under).goes))) (c.round.ensures.due tells);
 }

@@ -4,7 +4,7 @@ use Rattle.run_history.specs.Links.{records_of}
 use Rattle.local_run.specs.Underway.{IsSurePool, ToldOf}
 use Rattle.wq_run.proofs.Shares.{manned_on}
 use Rattle.wq_run.proofs.Trusts.{of_goes, told_by}
-use Rattle.wq_run.proofs.Duly.{due_spared, due_then}
+use Rattle.wq_run.proofs.Duties.{due_stopped, due_then, stopped_on}
 use Rattle.wq_run.proofs.serving.wind_down.Goals as goal
 
 pub dismiss-requires-clause-manned : goal.dismiss-requires-clause-manned
@@ -38,7 +38,8 @@ returns-then-not-hear g c = record {
   listens = c.dismiss.ensures.listens c.requires.listens;
   met = c.dismiss.ensures.met;
   over = λ is. absurd (true≢false (sym is));
-  due = λ limit tells stopped. due_then _ _ (c.dismiss.ensures.due limit tells stopped) (due_spared _ _ c.hear.ensures.spares);
+  due = λ limit tells stopped.
+      due_then _ _ (c.dismiss.ensures.due limit tells stopped) (due_stopped _ _ (λ none fine kept. stopped_on _ _ (c.dismiss.ensures.due limit tells stopped) stopped (c.hear.ensures.spares none).0 fine kept));
 }
 
 pub returns-else-not-hear : goal.returns-else-not-hear
@@ -48,5 +49,6 @@ returns-else-not-hear g c = record {
   listens = c.dismiss.ensures.listens c.requires.listens;
   met = c.dismiss.ensures.met;
   over = λ is. absurd (true≢false (sym is));
-  due = λ limit tells stopped. due_then _ _ (c.dismiss.ensures.due limit tells stopped) (due_spared _ _ c.hear.ensures.spares);
+  due = λ limit tells stopped.
+      due_then _ _ (c.dismiss.ensures.due limit tells stopped) (due_stopped _ _ (λ none fine kept. stopped_on _ _ (c.dismiss.ensures.due limit tells stopped) stopped (c.hear.ensures.spares none).0 fine kept));
 }

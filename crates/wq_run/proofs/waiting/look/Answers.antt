@@ -3,7 +3,7 @@ use Rattle.flow_types.specs.Plans.{IsValid}
 use Rattle.local_run.specs.Underway.{IsSurePool}
 use Rattle.wq_run.proofs.Services.{met_none, met_then}
 use Rattle.wq_run.proofs.Trusts.{of_goes}
-use Rattle.wq_run.proofs.Duly.{due_none, due_then}
+use Rattle.wq_run.proofs.Duties.{due_none, due_then}
 use Rattle.wq_run.proofs.waiting.look.Goals as goal
 
 pub loop-init : goal.loop-init

@@ -4,8 +4,9 @@ use Rattle.worker_pool.specs.Tallies.{none}
 use Rattle.local_run.specs.Underway.{IsSurePool}
 use Rattle.wq_run.proofs.Services.{begins_manned, came_finished, met_then}
 use Rattle.local_run.specs.declared.halt.Halt.{Halt}
-use Rattle.wq_run.specs.Dues.{IsIllLink, KeepsDue}
-use Rattle.wq_run.proofs.Duly.{due_then}
+use Rattle.wq_run.specs.Dues.{IsIllLink}
+use Rattle.wq_run.specs.Keeping.{KeepsOn}
+use Rattle.wq_run.proofs.Duties.{due_then}
 use Rattle.wq_run.proofs.waiting.wait.Goals as goal
 
 pub look-requires-clause-manned : goal.look-requires-clause-manned
@@ -35,5 +36,5 @@ returns g c =
       none = f.empty;
       listens = c.finish.ensures.listens c.look.ensures.listens;
       met = met_then c.look.ensures.met c.finish.ensures.met;
-      due = λ tells. due_then _ _ (subst (λ (h : Option Halt). KeepsDue (IsIllLink g.F.Commands.gives g.F.Commands.may_fail g.H.Way.Link.history g.H.Way.Link.count g.H.Way.Link.idle_count g.H.Way.Link.is_closed c.args.limit) g.H.Way.Link.history c.args.desk.now.moves c.look.new.desk.moves h c.look.new.held.halt c.args.company.now c.look.new.company (g.H.Hall.got c.args.hall.now) (g.H.Hall.got c.look.new.hall)) c.new-held.ensures.halt (c.look.ensures.due tells)) (c.finish.ensures.due c.args.limit tells);
+      due = λ tells. due_then _ _ (subst (λ (h : Option Halt). KeepsOn (IsIllLink g.F.Commands.gives g.F.Commands.may_fail g.H.Way.Link.history g.H.Way.Link.count g.H.Way.Link.idle_count g.H.Way.Link.is_closed c.args.limit) g.H.Way.Link.history c.args.desk.now.moves c.look.new.desk.moves h c.look.new.held.halt c.args.company.now c.look.new.company (g.H.Hall.got c.args.hall.now) (g.H.Hall.got c.look.new.hall)) c.new-held.ensures.halt (c.look.ensures.due tells)) (c.finish.ensures.due c.args.limit tells);
     }

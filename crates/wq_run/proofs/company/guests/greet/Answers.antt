@@ -1,28 +1,105 @@
-use Rattle.std.proofs.Common.{Ok, Result, [], inl, subst, sym}
+use Rattle.std.proofs.Common.{Err, None, Ok, Option, Result, [], inl, refl, rules, subst, sym, ◌≡◌}
+use Rattle.std.specs.Prelude.{IfErr, IfOk, IfSome, OnOk}
+use Rattle.flow_types.specs.declared.messages.Message.TheVariants as messages
+use Rattle.links.specs.Passings.{received_in}
+use Rattle.message_forms.specs.Streams.{Carries}
+use Rattle.wq_run.specs.declared.company.guests.Offer.{Offer}
+use Rattle.wq_run.specs.Dues.{HasHeard, IsIllLink}
+use Rattle.wq_run.specs.Earned.{LeavesGuest}
+use Rattle.wq_run.specs.Seats.{IsGuest}
 use Rattle.peers.specs.declared.leave.Leave.{Leave}
 use Rattle.peers.specs.declared.told.Told.{Told}
-use Rattle.peers.specs.Hears.{ServesOn}
-use Rattle.wq_run.specs.Trusted.{IsFair, IsHeard}
-use Rattle.wq_run.proofs.Trusts.{listened_guest, told_guest}
+use Rattle.peers.specs.Hears.{Hears, ServesOn}
+use Rattle.wq_run.specs.Trusted.{IsAwaited, IsFair, IsHeard, IsMeant}
 use Rattle.wq_run.proofs.Heards.{greeted_one}
+use Rattle.wq_run.proofs.Leaving.{came_hello, guest_closed, guest_joins, guest_misspeaks, guest_silent, still_part, told_other}
+use Rattle.wq_run.proofs.Trusts.{guest_of, listened_guest, told_guest, waits_guest}
 use Rattle.wq_run.proofs.company.guests.greet.Goals as goal
+use Rattle.wq_run.proofs.company.guests.greet.Goals.{in-Nothing+else-idles-ge-MOST_IDLES, in-Joined, in_default}
 
-pub returns-in-Ok-Nothing : goal.returns-in-Ok-Nothing
-returns-in-Ok-Nothing g c = record {
-  guest = told_guest g.F.Commands.gives g.F.Commands.may_fail g.L.Link.history (IsFair g.T.Trust.holds g.L.Link.tells g.L.Link.honest) (IsHeard g.T.Trust.holds g.L.Link.tells) c.listen.new.peer c.hear.new.self c.in-Ok-Nothing.field-0 c.in-Ok-Nothing.ensures.hears
-      (λ said heard honest serves. c.in-Ok-Nothing.ensures.serves said heard honest.0 serves) (λ honest. subst (IsFair g.T.Trust.holds g.L.Link.tells g.L.Link.honest) (sym c.hear.ensures.way) honest)
-      (listened_guest g.F.Commands.gives g.F.Commands.may_fail g.L.Link.history (IsFair g.T.Trust.holds g.L.Link.tells g.L.Link.honest) (IsHeard g.T.Trust.holds g.L.Link.tells) c.args.peer.now c.listen.new.peer c.listen.ensures.session c.listen.ensures.going c.in-Ok.ensures.honest c.requires.guest);
-  offered = tt;
-}
+pub returns-in-Err-clause-leaves : goal.returns-in-Err-clause-leaves
+returns-in-Err-clause-leaves g c limit tells = guest_closed g.F.Commands.gives g.F.Commands.may_fail g.L.Link.history g.L.Link.count g.L.Link.idle_count g.L.Link.is_closed limit (g.L.Link.count c.args.peer.now.way) c.listen.new.peer.way (let r : Result (Unit {0}) Leave = Err c.in-Err.leave in r) c.in-Err.ensures.leaves
 
-pub returns-in-Ok-Joined : goal.returns-in-Ok-Joined
-returns-in-Ok-Joined g c = record {
-  guest = told_guest g.F.Commands.gives g.F.Commands.may_fail g.L.Link.history (IsFair g.T.Trust.holds g.L.Link.tells g.L.Link.honest) (IsHeard g.T.Trust.holds g.L.Link.tells) c.listen.new.peer c.hear.new.self c.in-Ok-Joined.field-0 c.in-Ok-Joined.ensures.hears
-      (λ said heard honest serves. c.in-Ok-Joined.ensures.serves said heard honest.0 serves) (λ honest. subst (IsFair g.T.Trust.holds g.L.Link.tells g.L.Link.honest) (sym c.hear.ensures.way) honest)
-      (listened_guest g.F.Commands.gives g.F.Commands.may_fail g.L.Link.history (IsFair g.T.Trust.holds g.L.Link.tells g.L.Link.honest) (IsHeard g.T.Trust.holds g.L.Link.tells) c.args.peer.now c.listen.new.peer c.listen.ensures.session c.listen.ensures.going c.in-Ok.ensures.honest c.requires.guest);
-  offered = λ tells.
-      let guest = listened_guest g.F.Commands.gives g.F.Commands.may_fail g.L.Link.history (IsFair g.T.Trust.holds g.L.Link.tells g.L.Link.honest) (IsHeard g.T.Trust.holds g.L.Link.tells) c.args.peer.now c.listen.new.peer c.listen.ensures.session c.listen.ensures.going c.in-Ok.ensures.honest c.requires.guest in
-      let was = guest.so (inl tells) in
-      greeted_one g.F.Commands.gives g.F.Commands.may_fail g.L.Link.history c.hear.new.self [] was.heard c.in-Ok-Joined.total c.in-Ok-Joined.largest c.in-Ok-Joined.cache
-      (subst (λ (x : Told). let r : Result Told Leave = Ok x in ServesOn g.F.Commands.gives g.F.Commands.may_fail (g.L.Link.history c.hear.new.self.way) [] was.heard r c.hear.new.self.feed c.hear.new.self.session) c.in-Ok-Joined.field-0-is (c.in-Ok-Joined.ensures.serves [] was.heard tells was.serves));
-}
+pub returns-then-idles-ge-MOST_IDLES-clause-leaves : goal.returns-then-idles-ge-MOST_IDLES-clause-leaves
+returns-then-idles-ge-MOST_IDLES-clause-leaves g c limit tells =
+    let guest = listened_guest g.F.Commands.gives g.F.Commands.may_fail g.L.Link.history (IsFair g.T.Trust.holds g.L.Link.tells g.L.Link.honest) (IsHeard g.T.Trust.holds g.L.Link.tells) c.args.peer.now c.listen.new.peer c.listen.ensures.session c.listen.ensures.going c.in-Ok.ensures.stranger c.requires.guest in
+    let hears = subst (λ (x : Told). let r : Result Told Leave = Ok x in c.listen.new.peer.feed.stop ≡ None → Hears c.listen.new.peer.feed c.listen.new.peer.session r c.hear.new.self.feed c.hear.new.self.session) c.in-Nothing.is c.in-Ok-hear.ensures.hears in
+    let waits = waits_guest g.F.Commands.gives g.F.Commands.may_fail g.L.Link.history (IsFair g.T.Trust.holds g.L.Link.tells g.L.Link.honest) (IsHeard g.T.Trust.holds g.L.Link.tells) c.listen.new.peer c.hear.new.self hears
+    (λ said heard honest serves. subst (λ (x : Told). let r : Result Told Leave = Ok x in ServesOn g.F.Commands.gives g.F.Commands.may_fail (g.L.Link.history c.hear.new.self.way) said heard r c.hear.new.self.feed c.hear.new.self.session) c.in-Nothing.is (c.in-Ok-hear.ensures.serves said heard honest.0 serves)) (λ honest. subst (IsFair g.T.Trust.holds g.L.Link.tells g.L.Link.honest) (sym c.hear.ensures.way) honest) guest in
+    guest_silent g.F.Commands.gives g.F.Commands.may_fail g.L.Link.history g.L.Link.count g.L.Link.idle_count g.L.Link.is_closed limit (IsFair g.T.Trust.holds g.L.Link.tells g.L.Link.honest) c.hear.new.self (waits.so (inl tells)) (still_part g.F.Commands.gives g.F.Commands.may_fail g.L.Link.history g.L.Link.count g.L.Link.idle_count g.L.Link.is_closed limit c.listen.new.peer c.hear.new.self (hears guest.going)) (search rules)
+
+pub returns-in-Err-hear-clause-leaves : goal.returns-in-Err-hear-clause-leaves
+returns-in-Err-hear-clause-leaves g c limit tells =
+    let was = (listened_guest g.F.Commands.gives g.F.Commands.may_fail g.L.Link.history (IsFair g.T.Trust.holds g.L.Link.tells g.L.Link.honest) (IsHeard g.T.Trust.holds g.L.Link.tells) c.args.peer.now c.listen.new.peer c.listen.ensures.session c.listen.ensures.going c.in-Ok.ensures.stranger c.requires.guest).so (inl tells) in
+    guest_misspeaks g.F.Commands.gives g.F.Commands.may_fail g.L.Link.history g.L.Link.count g.L.Link.idle_count g.L.Link.is_closed limit (g.L.Link.history c.hear.new.self.way) c.hear.new.self.way c.hear.new.self.feed c.hear.new.self.session c.in-Err-hear.leave refl (c.in-Err-hear.ensures.serves [] [] tells was.serves)
+
+pub returns-after-told-clause-guest : goal.returns-after-told-clause-guest
+returns-after-told-clause-guest g c =
+    let guest = listened_guest g.F.Commands.gives g.F.Commands.may_fail g.L.Link.history (IsFair g.T.Trust.holds g.L.Link.tells g.L.Link.honest) (IsHeard g.T.Trust.holds g.L.Link.tells) c.args.peer.now c.listen.new.peer c.listen.ensures.session c.listen.ensures.going c.in-Ok.ensures.stranger c.requires.guest in
+    elim c.match-told.branch [
+      | in-Nothing+else-idles-ge-MOST_IDLES w ↦
+          let hears = subst (λ (x : Told). let r : Result Told Leave = Ok x in c.listen.new.peer.feed.stop ≡ None → Hears c.listen.new.peer.feed c.listen.new.peer.session r c.hear.new.self.feed c.hear.new.self.session) w.in-Nothing.is c.in-Ok-hear.ensures.hears in
+          let waits = waits_guest g.F.Commands.gives g.F.Commands.may_fail g.L.Link.history (IsFair g.T.Trust.holds g.L.Link.tells g.L.Link.honest) (IsHeard g.T.Trust.holds g.L.Link.tells) c.listen.new.peer c.hear.new.self hears
+          (λ said heard honest serves. subst (λ (x : Told). let r : Result Told Leave = Ok x in ServesOn g.F.Commands.gives g.F.Commands.may_fail (g.L.Link.history c.hear.new.self.way) said heard r c.hear.new.self.feed c.hear.new.self.session) w.in-Nothing.is (c.in-Ok-hear.ensures.serves said heard honest.0 serves)) (λ honest. subst (IsFair g.T.Trust.holds g.L.Link.tells g.L.Link.honest) (sym c.hear.ensures.way) honest) guest in
+          subst (λ (r : Result (Option Offer) Leave). OnOk r (IsGuest (IsMeant (IsHeard g.T.Trust.holds g.L.Link.tells) g.F.Commands.gives g.F.Commands.may_fail g.L.Link.history (IsFair g.T.Trust.holds g.L.Link.tells g.L.Link.honest)) c.hear.new.self)) (sym w.result-is) (guest_of g.F.Commands.gives g.F.Commands.may_fail g.L.Link.history (IsFair g.T.Trust.holds g.L.Link.tells g.L.Link.honest) (IsHeard g.T.Trust.holds g.L.Link.tells) c.hear.new.self waits)
+      | in-Joined w ↦
+          subst (λ (r : Result (Option Offer) Leave). OnOk r (IsGuest (IsMeant (IsHeard g.T.Trust.holds g.L.Link.tells) g.F.Commands.gives g.F.Commands.may_fail g.L.Link.history (IsFair g.T.Trust.holds g.L.Link.tells g.L.Link.honest)) c.hear.new.self)) (sym w.result-is) (told_guest g.F.Commands.gives g.F.Commands.may_fail g.L.Link.history (IsFair g.T.Trust.holds g.L.Link.tells g.L.Link.honest) (IsHeard g.T.Trust.holds g.L.Link.tells) c.listen.new.peer c.hear.new.self c.in-Ok-hear.told c.in-Ok-hear.ensures.hears
+          (λ said heard honest serves. c.in-Ok-hear.ensures.serves said heard honest.0 serves) (λ honest. subst (IsFair g.T.Trust.holds g.L.Link.tells g.L.Link.honest) (sym c.hear.ensures.way) honest) (guest_of g.F.Commands.gives g.F.Commands.may_fail g.L.Link.history (IsFair g.T.Trust.holds g.L.Link.tells g.L.Link.honest) (IsHeard g.T.Trust.holds g.L.Link.tells) c.listen.new.peer guest))
+      | in_default w ↦
+          subst (λ (r : Result (Option Offer) Leave). OnOk r (IsGuest (IsMeant (IsHeard g.T.Trust.holds g.L.Link.tells) g.F.Commands.gives g.F.Commands.may_fail g.L.Link.history (IsFair g.T.Trust.holds g.L.Link.tells g.L.Link.honest)) c.hear.new.self)) (sym w.result-is) tt
+    ]
+
+pub returns-after-told-clause-waits : goal.returns-after-told-clause-waits
+returns-after-told-clause-waits g c =
+    let guest = listened_guest g.F.Commands.gives g.F.Commands.may_fail g.L.Link.history (IsFair g.T.Trust.holds g.L.Link.tells g.L.Link.honest) (IsHeard g.T.Trust.holds g.L.Link.tells) c.args.peer.now c.listen.new.peer c.listen.ensures.session c.listen.ensures.going c.in-Ok.ensures.stranger c.requires.guest in
+    elim c.match-told.branch [
+      | in-Nothing+else-idles-ge-MOST_IDLES w ↦
+          let hears = subst (λ (x : Told). let r : Result Told Leave = Ok x in c.listen.new.peer.feed.stop ≡ None → Hears c.listen.new.peer.feed c.listen.new.peer.session r c.hear.new.self.feed c.hear.new.self.session) w.in-Nothing.is c.in-Ok-hear.ensures.hears in
+          let waits = waits_guest g.F.Commands.gives g.F.Commands.may_fail g.L.Link.history (IsFair g.T.Trust.holds g.L.Link.tells g.L.Link.honest) (IsHeard g.T.Trust.holds g.L.Link.tells) c.listen.new.peer c.hear.new.self hears
+          (λ said heard honest serves. subst (λ (x : Told). let r : Result Told Leave = Ok x in ServesOn g.F.Commands.gives g.F.Commands.may_fail (g.L.Link.history c.hear.new.self.way) said heard r c.hear.new.self.feed c.hear.new.self.session) w.in-Nothing.is (c.in-Ok-hear.ensures.serves said heard honest.0 serves)) (λ honest. subst (IsFair g.T.Trust.holds g.L.Link.tells g.L.Link.honest) (sym c.hear.ensures.way) honest) guest in
+          subst (λ (r : Result (Option Offer) Leave). IfOk r (λ offer. offer ≡ None → IsGuest (IsAwaited (IsHeard g.T.Trust.holds g.L.Link.tells) g.F.Commands.gives g.F.Commands.may_fail g.L.Link.history (IsFair g.T.Trust.holds g.L.Link.tells g.L.Link.honest)) c.hear.new.self)) (sym w.result-is) (λ none. waits)
+      | in-Joined w ↦
+          subst (λ (r : Result (Option Offer) Leave). IfOk r (λ offer. offer ≡ None → IsGuest (IsAwaited (IsHeard g.T.Trust.holds g.L.Link.tells) g.F.Commands.gives g.F.Commands.may_fail g.L.Link.history (IsFair g.T.Trust.holds g.L.Link.tells g.L.Link.honest)) c.hear.new.self)) (sym w.result-is) (λ none. search rules)
+      | in_default w ↦
+          subst (λ (r : Result (Option Offer) Leave). IfOk r (λ offer. offer ≡ None → IsGuest (IsAwaited (IsHeard g.T.Trust.holds g.L.Link.tells) g.F.Commands.gives g.F.Commands.may_fail g.L.Link.history (IsFair g.T.Trust.holds g.L.Link.tells g.L.Link.honest)) c.hear.new.self)) (sym w.result-is) tt
+    ]
+
+pub returns-after-told-clause-offers : goal.returns-after-told-clause-offers
+returns-after-told-clause-offers g c =
+    let guest = listened_guest g.F.Commands.gives g.F.Commands.may_fail g.L.Link.history (IsFair g.T.Trust.holds g.L.Link.tells g.L.Link.honest) (IsHeard g.T.Trust.holds g.L.Link.tells) c.args.peer.now c.listen.new.peer c.listen.ensures.session c.listen.ensures.going c.in-Ok.ensures.stranger c.requires.guest in
+    elim c.match-told.branch [
+      | in-Nothing+else-idles-ge-MOST_IDLES w ↦
+          subst (λ (r : Result (Option Offer) Leave). IfOk r (λ offer. IfSome offer (λ o. g.L.Link.tells → Carries (received_in (g.L.Link.history c.hear.new.self.way)) (messages.Hello o.total o.largest o.cache)))) (sym w.result-is) tt
+      | in-Joined w ↦
+          subst (λ (r : Result (Option Offer) Leave). IfOk r (λ offer. IfSome offer (λ o. g.L.Link.tells → Carries (received_in (g.L.Link.history c.hear.new.self.way)) (messages.Hello o.total o.largest o.cache)))) (sym w.result-is) (λ tells. came_hello g.F.Commands.gives g.F.Commands.may_fail g.L.Link.history g.L.Link.count g.L.Link.idle_count g.L.Link.is_closed 0 (g.L.Link.history c.hear.new.self.way) c.hear.new.self.feed c.hear.new.self.session w.in-Joined.total w.in-Joined.largest w.in-Joined.cache
+          (subst (λ (x : Told). let r : Result Told Leave = Ok x in ServesOn g.F.Commands.gives g.F.Commands.may_fail (g.L.Link.history c.hear.new.self.way) [] [] r c.hear.new.self.feed c.hear.new.self.session) w.in-Joined.is (c.in-Ok-hear.ensures.serves [] [] tells (guest.so (inl tells)).serves)))
+      | in_default w ↦
+          subst (λ (r : Result (Option Offer) Leave). IfOk r (λ offer. IfSome offer (λ o. g.L.Link.tells → Carries (received_in (g.L.Link.history c.hear.new.self.way)) (messages.Hello o.total o.largest o.cache)))) (sym w.result-is) tt
+    ]
+
+pub returns-after-told-clause-offered : goal.returns-after-told-clause-offered
+returns-after-told-clause-offered g c =
+    let guest = listened_guest g.F.Commands.gives g.F.Commands.may_fail g.L.Link.history (IsFair g.T.Trust.holds g.L.Link.tells g.L.Link.honest) (IsHeard g.T.Trust.holds g.L.Link.tells) c.args.peer.now c.listen.new.peer c.listen.ensures.session c.listen.ensures.going c.in-Ok.ensures.stranger c.requires.guest in
+    elim c.match-told.branch [
+      | in-Nothing+else-idles-ge-MOST_IDLES w ↦
+          subst (λ (r : Result (Option Offer) Leave). IfOk r (λ offer. IfSome offer (λ _. g.L.Link.tells → HasHeard g.L.Link.history c.hear.new.self 1))) (sym w.result-is) tt
+      | in-Joined w ↦
+          subst (λ (r : Result (Option Offer) Leave). IfOk r (λ offer. IfSome offer (λ _. g.L.Link.tells → HasHeard g.L.Link.history c.hear.new.self 1))) (sym w.result-is) (λ tells. greeted_one g.F.Commands.gives g.F.Commands.may_fail g.L.Link.history c.hear.new.self [] [] w.in-Joined.total w.in-Joined.largest w.in-Joined.cache
+          (subst (λ (x : Told). let r : Result Told Leave = Ok x in ServesOn g.F.Commands.gives g.F.Commands.may_fail (g.L.Link.history c.hear.new.self.way) [] [] r c.hear.new.self.feed c.hear.new.self.session) w.in-Joined.is (c.in-Ok-hear.ensures.serves [] [] tells (guest.so (inl tells)).serves)))
+      | in_default w ↦
+          subst (λ (r : Result (Option Offer) Leave). IfOk r (λ offer. IfSome offer (λ _. g.L.Link.tells → HasHeard g.L.Link.history c.hear.new.self 1))) (sym w.result-is) tt
+    ]
+
+pub returns-after-told-clause-leaves : goal.returns-after-told-clause-leaves
+returns-after-told-clause-leaves g c limit tells =
+    let guest = listened_guest g.F.Commands.gives g.F.Commands.may_fail g.L.Link.history (IsFair g.T.Trust.holds g.L.Link.tells g.L.Link.honest) (IsHeard g.T.Trust.holds g.L.Link.tells) c.args.peer.now c.listen.new.peer c.listen.ensures.session c.listen.ensures.going c.in-Ok.ensures.stranger c.requires.guest in
+    elim c.match-told.branch [
+      | in-Nothing+else-idles-ge-MOST_IDLES w ↦
+          subst (λ (r : Result (Option Offer) Leave). IfErr r (LeavesGuest (IsIllLink g.F.Commands.gives g.F.Commands.may_fail g.L.Link.history g.L.Link.count g.L.Link.idle_count g.L.Link.is_closed limit) c.hear.new.self.way)) (sym w.result-is) tt
+      | in-Joined w ↦
+          subst (λ (r : Result (Option Offer) Leave). IfErr r (LeavesGuest (IsIllLink g.F.Commands.gives g.F.Commands.may_fail g.L.Link.history g.L.Link.count g.L.Link.idle_count g.L.Link.is_closed limit) c.hear.new.self.way)) (sym w.result-is) tt
+      | in_default w ↦
+          subst (λ (r : Result (Option Offer) Leave). IfErr r (LeavesGuest (IsIllLink g.F.Commands.gives g.F.Commands.may_fail g.L.Link.history g.L.Link.count g.L.Link.idle_count g.L.Link.is_closed limit) c.hear.new.self.way)) (sym w.result-is) (
+          absurd (told_other c.in-Ok-hear.told (λ is. w.in_default.not-Nothing is) (λ total largest cache is. w.in_default.not-Joined total largest cache is)
+          (λ some. guest_joins g.F.Commands.gives g.F.Commands.may_fail g.L.Link.history g.L.Link.count g.L.Link.idle_count g.L.Link.is_closed limit (IsFair g.T.Trust.holds g.L.Link.tells g.L.Link.honest) c.listen.new.peer c.hear.new.self c.in-Ok-hear.told (guest.so (inl tells)) (c.in-Ok-hear.ensures.hears guest.going) some)))
+    ]

@@ -1,5 +1,5 @@
 use Rattle.wq_run.proofs.Companies.{met_then, same_met}
-use Rattle.wq_run.proofs.Duly.{due_none, due_then}
+use Rattle.wq_run.proofs.Duties.{due_none, due_then}
 use Rattle.wq_run.proofs.company.guests.greet_all.Goals as goal
 
 pub loop-preserved : goal.loop-preserved

@@ -1,10 +1,16 @@
-use Rattle.std.proofs.Common.{rules, ◌≡◌, ◌≢◌, ◌∙◌, ap, subst, sym, arith, length, true≢false}
+use Rattle.std.proofs.Common.{rules, None, ◌≡◌, ◌≢◌, ◌∙◌, ap, refl, subst, sym, arith, length, true≢false}
 use Rattle.std.specs.Prelude.{IfSome, remove}
-use Rattle.wq_run.specs.Dues.{HasHeard}
 use Rattle.std.proofs.lemmas.Bool.{eq-eqb}
-use Rattle.wq_run.specs.Seats.{seats_under}
-use Rattle.wq_run.proofs.Companies.{fewer_first, man_as, met_then, still_met}
-use Rattle.wq_run.proofs.Duly.{due_from, due_met, due_none}
+use Rattle.wq_run.specs.Dues.{HasHeard, IsIllLink, left_lost}
+use Rattle.wq_run.specs.Earned.{LeavesGuest}
+use Rattle.wq_run.specs.Seats.{CompanyState, seats_under}
+use Rattle.wq_run.proofs.Fares.{spares_same}
+use Rattle.wq_run.proofs.Leaving.{left_earned, left_kept}
+use Rattle.wq_run.proofs.Companies.{fewer_first, man_as, marked_hand, met_then, still_met}
+use Rattle.wq_run.proofs.Duties.{due_from, due_guest, due_left, due_met, due_none, due_then}
+use Rattle.flow_types.specs.declared.messages.Message.TheVariants as messages
+use Rattle.links.specs.Passings.{received_in}
+use Rattle.message_forms.specs.Streams.{Carries}
 use Rattle.wq_run.proofs.company.guests.greet_next.Goals as goal
 
 pub returns-in-Ok-None-clause-met : goal.returns-in-Ok-None-clause-met
@@ -52,21 +58,36 @@ returns-in-Err-clause-met g c =
     let guests : length c.args.company.now.guests ≡ length c.company.inside.guests.items = search rules in
     let failed : c.company.inside.failed ≡ c.args.company.now.failed = search rules in
     let lost : c.company.inside.lost ≡ c.args.company.now.lost = search rules in
-    met_then (still_met (record { links = omega (arith, fewer, now, seats, guests); fewer = λ k. let e = ap (seats_under k) same in omega (arith, e); newest = newest }) failed lost) c.hand_back.ensures.met
+    let mid : CompanyState g.row.H-Way.Denot = record { seats = c.company.inside.seats.items; guests = c.remove-peer.new.self.items; failed = c.company.inside.failed; lost = c.company.inside.lost; newest = c.company.inside.newest } in
+    met_then (still_met (record { links = omega (arith, fewer, now, seats, guests); fewer = λ k. let e = ap (seats_under k) same in omega (arith, e); newest = newest }) failed lost)
+    (met_then (marked_hand None mid c.leaves.new.self (left_lost c.in-Err.leave c.company.inside.lost) (left_kept c.in-Err.leave c.company.inside.lost) c.leaves.ensures.left) c.hand_back.ensures.met)
 
 pub returns-in-Ok-None-clause-due : goal.returns-in-Ok-None-clause-due
 returns-in-Ok-None-clause-due g c limit halt tells =
     let same : c.company.inside.seats.items ≡ c.args.company.now.seats = search rules in
     let failed : c.company.inside.failed ≡ c.args.company.now.failed = search rules in
     let lost : c.company.inside.lost ≡ c.args.company.now.lost = search rules in
-    due_from _ _ {other = record { seats = c.company.inside.seats.items; guests = c.remove-peer.new.self.items; failed = c.company.inside.failed; lost = c.company.inside.lost; newest = c.company.inside.newest }} same failed lost (due_met _ _ c.stay.ensures.seats c.stay.ensures.met)
+    due_from _ _ {other = record { seats = c.company.inside.seats.items; guests = c.remove-peer.new.self.items; failed = c.company.inside.failed; lost = c.company.inside.lost; newest = c.company.inside.newest }} same failed lost (due_met _ _ c.stay.ensures.seats c.stay.ensures.kept c.stay.ensures.met)
 
 pub returns-in-Err-clause-due : goal.returns-in-Err-clause-due
 returns-in-Err-clause-due g c limit halt tells =
     let same : c.company.inside.seats.items ≡ c.args.company.now.seats = search rules in
     let failed : c.company.inside.failed ≡ c.args.company.now.failed = search rules in
     let lost : c.company.inside.lost ≡ c.args.company.now.lost = search rules in
-    due_from _ _ {other = record { seats = c.company.inside.seats.items; guests = c.remove-peer.new.self.items; failed = c.company.inside.failed; lost = c.company.inside.lost; newest = c.company.inside.newest }} same failed lost (due_met _ _ c.hand_back.ensures.seats c.hand_back.ensures.met)
+    let mid : CompanyState g.row.H-Way.Denot = record { seats = c.company.inside.seats.items; guests = c.remove-peer.new.self.items; failed = c.company.inside.failed; lost = c.company.inside.lost; newest = c.company.inside.newest } in
+    let marked = ap (λ (x : CompanyState g.row.H-Way.Denot). x.lost) c.leaves.ensures.left in
+    due_from _ _ {other = mid} same failed lost
+    (due_then _ _ (due_left _ _ c.in-Err.leave mid c.leaves.new.self c.leaves.ensures.left (left_kept c.in-Err.leave c.company.inside.lost))
+    (due_guest _ _ c.into_way.result (spares_same c.args.desk.now.moves c.args.desk.now.moves refl) refl c.hand_back.ensures.seats c.hand_back.ensures.back
+    (λ kept.
+    left_earned (IsIllLink {L = g.row.H-Way.Denot} g.F.Commands.gives g.F.Commands.may_fail g.H.Way.Link.history g.H.Way.Link.count g.H.Way.Link.idle_count g.H.Way.Link.is_closed limit) c.args.desk.now.moves c.into_way.result c.in-Err.leave c.company.inside.lost
+    (subst (λ (w : g.row.H-Way.Denot). LeavesGuest (IsIllLink g.F.Commands.gives g.F.Commands.may_fail g.H.Way.Link.history g.H.Way.Link.count g.H.Way.Link.idle_count g.H.Way.Link.is_closed limit) w c.in-Err.leave) (sym c.into_way.ensures) (c.in-Err.ensures.leaves limit tells))
+    (sym marked ∙ (c.hand_back.ensures.met.counted kept).0)) c.hand_back.ensures.met))
+
+pub returns-in-Err-clause-manned : goal.returns-in-Err-clause-manned
+returns-in-Err-clause-manned g c held first waiting heard m =
+    let seats : c.company.inside.seats.items ≡ c.args.company.now.seats = search rules in
+    man_as (c.hand_back.ensures.seats ∙ ap (λ (x : CompanyState g.row.H-Way.Denot). x.seats) c.leaves.ensures.left ∙ seats) m
 
 pub returns-in-Ok-Some-clause-due : goal.returns-in-Ok-Some-clause-due
 returns-in-Ok-Some-clause-due g c limit halt tells =
@@ -80,3 +101,10 @@ returns-then-is_empty-clause-due g c limit halt tells = due_none _ _
 
 pub seat_guest-requires-clause-offered : goal.seat_guest-requires-clause-offered
 seat_guest-requires-clause-offered g c κs within = subst (λ o. IfSome o (λ x. g.H.Way.Link.tells → HasHeard g.H.Way.Link.history c.greet.new.peer 1)) c.in-Ok-Some.field-0-is c.in-Ok-Some.ensures.offered
+
+pub seat_guest-requires-clause-came : goal.seat_guest-requires-clause-came
+seat_guest-requires-clause-came g c κs within =
+    subst (λ o. IfSome o (λ x. g.H.Way.Link.tells → Carries (received_in (g.H.Way.Link.history c.greet.new.peer.way)) (messages.Hello x.total x.largest x.cache))) c.in-Ok-Some.field-0-is c.in-Ok-Some.ensures.offers
+
+pub stay-requires-clause-guest : goal.stay-requires-clause-guest
+stay-requires-clause-guest g c κs within = c.in-Ok-None.ensures.waits c.in-Ok-None.field-0-is

@@ -55,4 +55,6 @@ pub returns-in-Err-clause-seated : goal.returns-in-Err-clause-seated
 returns-in-Err-clause-seated g c kept = absurd (true≢false kept)
 
 pub returns-in_default-clause-seated : goal.returns-in_default-clause-seated
-returns-in_default-clause-seated g c kept = search rules
+returns-in_default-clause-seated g c kept =
+    let items : c.push.new.self.items ≡ c.args.company.now.seats ++ (c.args.seat ∷ []) = search rules in
+    (refl, subst (λ (l : LinkNo). IsUnseated l.0 c.args.company.now.seats) c.link-link.ensures (c.takes.ensures.unseated (search rules)), items)

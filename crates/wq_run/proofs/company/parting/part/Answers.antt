@@ -1,13 +1,16 @@
-use Rattle.std.proofs.Common.{None, Some, [], ap, refl, subst, sym, ◌++◌, ◌∙◌, ◌∷◌, ◌≡◌}
+use Rattle.std.proofs.Common.{None, Some, [], ap, inl, inr, refl, subst, sym, ◌++◌, ◌∙◌, ◌∷◌, ◌≡◌, ◌⊎◌}
 use Rattle.flow_types.specs.declared.numbers.LinkNo.{LinkNo}
 use Rattle.desk.specs.State.{DeskState}
 use Rattle.local_run.specs.Underway.{IsSurePool}
-use Rattle.wq_run.specs.Seats.{Manned, Meets, inside_of, with_hand}
+use Rattle.wq_run.specs.Seats.{IsUnseated, Manned, Meets, inside_of, with_hand}
 use Rattle.wq_run.proofs.Companies.{leave_asks, parted_left, parted_still}
-use Rattle.local_run.specs.Losses.{SparesAll}
+use Rattle.run_history.specs.declared.moves.Move.TheVariants as moves
+use Rattle.local_run.specs.Links.{link_moves}
 use Rattle.peers.specs.States.{PeerState}
-use Rattle.wq_run.proofs.Fares.{leaves_spare, spares_same}
-use Rattle.wq_run.proofs.Duly.{due_part, fine_before}
+use Rattle.local_run.specs.Losses.{SparesAll}
+use Rattle.wq_run.proofs.Fares.{leaves_linked, leaves_spare, spares_same}
+use Rattle.wq_run.proofs.Duly.{fine_before}
+use Rattle.wq_run.proofs.Duties.{due_part}
 use Rattle.wq_run.proofs.company.parting.part.Goals as goal
 use Rattle.wq_run.proofs.company.parting.part.Goals.{then-works, else-works}
 
@@ -39,8 +42,13 @@ returns-clause-due g c limit tells before behind are cause =
       | then-works w ↦ subst (λ (d : DeskState g.row.S.Denot). SparesAll c.abandon.new.desk.moves d.moves) (sym w.desk-is) (leaves_spare c.abandon.new.desk w.leave.new.desk c.link-link.result w.leave.ensures.reply)
       | else-works w ↦ subst (λ (d : DeskState g.row.S.Denot). SparesAll c.abandon.new.desk.moves d.moves) (sym w.desk-is) (spares_same _ _ refl)
     ] in
+    let gone : (link_moves c.if-works.desk.moves ≡ link_moves c.abandon.new.desk.moves) ⊎ (link_moves c.if-works.desk.moves ≡ link_moves c.abandon.new.desk.moves ++ (moves.Left c.args.seat.link ∷ [])) = elim c.if-works.branch [
+      | then-works w ↦ inr (ap (λ (d : DeskState g.row.S.Denot). link_moves d.moves) w.desk-is ∙ leaves_linked c.abandon.new.desk w.leave.new.desk c.link-link.result w.leave.ensures.reply ∙ ap (λ (l : LinkNo). link_moves c.abandon.new.desk.moves ++ (moves.Left l ∷ [])) link)
+      | else-works w ↦ inl (ap (λ (d : DeskState g.row.S.Denot). link_moves d.moves) w.desk-is)
+    ] in
+    let others : IsUnseated c.args.seat.link.0 (before ++ behind) = subst (IsUnseated c.args.seat.link.0) (sym c.requires.parting.are ∙ are) c.requires.parting.parts.apart in
     let way : c.into_way-way.result ≡ c.args.seat.peer.way = c.into_way-way.ensures ∙ ap (λ (p : PeerState g.row.H-Way.Denot). p.way) (c.into_peer.ensures ∙ c.abandon.ensures.peer) in
-    due_part _ _ before c.args.seat behind refl (c.hand_back.ensures.seats ∙ are) c.abandon.ensures.gives_up left
+    due_part _ _ before c.args.seat behind refl (c.hand_back.ensures.seats ∙ are) c.abandon.ensures.gives_up left gone others
     (λ fine. fine_before c.args.company.now.failed c.hand_back.new.company.failed c.hand_back.ensures.met.stays fine)
     (λ kept. (
       (c.hand_back.ensures.met.counted kept).0,

@@ -3,8 +3,9 @@ use Rattle.std.specs.Prelude.{remove}
 use Rattle.wq_run.specs.Seats.{SeatState, one_under, seats_under}
 use Rattle.wq_run.proofs.Companies.{met_then, parting_of, parts_of, rest_at, still_met, taken_at}
 use Rattle.wq_run.proofs.Counting.{seated_split}
-use Rattle.wq_run.specs.Dues.{IsFull, IsIllLink, KeepsDueBut}
-use Rattle.wq_run.proofs.Duly.{due_from_but}
+use Rattle.wq_run.specs.Dues.{IsFull, IsIllLink}
+use Rattle.wq_run.specs.Keeping.{KeepsOnBut}
+use Rattle.wq_run.proofs.Duties.{due_from_but}
 use Rattle.wq_run.proofs.company.parting.part_at.Goals as goal
 
 pub part-requires-clause-parting : goal.part-requires-clause-parting
@@ -54,7 +55,7 @@ returns-clause-due g c limit tells cause =
     let seats = rest ∙ rest_at c.args.company.now.seats c.args.at p.before p.seat p.behind p.are p.place in
     let failed : c.company.inside.failed ≡ c.args.company.now.failed = search rules in
     let lost : c.company.inside.lost ≡ c.args.company.now.lost = search rules in
-    subst (λ (n : ℕ). KeepsDueBut (IsIllLink g.F.Commands.gives g.F.Commands.may_fail g.H.Way.Link.history g.H.Way.Link.count g.H.Way.Link.idle_count g.H.Way.Link.is_closed limit) g.H.Way.Link.history n c.args.desk.now.moves c.part.new.desk.moves c.args.held.now.halt c.part.new.held.halt c.args.company.now c.part.new.company (g.H.Hall.got c.args.hall.now) (g.H.Hall.got c.part.new.hall)) p.place
+    subst (λ (n : ℕ). KeepsOnBut (IsIllLink g.F.Commands.gives g.F.Commands.may_fail g.H.Way.Link.history g.H.Way.Link.count g.H.Way.Link.idle_count g.H.Way.Link.is_closed limit) g.H.Way.Link.history n c.args.desk.now.moves c.part.new.desk.moves c.args.held.now.halt c.part.new.held.halt c.args.company.now c.part.new.company (g.H.Hall.got c.args.hall.now) (g.H.Hall.got c.part.new.hall)) p.place
     (due_from_but _ _ (length p.before) (ap (λ (s : SeatState g.row.H-Way.Denot). p.before ++ (s ∷ p.behind)) same ∙ sym p.are) failed lost
     (c.part.ensures.due limit tells p.before p.behind seats (λ none fine kept.
     let may = cause none (sym failed ∙ fine) (sym lost ∙ kept) in

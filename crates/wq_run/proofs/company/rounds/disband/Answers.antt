@@ -1,10 +1,12 @@
-use Rattle.std.proofs.Common.{None, Some, [], ap, arith, length, length-append, refl, rules, subst, sym, ◌++◌, ◌∙◌, ◌∷◌, ◌≡◌}
+use Rattle.std.proofs.Common.{List, None, Some, [], ap, arith, false, length, length-append, refl, rules, subst, sym, ◌++◌, ◌∙◌, ◌∷◌, ◌≡◌}
 use Rattle.std.proofs.lemmas.List.{append-nil}
 use Rattle.flow_types.specs.declared.numbers.LinkNo.{LinkNo}
-use Rattle.wq_run.specs.Seats.{CompanyState, gathered, one_under, seats_under}
+use Rattle.wq_run.specs.Seats.{CompanyState, SeatState, gathered, one_under, seats_under}
 use Rattle.wq_run.proofs.Companies.{gathered_less, met_then, still_met}
+use Rattle.wq_run.proofs.Services.{met_none}
 use Rattle.wq_run.proofs.Counting.{seated_split}
-use Rattle.peers.specs.States.{PeerState}
+use Rattle.peers.specs.States.{PeerState, ReceivesOn}
+use Rattle.wq_run.proofs.Hands.{HandsOn, hands_last, hands_none, hands_whole}
 use Rattle.wq_run.specs.Dues.{IsIllLink, KeepsDue}
 use Rattle.wq_run.proofs.Fares.{fares_still}
 use Rattle.wq_run.proofs.Duly.{due_from, due_handed, due_met, due_none, due_seat, due_then, fine_before}
@@ -27,6 +29,7 @@ loop-seat-preserved g c =
     let failed : c.company.inside.failed ≡ c.loop-seat.company.failed = search rules in
     let lost : c.company.inside.lost ≡ c.loop-seat.company.lost = search rules in
     let newest : c.company.inside.newest ≡ c.loop-seat.company.newest = search rules in
+    let same_guests : c.company.inside.guests.items ≡ c.loop-seat.company.guests = search rules in
     record {
       failed = c.hand_back.ensures.failed ∙ failed ∙ c.loop-seat.invariant.failed;
       due = λ limit moves tells.
@@ -44,6 +47,14 @@ loop-seat-preserved g c =
                 (subst (λ (x : g.row.H-Way.Denot). g.H.Hall.got c.hand_back.new.hall ≡ g.H.Hall.got c.loop-seat.hall ++ ((Some c.link-link.result, x) ∷ [])) way (c.hand_back.ensures.back kept)),
           ))));
       none = ap gathered c.hand_back.ensures.seats ∙ less.0;
+      guests = c.hand_back.ensures.guests ∙ same_guests ∙ c.loop-seat.invariant.guests;
+      hands = λ tells kept.
+          let was : c.loop-seat.company.lost ≡ false = sym lost ∙ (c.hand_back.ensures.met.counted kept).0 in
+          let way : c.into_way.result ≡ c.farewell.new.self.peer.way = c.into_way.ensures ∙ ap (λ (p : PeerState g.row.H-Way.Denot). p.way) c.into_peer.ensures in
+          subst (λ (xs : List (SeatState g.row.H-Way.Denot)). HandsOn g.H.Way.Link.history c.args.company.now.seats xs (g.H.Hall.got c.args.hall.now) (g.H.Hall.got c.hand_back.new.hall)) (sym c.hand_back.ensures.seats)
+          (hands_last g.H.Way.Link.history c.args.company.now.seats c.loop-seat.company.seats c.pop.new.self.items c.in-Some.seat c.link-link.result c.into_way.result (g.H.Hall.got c.args.hall.now) (g.H.Hall.got c.loop-seat.hall) (g.H.Hall.got c.hand_back.new.hall)
+          (c.loop-seat.invariant.hands tells was) are (c.link-link.ensures ∙ c.farewell.ensures.link)
+          (subst (λ (x : g.row.H-Way.Denot). ReceivesOn (g.H.Way.Link.history c.in-Some.seat.peer.way) (g.H.Way.Link.history x)) (sym way) (c.farewell.ensures.comes tells)) (c.hand_back.ensures.back kept));
       met = met_then c.loop-seat.invariant.met (met_then (still_met (record {
         links = omega (arith, many, both, guests);
         fewer = λ k.
@@ -70,6 +81,11 @@ loop-peer-preserved g c =
       seats = c.hand_back-in-Some-pop.ensures.seats ∙ same ∙ c.loop-peer.invariant.seats;
       met = met_then c.loop-peer.invariant.met (met_then (still_met (record { links = omega (arith, many, both, seats); fewer = λ k. let e = ap (seats_under k) same in omega (arith, e); newest = newest }) failed lost) c.hand_back-in-Some-pop.ensures.met);
       failed = c.hand_back-in-Some-pop.ensures.failed ∙ failed ∙ c.loop-peer.invariant.failed;
+      hands = λ tells none kept.
+          let was = c.loop-peer.invariant.hands tells none (sym lost ∙ (c.hand_back-in-Some-pop.ensures.met.counted kept).0) in
+          let some = ap length (sym are ∙ was.1) in
+          let wrong : ⊥ = omega (arith, some, both) in
+          absurd wrong;
       due = λ limit moves tells. due_then _ _ (c.loop-peer.invariant.due limit moves tells) (due_from _ _ {other = record { seats = c.company-in-loop-peer.inside.seats.items; guests = c.pop-in-loop-peer.new.self.items; failed = c.company-in-loop-peer.inside.failed; lost = c.company-in-loop-peer.inside.lost; newest = c.company-in-loop-peer.inside.newest }} same failed lost (due_met _ _ c.hand_back-in-Some-pop.ensures.seats c.hand_back-in-Some-pop.ensures.met));
     }
 
@@ -96,3 +112,40 @@ returns-clause-due g c limit moves tells =
     let lost : c.company-in-loop-peer.inside.lost ≡ c.loop-peer.company.lost = search rules in
     let newest : c.company-in-loop-peer.inside.newest ≡ c.loop-peer.company.newest = search rules in
     due_then _ _ (c.loop-peer.invariant.due limit moves tells) (due_from _ _ same failed lost (due_none _ _))
+
+pub loop-seat-init : goal.loop-seat-init
+loop-seat-init g c = record {
+  none = c.requires.none;
+  failed = refl;
+  guests = refl;
+  due = λ limit moves tells. due_none _ _;
+  hands = λ tells kept. hands_none g.H.Way.Link.history c.args.company.now.seats (g.H.Hall.got c.args.hall.now);
+  met = met_none;
+}
+
+pub returns-clause-hands : goal.returns-clause-hands
+returns-clause-hands g c tells none kept =
+    let lost : c.company-in-loop-peer.inside.lost ≡ c.loop-peer.company.lost = search rules in
+    (c.loop-peer.invariant.hands tells none (sym lost ∙ kept)).0
+
+pub loop-peer-init : goal.loop-peer-init
+loop-peer-init g c =
+    let are : c.loop-seat.company.seats ≡ c.pop.new.self.items ++ [] = search rules in
+    let none : c.pop.new.self.items ≡ [] = search rules in
+    let behind : c.loop-seat.company.seats ≡ c.pop.new.self.items = are ∙ append-nil c.pop.new.self.items in
+    let many = ap length behind in
+    let same : c.company.inside.guests.items ≡ c.loop-seat.company.guests = search rules in
+    let guests = ap length same in
+    let failed : c.company.inside.failed ≡ c.loop-seat.company.failed = search rules in
+    let lost : c.company.inside.lost ≡ c.loop-seat.company.lost = search rules in
+    let newest : c.company.inside.newest ≡ c.loop-seat.company.newest = search rules in
+    record {
+      seats = none;
+      hands = λ tells alone kept. (
+        hands_whole g.H.Way.Link.history c.args.company.now.seats c.loop-seat.company.seats (g.H.Hall.got c.args.hall.now) (g.H.Hall.got c.loop-seat.hall) (behind ∙ none) (c.loop-seat.invariant.hands tells (sym lost ∙ kept)),
+        same ∙ c.loop-seat.invariant.guests ∙ alone,
+      );
+      failed = failed ∙ c.loop-seat.invariant.failed;
+      due = λ limit moves tells. due_then _ _ (c.loop-seat.invariant.due limit moves tells) (due_from _ _ (sym behind) failed lost (due_none _ _));
+      met = met_then c.loop-seat.invariant.met (still_met (record { links = omega (arith, many, guests); fewer = λ k. let e = ap (seats_under k) behind in omega (arith, e); newest = newest }) failed lost);
+    }

@@ -1,7 +1,8 @@
-use Rattle.std.proofs.Common.{rules, ◌≡◌, ◌∙◌, ◌++◌, ◌∷◌, [], ap, arith, length, length-append}
+use Rattle.std.proofs.Common.{rules, ◌≡◌, ◌∙◌, ◌++◌, ◌∷◌, [], ap, arith, length, length-append, sym}
 use Rattle.wq_run.specs.Seats.{seats_under}
 use Rattle.wq_run.proofs.Companies.{is_then, man_as, met_then, still_met, valid_then}
-use Rattle.wq_run.proofs.Duly.{due_from, due_met, due_none, due_then, stopped_on}
+use Rattle.wq_run.proofs.Duly.{fine_before}
+use Rattle.wq_run.proofs.Duties.{due_from, due_none, due_stopped, due_then, stopped_on}
 use Rattle.wq_run.proofs.company.rounds.dismiss.Goals as goal
 
 pub dismiss_last-requires-clause-valid : goal.dismiss_last-requires-clause-valid
@@ -42,7 +43,8 @@ loop-peer-preserved g c =
       seats = c.hand_back.ensures.seats ∙ same ∙ c.loop-peer.invariant.seats;
       listens = λ is. c.hand_back.ensures.listens (c.loop-peer.invariant.listens is);
       met = met_then c.loop-peer.invariant.met (met_then (still_met (record { links = omega (arith, many, both, seats); fewer = λ k. let e = ap (seats_under k) same in omega (arith, e); newest = newest }) failed lost) c.hand_back.ensures.met);
-      due = λ limit tells stopped. due_then _ _ (c.loop-peer.invariant.due limit tells stopped) (due_from _ _ {other = record { seats = c.company.inside.seats.items; guests = c.pop.new.self.items; failed = c.company.inside.failed; lost = c.company.inside.lost; newest = c.company.inside.newest }} same failed lost (due_met _ _ c.hand_back.ensures.seats c.hand_back.ensures.met));
+      due = λ limit tells stopped. due_then _ _ (c.loop-peer.invariant.due limit tells stopped) (due_stopped _ _ (λ none fine kept. stopped_on _ _ (c.loop-peer.invariant.due limit tells stopped) stopped none
+          (sym failed ∙ fine_before c.company.inside.failed c.hand_back.new.company.failed c.hand_back.ensures.met.stays fine) (sym lost ∙ (c.hand_back.ensures.met.counted kept).0)));
     }
 
 pub returns-clause-manned : goal.returns-clause-manned

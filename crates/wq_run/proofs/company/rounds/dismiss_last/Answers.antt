@@ -4,7 +4,7 @@ use Rattle.flow_types.specs.declared.numbers.LinkNo.{LinkNo}
 use Rattle.wq_run.specs.Seats.{one_under, seats_under}
 use Rattle.wq_run.proofs.Companies.{last_is, last_parts, met_then, still_met}
 use Rattle.wq_run.proofs.Counting.{seated_split}
-use Rattle.wq_run.proofs.Duly.{due_from, due_last, due_none}
+use Rattle.wq_run.proofs.Duties.{due_from, due_last, due_none}
 use Rattle.wq_run.proofs.company.rounds.dismiss_last.Goals as goal
 
 pub part-requires-clause-parting : goal.part-requires-clause-parting

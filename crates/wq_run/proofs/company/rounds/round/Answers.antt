@@ -1,6 +1,6 @@
 use Rattle.std.proofs.Common.{◌≡◌, ◌∙◌, ap, sym}
 use Rattle.wq_run.proofs.Companies.{man_as, met_same, met_then}
-use Rattle.wq_run.proofs.Duly.{due_as, due_met, due_of, due_then}
+use Rattle.wq_run.proofs.Duties.{due_as, due_met, due_of, due_then}
 use Rattle.wq_run.proofs.company.rounds.round.Goals as goal
 use Rattle.wq_run.proofs.company.rounds.round.Goals.{else-not-is_turn-via-then-not-is_turn+else-not-asks_hall, else-not-is_turn-via-else-not-is_turn}
 
@@ -40,9 +40,9 @@ returns-then-not-asks_hall-clause-due g c tells = due_as _ _ (sym c.asks_hall.en
 pub returns-then-did-clause-due : goal.returns-then-did-clause-due
 returns-then-did-clause-due g c tells =
     let same : c.else-not-is_turn.company ≡ c.greet_all-joined.new.company = elim c.else-not-is_turn.branch [ else-not-is_turn-via-then-not-is_turn+else-not-asks_hall w ↦ w.company-is ∙ w.asks_hall.ensures | else-not-is_turn-via-else-not-is_turn w ↦ w.company-is ] in
-    due_then _ _ (due_of _ _ c.has_turn-is_turn.ensures (due_then _ _ (c.visit_all-told.ensures.due tells) (c.greet_all-joined.ensures.due c.args.limit c.visit_all-told.new.held.halt tells))) (due_of _ _ same (due_met _ _ c.meet-came.ensures.seats c.meet-came.ensures.met))
+    due_then _ _ (due_of _ _ c.has_turn-is_turn.ensures (due_then _ _ (c.visit_all-told.ensures.due tells) (c.greet_all-joined.ensures.due c.args.limit c.visit_all-told.new.held.halt tells))) (due_of _ _ same (due_met _ _ c.meet-came.ensures.seats c.meet-came.ensures.kept c.meet-came.ensures.met))
 
 pub returns-else-did-clause-due : goal.returns-else-did-clause-due
 returns-else-did-clause-due g c tells =
     let same : c.else-not-is_turn.company ≡ c.greet_all-joined.new.company = elim c.else-not-is_turn.branch [ else-not-is_turn-via-then-not-is_turn+else-not-asks_hall w ↦ w.company-is ∙ w.asks_hall.ensures | else-not-is_turn-via-else-not-is_turn w ↦ w.company-is ] in
-    due_then _ _ (due_of _ _ c.has_turn-is_turn.ensures (due_then _ _ (c.visit_all-told.ensures.due tells) (c.greet_all-joined.ensures.due c.args.limit c.visit_all-told.new.held.halt tells))) (due_of _ _ same (due_met _ _ c.meet-came.ensures.seats c.meet-came.ensures.met))
+    due_then _ _ (due_of _ _ c.has_turn-is_turn.ensures (due_then _ _ (c.visit_all-told.ensures.due tells) (c.greet_all-joined.ensures.due c.args.limit c.visit_all-told.new.held.halt tells))) (due_of _ _ same (due_met _ _ c.meet-came.ensures.seats c.meet-came.ensures.kept c.meet-came.ensures.met))

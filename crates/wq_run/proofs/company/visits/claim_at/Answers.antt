@@ -5,7 +5,8 @@ use Rattle.wq_run.specs.Seats.{SeatState, seats_under}
 use Rattle.wq_run.proofs.Companies.{got_at, link_stays, set_many, set_seated, visited}
 use Rattle.wq_run.proofs.Splits.{split_at}
 use Rattle.wq_run.proofs.Visits.{visit_at}
-use Rattle.wq_run.proofs.Duly.{due_as, due_none, dues_at}
+use Rattle.wq_run.proofs.Shares.{apart_at}
+use Rattle.wq_run.proofs.Duties.{at_none, dues_at}
 use Rattle.wq_run.proofs.company.visits.claim_at.Goals as goal
 
 none_of : {X : Type 0} (o : Option X) → is_none o ≡ true → o ≡ None
@@ -63,10 +64,11 @@ returns-clause-due g c limit tells =
     ap (λ (xs : List (SeatState g.row.H-Way.Denot)). slice_get xs c.args.at) (sym are) ∙ got_at c.company.inside.seats.items c.args.at c.in-Some.seat.now c.in-Some.ensures.item.0 c.in-Some.ensures.item.1 in
     let split = split_at c.args.company.now.seats c.args.at c.in-Some.seat.now there in
     dues_at _ _ _ _ c.args.at split.before c.in-Some.seat.now c.claim.new.self split.behind c.claim.result split.place split.are
-    (ap (λ (xs : List (SeatState g.row.H-Way.Denot)). slice_set xs c.args.at c.claim.new.self) are ∙ split.set c.claim.new.self) (search rules) (search rules) (c.claim.ensures.fares limit tells)
+    (ap (λ (xs : List (SeatState g.row.H-Way.Denot)). slice_set xs c.args.at c.claim.new.self) are ∙ split.set c.claim.new.self) (search rules) (search rules)
+    (apart_at c.args.desk.now.plan c.args.desk.now.options c.args.desk.now.moves split.before c.in-Some.seat.now split.behind c.args.company.now.seats split.are c.requires.manned.manned.placed) (c.claim.ensures.fares limit tells)
 
 pub returns-in_default-clause-due : goal.returns-in_default-clause-due
-returns-in_default-clause-due g c limit tells = λ got. due_as _ _ (sym c.company.view_is) (due_none _ _)
+returns-in_default-clause-due g c limit tells = at_none _ _ c.args.at _ (sym c.company.view_is)
 
 pub returns-then-not-is_going-clause-due : goal.returns-then-not-is_going-clause-due
-returns-then-not-is_going-clause-due g c limit tells = λ got. due_none _ _
+returns-then-not-is_going-clause-due g c limit tells = at_none _ _ c.args.at _ refl

@@ -5,7 +5,8 @@ use Rattle.wq_run.specs.Seats.{SeatState, seats_under}
 use Rattle.wq_run.proofs.Companies.{got_at, link_stays, set_many, set_seated, visited}
 use Rattle.wq_run.proofs.Splits.{split_at}
 use Rattle.wq_run.proofs.Visits.{visit_at}
-use Rattle.wq_run.proofs.Duly.{due_as, due_none, dues_at}
+use Rattle.wq_run.proofs.Shares.{apart_at}
+use Rattle.wq_run.proofs.Duties.{at_none, dues_at}
 use Rattle.wq_run.proofs.company.visits.hear_at.Goals as goal
 
 pub serve-requires-clause-at : goal.serve-requires-clause-at
@@ -54,7 +55,8 @@ returns-clause-due g c tells =
     ap (λ (xs : List (SeatState g.row.H-Way.Denot)). slice_get xs c.args.at) (sym are) ∙ got_at c.company.inside.seats.items c.args.at c.in-Some.seat.now c.in-Some.ensures.item.0 c.in-Some.ensures.item.1 in
     let split = split_at c.args.company.now.seats c.args.at c.in-Some.seat.now there in
     dues_at _ _ _ _ c.args.at split.before c.in-Some.seat.now c.serve.new.self split.behind c.serve.result split.place split.are
-    (ap (λ (xs : List (SeatState g.row.H-Way.Denot)). slice_set xs c.args.at c.serve.new.self) are ∙ split.set c.serve.new.self) (search rules) (search rules) (c.serve.ensures.fares tells)
+    (ap (λ (xs : List (SeatState g.row.H-Way.Denot)). slice_set xs c.args.at c.serve.new.self) are ∙ split.set c.serve.new.self) (search rules) (search rules)
+    (apart_at c.args.desk.now.plan c.args.desk.now.options c.args.desk.now.moves split.before c.in-Some.seat.now split.behind c.args.company.now.seats split.are c.requires.manned.manned.placed) (c.serve.ensures.fares tells)
 
 pub returns-in_default-clause-due : goal.returns-in_default-clause-due
-returns-in_default-clause-due g c tells = λ got. due_as _ _ (sym c.company.view_is) (due_none _ _)
+returns-in_default-clause-due g c tells = at_none _ _ c.args.at _ (sym c.company.view_is)

@@ -3,7 +3,9 @@ use Rattle.wq_run.proofs.Companies.{inside_parts, met_then, still_met, valid_par
 use Rattle.local_run.specs.Underway.{IsSurePool}
 use Rattle.wq_run.specs.Dues.{IsIllLink, MayLeaveAt}
 use Rattle.wq_run.specs.Seats.{CompanyState, IsPartingAt, PartsAt, SeatState}
-use Rattle.wq_run.proofs.Duly.{but_left, due_then_left, left_met_as, may_leave}
+use Rattle.wq_run.proofs.Duly.{but_left, left_met_as, may_leave}
+use Rattle.wq_run.proofs.Duties.{at_ok, due_left, due_then_left, earns_then}
+use Rattle.wq_run.proofs.Leaving.{left_kept}
 use Rattle.wq_run.proofs.company.visits.visit.Goals as goal
 
 pub part_at-requires-clause-valid : goal.part_at-requires-clause-valid
@@ -40,14 +42,16 @@ returns-in-Err-clause-met g c =
     met_then (still_met (record { links = omega (arith, many, guests); fewer = λ k. let e = c.hear_at.ensures.numbers k in omega (arith, e); newest = c.hear_at.ensures.newest }) c.hear_at.ensures.failed c.hear_at.ensures.lost) (met_then (left_met_as c.in-Err.leave c.hear_at.new.company c.leaves.new.self c.leaves.ensures.left) c.part_at.ensures.met)
 
 pub returns-in-Ok-clause-due : goal.returns-in-Ok-clause-due
-returns-in-Ok-clause-due g c tells = c.in-Ok.ensures.due tells _
+returns-in-Ok-clause-due g c tells = at_ok _ _ _ (c.in-Ok.ensures.due tells)
 
 pub returns-in-Err-clause-due : goal.returns-in-Err-clause-due
 returns-in-Err-clause-due g c tells =
     let was = c.hear_at.new.company in
     let left = c.leaves.ensures.left in
-    let dues = c.in-Err.ensures.due tells in
+    let keeps = c.in-Err.ensures.due tells in
+    let dues = keeps.dues in
     due_then_left _ _ c.args.at (λ before first due. but_left _ _ c.hear_at.new.desk.moves first c.hear_at.new.held.halt (g.H.Hall.got c.args.hall.now) before c.args.at c.in-Err.leave was c.leaves.new.self left (dues.goes (g.H.Hall.got c.args.hall.now) before first due))
+    (earns_then _ _ (keeps.earns (g.H.Hall.got c.args.hall.now)) (due_left _ _ c.in-Err.leave was c.leaves.new.self left (left_kept c.in-Err.leave was.lost)).earns)
     (c.part_at.ensures.due c.args.limit tells (λ none fine kept.
     subst (MayLeaveAt (IsIllLink g.F.Commands.gives g.F.Commands.may_fail g.H.Way.Link.history g.H.Way.Link.count g.H.Way.Link.idle_count g.H.Way.Link.is_closed c.args.limit) c.hear_at.new.desk.moves c.args.at) (sym (ap (λ (x : CompanyState g.row.H-Way.Denot). x.seats) c.leaves.ensures.left))
     (may_leave _ g.H.Way.Link.history c.hear_at.new.desk.moves c.args.at was.seats c.in-Err.leave was.lost (dues.leaves none) (sym (ap (λ (x : CompanyState g.row.H-Way.Denot). x.lost) left) ∙ kept))))

@@ -1,7 +1,7 @@
 use Rattle.local_run.specs.Underway.{IsSurePool}
 use Rattle.wq_run.proofs.Companies.{is_then, met_then, same_met, valid_then}
 use Rattle.wq_run.proofs.Trusts.{of_manned}
-use Rattle.wq_run.proofs.Duly.{due_none, due_then}
+use Rattle.wq_run.proofs.Duties.{due_none, due_then}
 use Rattle.wq_run.proofs.company.visits.visit_all.Goals as goal
 
 pub loop-at-init : goal.loop-at-init

@@ -11,14 +11,14 @@ returns-in-Ok g c = record {
       (changes_keep g.T.Terms.trust g.F.Commands.gives g.F.Commands.may_fail g.T.Terms.sources g.S.Site.tells g.T.Terms.kept (IsSurePool g.B.Terms.fits) g.S.Site.files g.S.Site.may_leave g.S.Site.moment g.S.Site.images_since c.args.desk.now c.change.new.desk held c.args.self.now c.link.result c.args.total c.args.largest c.args.cache c.change.result c.change.ensures.reply
       (λ away first waiting heard u. c.change.ensures.underway away first held.attempts waiting None heard held.halt u));
   did = refl;
-  fares = λ limit halt before tells offers. fares_changed c.args.self.now c.args.self.now c.args.desk.now c.change.new.desk c.link.result c.args.total c.args.largest c.args.cache c.change.result _ refl c.change.ensures.reply offers tt;
+  fares = λ limit halt before tells offers. fares_changed c.args.self.now c.args.self.now c.args.desk.now c.change.new.desk c.link.result c.args.total c.args.largest c.args.cache c.change.result _ refl c.change.ensures.reply offers c.link.ensures (c.requires.came tells) tt;
 }
 
 pub returns-in-Err-Memory-clause-fares : goal.returns-in-Err-Memory-clause-fares
-returns-in-Err-Memory-clause-fares g c limit halt before tells offers = fares_changed c.args.self.now c.args.self.now c.args.desk.now c.change.new.desk c.link.result c.args.total c.args.largest c.args.cache c.change.result _ refl c.change.ensures.reply offers tt
+returns-in-Err-Memory-clause-fares g c limit halt before tells offers = fares_changed c.args.self.now c.args.self.now c.args.desk.now c.change.new.desk c.link.result c.args.total c.args.largest c.args.cache c.change.result _ refl c.change.ensures.reply offers c.link.ensures (c.requires.came tells) tt
 
 pub returns-in-Err-clause-fares : goal.returns-in-Err-clause-fares
 returns-in-Err-clause-fares g c limit halt before tells offers =
     let other : c.in-Err.field-0 ≢ refused.Memory = search rules in
-    fares_changed c.args.self.now c.args.self.now c.args.desk.now c.change.new.desk c.link.result c.args.total c.args.largest c.args.cache c.change.result _ refl c.change.ensures.reply offers
+    fares_changed c.args.self.now c.args.self.now c.args.desk.now c.change.new.desk c.link.result c.args.total c.args.largest c.args.cache c.change.result _ refl c.change.ensures.reply offers c.link.ensures (c.requires.came tells)
     (inr (changes_full c.args.desk.now c.change.new.desk c.link.result c.args.total c.args.largest c.args.cache c.in-Err.field-0 c.in-Err.ensures.reply other))

@@ -12,6 +12,7 @@ use Rattle.wq_run.proofs.Asks.{begin_at, begin_fresh, begin_keeps, keeps_still}
 use Rattle.wq_run.proofs.Shares.{keeps_then, leaves_then}
 use Rattle.wq_run.proofs.Steps.{begins_by, rests_by}
 use Rattle.wq_run.proofs.Trusts.{of_goes}
+use Rattle.wq_run.proofs.Earned.{unlinked_by}
 use Rattle.wq_run.proofs.Fares.{fares_behind, fares_err, fares_ok, fares_spared_same, fares_stopped_same, same_way}
 use Rattle.wq_run.proofs.seat.Seat.claim.Goals as goal
 
@@ -44,21 +45,27 @@ hand_out-requires-clause-at g c κs within =
 pub returns-in-Ok : goal.returns-in-Ok
 returns-in-Ok g c =
     let begins = (begins_by g.T.Terms.trust g.F.Commands.gives g.F.Commands.may_fail g.T.Terms.sources g.S.Site.tells g.T.Terms.kept (IsSurePool g.B.Terms.fits) g.S.Site.files g.S.Site.may_leave g.S.Site.moment g.S.Site.images_since c.args.desk.now c.claim_away.new.desk c.args.held.now c.in-Ok-Taken.attempt c.claim_away.result c.requires.going (c.in-Ok-Taken.is ∙ ap (λ (x : Claim). let r : Result Claim Halt = Ok x in r) c.in-Ok-Taken.field-0-is) (λ away front back first xs waiting heard are u. c.claim_away.ensures.underway away front back first xs waiting heard are u)) in
+    let is = c.requires.at in
+    let unlinked = (unlinked_by g.T.Terms.trust g.F.Commands.gives g.F.Commands.may_fail g.T.Terms.sources g.S.Site.tells g.S.Site.files g.S.Site.may_leave g.S.Site.moment g.S.Site.images_since is.at.away.links is.first c.args.desk.now c.claim_away.new.desk is.at.under.goes
+    (begins is.at.away (is.front ++ c.args.self.now.attempts) is.back is.first is.waiting is.heard (is.at.are ∙ sym (append_assoc is.front c.args.self.now.attempts is.back)) is.at.under).goes) in
     record {
       keeps = keeps_then g.T.Terms.trust g.F.Commands.gives g.F.Commands.may_fail g.T.Terms.sources g.S.Site.tells g.T.Terms.kept (IsSurePool g.B.Terms.fits) g.S.Site.files g.S.Site.may_leave g.S.Site.moment g.S.Site.images_since c.args.desk.now c.claim_away.new.desk c.hand_out.new.desk c.args.held.now c.args.held.now c.hand_out.new.held c.args.self.now (seat_with c.args.self.now (c.args.self.now.attempts ++ (c.in-Ok-Taken.attempt ∷ []))) c.hand_out.new.self
           (begin_keeps g.T.Terms.trust g.F.Commands.gives g.F.Commands.may_fail g.T.Terms.sources g.S.Site.tells g.T.Terms.kept (IsSurePool g.B.Terms.fits) g.S.Site.files g.S.Site.may_leave g.S.Site.moment g.S.Site.images_since c.args.desk.now c.claim_away.new.desk c.args.held.now c.args.self.now c.in-Ok-Taken.attempt ((subst (IsClaimed c.claim_away.new.desk c.link.result) c.in-Ok-Taken.field-0-is c.in-Ok-Taken.ensures.told.1).0 ∙ c.link.ensures) begins c.requires.at)
           c.in-Ok.ensures.keeps;
-      fares = λ limit tells. fares_ok (fares_behind refl (same_way g.L.Link.history c.args.self.now c.args.self.now refl) c.in-Ok-Taken.ensures.spares (λ n was. was) (c.in-Ok.ensures.fares limit tells));
+      fares = λ limit tells. fares_ok (fares_behind refl (same_way g.L.Link.history c.args.self.now c.args.self.now refl) c.in-Ok-Taken.ensures.spares unlinked (λ n was. was) (c.in-Ok.ensures.fares limit tells));
     }
 
 pub returns-in-Err-hand_out : goal.returns-in-Err-hand_out
 returns-in-Err-hand_out g c =
     let begins = (begins_by g.T.Terms.trust g.F.Commands.gives g.F.Commands.may_fail g.T.Terms.sources g.S.Site.tells g.T.Terms.kept (IsSurePool g.B.Terms.fits) g.S.Site.files g.S.Site.may_leave g.S.Site.moment g.S.Site.images_since c.args.desk.now c.claim_away.new.desk c.args.held.now c.in-Ok-Taken.attempt c.claim_away.result c.requires.going (c.in-Ok-Taken.is ∙ ap (λ (x : Claim). let r : Result Claim Halt = Ok x in r) c.in-Ok-Taken.field-0-is) (λ away front back first xs waiting heard are u. c.claim_away.ensures.underway away front back first xs waiting heard are u)) in
+    let is = c.requires.at in
+    let unlinked = (unlinked_by g.T.Terms.trust g.F.Commands.gives g.F.Commands.may_fail g.T.Terms.sources g.S.Site.tells g.S.Site.files g.S.Site.may_leave g.S.Site.moment g.S.Site.images_since is.at.away.links is.first c.args.desk.now c.claim_away.new.desk is.at.under.goes
+    (begins is.at.away (is.front ++ c.args.self.now.attempts) is.back is.first is.waiting is.heard (is.at.are ∙ sym (append_assoc is.front c.args.self.now.attempts is.back)) is.at.under).goes) in
     record {
       keeps = leaves_then g.T.Terms.trust g.F.Commands.gives g.F.Commands.may_fail g.T.Terms.sources g.S.Site.tells g.T.Terms.kept (IsSurePool g.B.Terms.fits) g.S.Site.files g.S.Site.may_leave g.S.Site.moment g.S.Site.images_since c.args.desk.now c.claim_away.new.desk c.hand_out.new.desk c.args.held.now c.args.held.now c.hand_out.new.held c.args.self.now (seat_with c.args.self.now (c.args.self.now.attempts ++ (c.in-Ok-Taken.attempt ∷ []))) c.hand_out.new.self
           (begin_keeps g.T.Terms.trust g.F.Commands.gives g.F.Commands.may_fail g.T.Terms.sources g.S.Site.tells g.T.Terms.kept (IsSurePool g.B.Terms.fits) g.S.Site.files g.S.Site.may_leave g.S.Site.moment g.S.Site.images_since c.args.desk.now c.claim_away.new.desk c.args.held.now c.args.self.now c.in-Ok-Taken.attempt ((subst (IsClaimed c.claim_away.new.desk c.link.result) c.in-Ok-Taken.field-0-is c.in-Ok-Taken.ensures.told.1).0 ∙ c.link.ensures) begins c.requires.at)
           c.in-Err-hand_out.ensures.keeps;
-      fares = λ limit tells. fares_err (fares_behind refl (same_way g.L.Link.history c.args.self.now c.args.self.now refl) c.in-Ok-Taken.ensures.spares (λ n was. was) (c.in-Err-hand_out.ensures.fares limit tells));
+      fares = λ limit tells. fares_err (fares_behind refl (same_way g.L.Link.history c.args.self.now c.args.self.now refl) c.in-Ok-Taken.ensures.spares unlinked (λ n was. was) (c.in-Err-hand_out.ensures.fares limit tells));
     }
 
 pub returns-in-Ok-Nothing : goal.returns-in-Ok-Nothing
@@ -67,7 +74,13 @@ returns-in-Ok-Nothing g c = record {
       (rests_by g.T.Terms.trust g.F.Commands.gives g.F.Commands.may_fail g.T.Terms.sources g.S.Site.tells g.T.Terms.kept (IsSurePool g.B.Terms.fits) g.S.Site.files g.S.Site.may_leave g.S.Site.moment g.S.Site.images_since c.args.desk.now c.claim_away.new.desk c.args.held.now c.args.held.now c.claim_away.result c.requires.going
       (λ front back away. ap (λ (x : Result Claim Halt). claimed_by x front back away) (c.in-Ok-Nothing.is ∙ ap (λ (x : Claim). let r : Result Claim Halt = Ok x in r) c.in-Ok-Nothing.field-0-is)) refl
       (c.requires.going ∙ sym (ap (λ (x : Result Claim Halt). halt_after x None) c.in-Ok-Nothing.is)) (λ away front back first xs waiting heard are u. c.claim_away.ensures.underway away front back first xs waiting heard are u)) c.requires.at;
-  fares = λ limit tells. fares_spared_same c.in-Ok-Nothing.ensures.spares;
+  fares = λ limit tells.
+      let is = c.requires.at in
+      fares_spared_same c.in-Ok-Nothing.ensures.spares
+      (unlinked_by g.T.Terms.trust g.F.Commands.gives g.F.Commands.may_fail g.T.Terms.sources g.S.Site.tells g.S.Site.files g.S.Site.may_leave g.S.Site.moment g.S.Site.images_since is.at.away.links is.first c.args.desk.now c.claim_away.new.desk is.at.under.goes
+      ((rests_by g.T.Terms.trust g.F.Commands.gives g.F.Commands.may_fail g.T.Terms.sources g.S.Site.tells g.T.Terms.kept (IsSurePool g.B.Terms.fits) g.S.Site.files g.S.Site.may_leave g.S.Site.moment g.S.Site.images_since c.args.desk.now c.claim_away.new.desk c.args.held.now c.args.held.now c.claim_away.result c.requires.going
+      (λ front back away. ap (λ (x : Result Claim Halt). claimed_by x front back away) (c.in-Ok-Nothing.is ∙ ap (λ (x : Claim). let r : Result Claim Halt = Ok x in r) c.in-Ok-Nothing.field-0-is)) refl
+      (c.requires.going ∙ sym (ap (λ (x : Result Claim Halt). halt_after x None) c.in-Ok-Nothing.is)) (λ away front back first xs waiting heard are u. c.claim_away.ensures.underway away front back first xs waiting heard are u)) is.at.away is.first is.waiting is.heard is.at.under).goes);
 }
 
 pub returns-in-Err : goal.returns-in-Err

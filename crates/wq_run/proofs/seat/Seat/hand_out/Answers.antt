@@ -69,5 +69,5 @@ returns-then-not-is_new g c = record {
 
 pub returns-else-not-is_new-clause-fares : goal.returns-else-not-is_new-clause-fares
 returns-else-not-is_new-clause-fares g c limit tells =
-    fares_behind (ap (λ (s : SeatState g.row.L.Denot). s.link) c.in-Ok.ensures.held) (same_way g.L.Link.history c.args.self.now c.hold.new.self (ap (λ (s : SeatState g.row.L.Denot). s.peer.way) c.in-Ok.ensures.held)) (spares_same c.args.desk.now.moves c.args.desk.now.moves refl) (heard_same g.L.Link.history c.args.self.now.peer c.hold.new.self.peer (ap (λ (s : SeatState g.row.L.Denot). s.peer) c.in-Ok.ensures.held))
+    fares_behind (ap (λ (s : SeatState g.row.L.Denot). s.link) c.in-Ok.ensures.held) (same_way g.L.Link.history c.args.self.now c.hold.new.self (ap (λ (s : SeatState g.row.L.Denot). s.peer.way) c.in-Ok.ensures.held)) (spares_same c.args.desk.now.moves c.args.desk.now.moves refl) refl (heard_same g.L.Link.history c.args.self.now.peer c.hold.new.self.peer (ap (λ (s : SeatState g.row.L.Denot). s.peer) c.in-Ok.ensures.held))
     (c.start.ensures.fares limit tells)

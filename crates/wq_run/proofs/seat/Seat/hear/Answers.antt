@@ -42,7 +42,7 @@ close-requires-clause-gone g c κs within = (heard_of g.T.Terms.trust g.F.Comman
 pub returns-in-Ok-Finish : goal.returns-in-Ok-Finish
 returns-in-Ok-Finish g c = record {
   keeps = keeps_then g.T.Terms.trust g.F.Commands.gives g.F.Commands.may_fail g.T.Terms.sources g.S.Site.tells g.T.Terms.kept (IsSurePool g.B.Terms.fits) g.S.Site.files g.S.Site.may_leave g.S.Site.moment g.S.Site.images_since c.args.desk.now c.args.desk.now c.close.new.desk c.args.held.now c.args.held.now c.close.new.held c.args.self.now c.next.new.self c.close.new.self (heard_keeps g.T.Terms.trust g.F.Commands.gives g.F.Commands.may_fail g.T.Terms.sources g.S.Site.tells g.T.Terms.kept (IsSurePool g.B.Terms.fits) g.S.Site.files g.S.Site.may_leave g.S.Site.moment g.S.Site.images_since c.args.desk.now c.args.held.now c.args.self.now c.next.new.self (tell.Finish c.in-Ok-Finish.attempt c.in-Ok-Finish.outs) c.next.ensures.link c.next.ensures.attempts (subst (λ (x : Told). let r : Result Told Leave = Ok x in c.args.self.now.peer.feed.stop ≡ None → Hears c.args.self.now.peer.feed c.args.self.now.peer.session r c.next.new.self.peer.feed c.next.new.self.peer.session) c.in-Ok-Finish.field-0-is c.in-Ok-Finish.ensures.hears)) c.close.ensures.keeps;
-  fares = λ limit tells. fares_ok (fares_behind c.next.ensures.link (same_way g.L.Link.history c.args.self.now c.next.new.self c.next.ensures.way) (spares_same c.args.desk.now.moves c.args.desk.now.moves refl) (c.in-Ok-Finish.ensures.heard tells) (c.close.ensures.fares limit tells));
+  fares = λ limit tells. fares_ok (fares_behind c.next.ensures.link (same_way g.L.Link.history c.args.self.now c.next.new.self c.next.ensures.way) (spares_same c.args.desk.now.moves c.args.desk.now.moves refl) refl (c.in-Ok-Finish.ensures.heard tells) (c.close.ensures.fares limit tells));
   rests = λ not. absurd (true≢false not);
 }
 
@@ -65,7 +65,7 @@ close-requires-in-Ok-Fail-clause-gone g c κs within = (heard_of g.T.Terms.trust
 pub returns-in-Ok-Fail : goal.returns-in-Ok-Fail
 returns-in-Ok-Fail g c = record {
   keeps = keeps_then g.T.Terms.trust g.F.Commands.gives g.F.Commands.may_fail g.T.Terms.sources g.S.Site.tells g.T.Terms.kept (IsSurePool g.B.Terms.fits) g.S.Site.files g.S.Site.may_leave g.S.Site.moment g.S.Site.images_since c.args.desk.now c.args.desk.now c.close-in-Ok-Fail.new.desk c.args.held.now c.args.held.now c.close-in-Ok-Fail.new.held c.args.self.now c.next.new.self c.close-in-Ok-Fail.new.self (heard_keeps g.T.Terms.trust g.F.Commands.gives g.F.Commands.may_fail g.T.Terms.sources g.S.Site.tells g.T.Terms.kept (IsSurePool g.B.Terms.fits) g.S.Site.files g.S.Site.may_leave g.S.Site.moment g.S.Site.images_since c.args.desk.now c.args.held.now c.args.self.now c.next.new.self (tell.Fail c.in-Ok-Fail.attempt c.in-Ok-Fail.why) c.next.ensures.link c.next.ensures.attempts (subst (λ (x : Told). let r : Result Told Leave = Ok x in c.args.self.now.peer.feed.stop ≡ None → Hears c.args.self.now.peer.feed c.args.self.now.peer.session r c.next.new.self.peer.feed c.next.new.self.peer.session) c.in-Ok-Fail.field-0-is c.in-Ok-Fail.ensures.hears)) c.close-in-Ok-Fail.ensures.keeps;
-  fares = λ limit tells. fares_ok (fares_behind c.next.ensures.link (same_way g.L.Link.history c.args.self.now c.next.new.self c.next.ensures.way) (spares_same c.args.desk.now.moves c.args.desk.now.moves refl) (c.in-Ok-Fail.ensures.heard tells) (c.close-in-Ok-Fail.ensures.fares limit tells));
+  fares = λ limit tells. fares_ok (fares_behind c.next.ensures.link (same_way g.L.Link.history c.args.self.now c.next.new.self c.next.ensures.way) (spares_same c.args.desk.now.moves c.args.desk.now.moves refl) refl (c.in-Ok-Fail.ensures.heard tells) (c.close-in-Ok-Fail.ensures.fares limit tells));
   rests = λ not. absurd (true≢false not);
 }
 
@@ -88,7 +88,7 @@ close-requires-in-Ok-Lose-clause-gone g c κs within = (heard_of g.T.Terms.trust
 pub returns-in-Ok-Lose : goal.returns-in-Ok-Lose
 returns-in-Ok-Lose g c = record {
   keeps = keeps_then g.T.Terms.trust g.F.Commands.gives g.F.Commands.may_fail g.T.Terms.sources g.S.Site.tells g.T.Terms.kept (IsSurePool g.B.Terms.fits) g.S.Site.files g.S.Site.may_leave g.S.Site.moment g.S.Site.images_since c.args.desk.now c.args.desk.now c.close-in-Ok-Lose.new.desk c.args.held.now c.args.held.now c.close-in-Ok-Lose.new.held c.args.self.now c.next.new.self c.close-in-Ok-Lose.new.self (heard_keeps g.T.Terms.trust g.F.Commands.gives g.F.Commands.may_fail g.T.Terms.sources g.S.Site.tells g.T.Terms.kept (IsSurePool g.B.Terms.fits) g.S.Site.files g.S.Site.may_leave g.S.Site.moment g.S.Site.images_since c.args.desk.now c.args.held.now c.args.self.now c.next.new.self (tell.Lose c.in-Ok-Lose.attempt) c.next.ensures.link c.next.ensures.attempts (subst (λ (x : Told). let r : Result Told Leave = Ok x in c.args.self.now.peer.feed.stop ≡ None → Hears c.args.self.now.peer.feed c.args.self.now.peer.session r c.next.new.self.peer.feed c.next.new.self.peer.session) c.in-Ok-Lose.field-0-is c.in-Ok-Lose.ensures.hears)) c.close-in-Ok-Lose.ensures.keeps;
-  fares = λ limit tells. fares_ok (fares_behind c.next.ensures.link (same_way g.L.Link.history c.args.self.now c.next.new.self c.next.ensures.way) (spares_same c.args.desk.now.moves c.args.desk.now.moves refl) (c.in-Ok-Lose.ensures.heard tells) (c.close-in-Ok-Lose.ensures.fares limit tells));
+  fares = λ limit tells. fares_ok (fares_behind c.next.ensures.link (same_way g.L.Link.history c.args.self.now c.next.new.self c.next.ensures.way) (spares_same c.args.desk.now.moves c.args.desk.now.moves refl) refl (c.in-Ok-Lose.ensures.heard tells) (c.close-in-Ok-Lose.ensures.fares limit tells));
   rests = λ not. absurd (true≢false not);
 }
 
@@ -136,14 +136,14 @@ returns-in-Ok-Changed g c = record {
 pub returns-in-Ok : goal.returns-in-Ok
 returns-in-Ok g c = record {
   keeps = keeps_then g.T.Terms.trust g.F.Commands.gives g.F.Commands.may_fail g.T.Terms.sources g.S.Site.tells g.T.Terms.kept (IsSurePool g.B.Terms.fits) g.S.Site.files g.S.Site.may_leave g.S.Site.moment g.S.Site.images_since c.args.desk.now c.args.desk.now c.put_again.new.desk c.args.held.now c.args.held.now c.put_again.new.held c.args.self.now c.next.new.self c.put_again.new.self (heard_keeps g.T.Terms.trust g.F.Commands.gives g.F.Commands.may_fail g.T.Terms.sources g.S.Site.tells g.T.Terms.kept (IsSurePool g.B.Terms.fits) g.S.Site.files g.S.Site.may_leave g.S.Site.moment g.S.Site.images_since c.args.desk.now c.args.held.now c.args.self.now c.next.new.self (tell.PutAgain c.in-Ok-PutAgain.attempt c.in-Ok-PutAgain.files) c.next.ensures.link c.next.ensures.attempts (subst (λ (x : Told). let r : Result Told Leave = Ok x in c.args.self.now.peer.feed.stop ≡ None → Hears c.args.self.now.peer.feed c.args.self.now.peer.session r c.next.new.self.peer.feed c.next.new.self.peer.session) c.in-Ok-PutAgain.field-0-is c.in-Ok-PutAgain.ensures.hears)) c.in-Ok.ensures.keeps;
-  fares = λ limit tells. fares_ok (fares_behind c.next.ensures.link (same_way g.L.Link.history c.args.self.now c.next.new.self c.next.ensures.way) (spares_same c.args.desk.now.moves c.args.desk.now.moves refl) (c.in-Ok-PutAgain.ensures.heard tells) (c.in-Ok.ensures.fares limit tells));
+  fares = λ limit tells. fares_ok (fares_behind c.next.ensures.link (same_way g.L.Link.history c.args.self.now c.next.new.self c.next.ensures.way) (spares_same c.args.desk.now.moves c.args.desk.now.moves refl) refl (c.in-Ok-PutAgain.ensures.heard tells) (c.in-Ok.ensures.fares limit tells));
   rests = λ not. absurd (true≢false not);
 }
 
 pub returns-in-Ok-PutAgain : goal.returns-in-Ok-PutAgain
 returns-in-Ok-PutAgain g c = record {
   keeps = leaves_then g.T.Terms.trust g.F.Commands.gives g.F.Commands.may_fail g.T.Terms.sources g.S.Site.tells g.T.Terms.kept (IsSurePool g.B.Terms.fits) g.S.Site.files g.S.Site.may_leave g.S.Site.moment g.S.Site.images_since c.args.desk.now c.args.desk.now c.put_again.new.desk c.args.held.now c.args.held.now c.put_again.new.held c.args.self.now c.next.new.self c.put_again.new.self (heard_keeps g.T.Terms.trust g.F.Commands.gives g.F.Commands.may_fail g.T.Terms.sources g.S.Site.tells g.T.Terms.kept (IsSurePool g.B.Terms.fits) g.S.Site.files g.S.Site.may_leave g.S.Site.moment g.S.Site.images_since c.args.desk.now c.args.held.now c.args.self.now c.next.new.self (tell.PutAgain c.in-Ok-PutAgain.attempt c.in-Ok-PutAgain.files) c.next.ensures.link c.next.ensures.attempts (subst (λ (x : Told). let r : Result Told Leave = Ok x in c.args.self.now.peer.feed.stop ≡ None → Hears c.args.self.now.peer.feed c.args.self.now.peer.session r c.next.new.self.peer.feed c.next.new.self.peer.session) c.in-Ok-PutAgain.field-0-is c.in-Ok-PutAgain.ensures.hears)) c.in-Err-put_again.ensures.keeps;
-  fares = λ limit tells. fares_err (fares_behind c.next.ensures.link (same_way g.L.Link.history c.args.self.now c.next.new.self c.next.ensures.way) (spares_same c.args.desk.now.moves c.args.desk.now.moves refl) (c.in-Ok-PutAgain.ensures.heard tells) (c.in-Err-put_again.ensures.fares limit tells));
+  fares = λ limit tells. fares_err (fares_behind c.next.ensures.link (same_way g.L.Link.history c.args.self.now c.next.new.self c.next.ensures.way) (spares_same c.args.desk.now.moves c.args.desk.now.moves refl) refl (c.in-Ok-PutAgain.ensures.heard tells) (c.in-Err-put_again.ensures.fares limit tells));
   rests = tt;
 }
 
@@ -179,3 +179,7 @@ returns-clause-fares g c limit tells = fares_still c.next.ensures.link (same_way
 pub close-requires-in-Ok-Lose-clause-back : goal.close-requires-in-Ok-Lose-clause-back
 close-requires-in-Ok-Lose-clause-back g c κs within tells =
     subst (λ (x : Told). let r : Result Told Leave = Ok x in Shows (g.L.Link.history c.next.new.self.peer.way) r) c.in-Ok-Lose.field-0-is (c.in-Ok-Lose.ensures.shows tells)
+
+pub change-requires-clause-came : goal.change-requires-clause-came
+change-requires-clause-came g c κs within tells =
+    subst (λ (x : Told). let r : Result Told Leave = Ok x in Shows (g.L.Link.history c.next.new.self.peer.way) r) c.in-Ok-Changed.field-0-is (c.in-Ok-Changed.ensures.shows tells)

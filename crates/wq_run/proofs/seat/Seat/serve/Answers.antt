@@ -63,6 +63,7 @@ returns-then-is_silent g c = record {
         loses = fares.loses;
         leaves = λ none. (let rests = c.in-Ok-false.ensures.rests c.in-Ok-false.field-0-test none in inl (c.is_silent.ensures.ill c.if-is_silent.true tells rests.0 (rests.1 (inl tells))));
         counts = λ none n was. let is = fares.counts none n was in record { now = is.now; came = is.came; heard = tt; enough = is.enough };
+        states = fares.states;
       };
 }
 

@@ -35,7 +35,7 @@ returns-in-Ok g c =
     let of = c.in-Some.ensures.of in
     record {
       keeps = after_then g.T.Terms.trust g.F.Commands.gives g.F.Commands.may_fail g.T.Terms.sources g.S.Site.tells g.T.Terms.kept (IsSurePool g.B.Terms.fits) g.S.Site.files g.S.Site.may_leave g.S.Site.moment g.S.Site.images_since c.args.desk.now c.args.desk.now c.provide.new.desk c.args.held.now c.args.held.now c.provide.new.held c.args.self.now c.open.new.self c.provide.new.self c.provide.result (open_keeps g.T.Terms.trust g.F.Commands.gives g.F.Commands.may_fail g.T.Terms.sources g.S.Site.tells g.T.Terms.kept (IsSurePool g.B.Terms.fits) g.S.Site.files g.S.Site.may_leave g.S.Site.moment g.S.Site.images_since c.args.desk.now c.args.held.now c.args.self.now c.open.new.self c.args.number of.0 of.1 of.2 c.in-Some.task of.3 of.4 of.5 c.open.ensures.link c.open.ensures.attempts (c.in-Ok.ensures.ok) c.open.ensures.feed) c.provide.ensures.keeps;
-      fares = λ limit tells. fares_behind c.open.ensures.link (same_way g.L.Link.history c.args.self.now c.open.new.self c.open.ensures.way) (spares_same c.args.desk.now.moves c.args.desk.now.moves refl) (heard_fed g.L.Link.history c.args.self.now.peer c.open.new.self.peer (same_way g.L.Link.history c.args.self.now c.open.new.self c.open.ensures.way) c.open.ensures.feed) (c.provide.ensures.fares limit tells);
+      fares = λ limit tells. fares_behind c.open.ensures.link (same_way g.L.Link.history c.args.self.now c.open.new.self c.open.ensures.way) (spares_same c.args.desk.now.moves c.args.desk.now.moves refl) refl (heard_fed g.L.Link.history c.args.self.now.peer c.open.new.self.peer (same_way g.L.Link.history c.args.self.now c.open.new.self c.open.ensures.way) c.open.ensures.feed) (c.provide.ensures.fares limit tells);
     }
 
 pub returns-in-Err : goal.returns-in-Err
