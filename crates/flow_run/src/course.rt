@@ -21,6 +21,7 @@ ghost use Rattle.local_run.specs.Runs.{IsClosedRun, IsCutRun, IsHallEnd, LosesNo
 ghost use Rattle.wq_run.specs.Losses.{AreDueLosses};
 ghost use Rattle.wq_run.specs.Trusted.{IsOf};
 ghost use Rattle.wq_run.specs.Ends.{AreBack, EndsHere, IsSparedRunners, LosesOnLinks, StopsBy};
+ghost use Rattle.wq_run.specs.Vain.{AreVain, IfWaited};
 
 use desk::{Desk, Terms};
 use links::Hall;
@@ -105,6 +106,11 @@ pub fn work<
     ensures waited { desk.old.options.wq ≡ true → IfOk result (EndsHere desk.new.plan
         desk.new.options workers.limit (H.idle_count hall.new - H.idle_count hall.old)
         desk.new.moves) }
+    ensures vain { desk.old.options.wq ≡ true → H.Way.tells
+        → joins_and_changes desk.old.moves ≡ 0 → IfOk result (λ check. IfWaited check (AreVain
+        F.gives F.may_fail H.Way.history H.Way.count H.Way.idle_count H.Way.is_closed
+        workers.limit desk.new.plan desk.new.options (before_end (records_of desk.new.moves))
+        (H.got hall.old) (H.got hall.new))) }
     ensures lost { desk.old.options.wq ≡ false
         → (began : List RecordValue) → BeganOver desk.old began
         → OnOk result (LosesNone (records_of desk.old.moves) (records_of desk.new.moves)) }

@@ -29,6 +29,7 @@ ghost use Rattle.local_run.specs.Runs.{IsCutRun, IsHallEnd, IsSparedName, LosesN
 ghost use Rattle.local_run.specs.Runs.{read_sources};
 ghost use Rattle.wq_run.specs.Ends.{AreBack, EndsWaiting, IsSparedRunners, LosesOnLinks};
 ghost use Rattle.wq_run.specs.Losses.{AreDueLosses};
+ghost use Rattle.wq_run.specs.Vain.{AreVain, IfWaited};
 ghost use Rattle.flow_run.specs.Places.{PlacedBy};
 
 use crate::runs::run;
@@ -123,6 +124,10 @@ pub fn resume<
     ensures waited { IfOk result (λ ended. options.wq ≡ true → IfOk ended.how
         (EndsWaiting plan options workers.limit
         (H.idle_count hall.new - H.idle_count hall.old) ended.records)) }
+    ensures vain { IfOk result (λ ended. options.wq ≡ true → H.Way.tells
+        → IfOk ended.how (λ check. IfWaited check (AreVain F.gives F.may_fail H.Way.history
+        H.Way.count H.Way.idle_count H.Way.is_closed workers.limit plan options
+        (before_end ended.records) (H.got hall.old) (H.got hall.new)))) }
     ensures others { IfOk result (λ ended. S.tells → StaysBeside S.may_leave S.moment
         S.images_since (IsUnmade plan «name») site ended.site) }
     ensures reads { IfOk result (λ ended. S.tells

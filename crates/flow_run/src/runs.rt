@@ -32,6 +32,7 @@ ghost use Rattle.local_run.specs.Runs.{IsCutRun, IsHallEnd, IsKeeping, IsSparedN
 ghost use Rattle.local_run.specs.Runs.{LosesNone, SerialFits, read_sources};
 ghost use Rattle.wq_run.specs.Ends.{AreBack, EndsWaiting, IsSparedRunners, LosesOnLinks};
 ghost use Rattle.wq_run.specs.Losses.{AreDueLosses};
+ghost use Rattle.wq_run.specs.Vain.{AreVain, IfWaited};
 ghost use Rattle.wq_run.specs.Trusted.{IsOf};
 ghost use Rattle.flow_run.specs.Places.{PlacedBy};
 ghost use Rattle.flow_run.specs.Relied.{IsRelied};
@@ -107,6 +108,10 @@ fn run_desk<
     ensures waited { desk.options.wq ≡ true → IfOk result.how
         (EndsWaiting desk.plan desk.options workers.limit
         (H.idle_count hall.new - H.idle_count hall.old) result.records) }
+    ensures vain { desk.options.wq ≡ true → H.Way.tells → joins_and_changes desk.moves ≡ 0
+        → IfOk result.how (λ check. IfWaited check (AreVain F.gives F.may_fail H.Way.history
+        H.Way.count H.Way.idle_count H.Way.is_closed workers.limit desk.plan desk.options
+        (before_end result.records) (H.got hall.old) (H.got hall.new))) }
     ensures others { S.tells → LeavesAlone S.files S.may_leave S.moment S.images_since
         (IsUnmade desk.plan desk.log) desk.site result.site }
     ensures kept { S.tells → T.kept → (image : Files)
@@ -219,6 +224,10 @@ fn run_by<
         ≡ end_over plan options (before_end result.records) None) }
     ensures waited { options.wq ≡ true → IfOk result.how (EndsWaiting plan options workers.limit
         (H.idle_count hall.new - H.idle_count hall.old) result.records) }
+    ensures vain { options.wq ≡ true → H.Way.tells
+        → IfOk result.how (λ check. IfWaited check (AreVain F.gives F.may_fail H.Way.history
+        H.Way.count H.Way.idle_count H.Way.is_closed workers.limit plan options
+        (before_end result.records) (H.got hall.old) (H.got hall.new))) }
     ensures others { S.tells → StaysBeside S.may_leave S.moment S.images_since
         (IsUnmade plan log.name) site result.site }
     ensures reads { S.tells
@@ -334,6 +343,10 @@ pub fn run<
         ≡ end_over plan options (before_end result.records) None) }
     ensures waited { options.wq ≡ true → IfOk result.how (EndsWaiting plan options workers.limit
         (H.idle_count hall.new - H.idle_count hall.old) result.records) }
+    ensures vain { options.wq ≡ true → H.Way.tells
+        → IfOk result.how (λ check. IfWaited check (AreVain F.gives F.may_fail H.Way.history
+        H.Way.count H.Way.idle_count H.Way.is_closed workers.limit plan options
+        (before_end result.records) (H.got hall.old) (H.got hall.new))) }
     ensures others { S.tells → StaysBeside S.may_leave S.moment S.images_since
         (IsUnmade plan log.name) site result.site }
     ensures reads { S.tells

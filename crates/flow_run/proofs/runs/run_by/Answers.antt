@@ -29,6 +29,7 @@ use Rattle.local_run.proofs.Openings.{opens_by}
 use Rattle.wq_run.specs.Ends.{EndsWaiting, LosesOnLinks}
 use Rattle.flow_run.specs.Places.{PlacedBy}
 use Rattle.wq_run.specs.Losses.{AreDueLosses}
+use Rattle.wq_run.specs.Vain.{AreVain, IfWaited}
 use Rattle.flow_run.proofs.Losses.{loses_begun}
 use Rattle.flow_run.proofs.Dues.{by_either, due_begun, due_none, joins_begun}
 use Rattle.flow_run.proofs.Placed.{placed_none}
@@ -115,6 +116,17 @@ returns-in-Ok-clause-waited g c alone =
     let rise = g.H.Hall.idle_count c.run_desk.new.hall - g.H.Hall.idle_count c.args.hall.now in
     subst (λ (P : Plan). IfOk c.run_desk.result.how (EndsWaiting P c.args.options limit rise c.run_desk.result.records)) b.plan
     (subst (λ (O : Options). IfOk c.run_desk.result.how (EndsWaiting c.in-Ok.desk.plan O limit rise c.run_desk.result.records)) b.options (c.run_desk.ensures.waited (ap (λ (O : Options). O.wq) b.options ∙ alone)))
+
+pub returns-in-Ok-clause-vain : goal.returns-in-Ok-clause-vain
+returns-in-Ok-clause-vain g c away tells =
+    let b : IsBegun (g.S.Site.count c.args.site) c.args.plan c.args.options c.args.log.name c.args.history g.F.Commands.may_fail (serial c.args.plan g.F.Commands.gives g.T.Terms.sources) c.in-Ok.desk = (begun g.S.Site.count c.args.plan c.args.options c.args.log.name c.args.history c.now.result g.S.Site.tells (g.S.Site.files c.args.site) c.args.site g.F.Commands.may_fail (serial c.args.plan g.F.Commands.gives g.T.Terms.sources) c.in-Ok.desk c.in-Ok.ensures.reply) in
+    let how = c.run_desk.result.how in
+    let ended = before_end c.run_desk.result.records in
+    let got = g.H.Hall.got c.args.hall.now in
+    let got_now = g.H.Hall.got c.run_desk.new.hall in
+    subst (λ (P : Plan). IfOk how (λ check. IfWaited check (AreVain g.F.Commands.gives g.F.Commands.may_fail g.H.Way.Link.history g.H.Way.Link.count g.H.Way.Link.idle_count g.H.Way.Link.is_closed c.args.workers.limit P c.args.options ended got got_now))) b.plan
+    (subst (λ (O : Options). IfOk how (λ check. IfWaited check (AreVain g.F.Commands.gives g.F.Commands.may_fail g.H.Way.Link.history g.H.Way.Link.count g.H.Way.Link.idle_count g.H.Way.Link.is_closed c.args.workers.limit c.in-Ok.desk.plan O ended got got_now))) b.options
+    (c.run_desk.ensures.vain (ap (λ (O : Options). O.wq) b.options ∙ away) tells (joins_begun c.in-Ok.desk c.args.history b.over)))
 
 pub returns-in-Ok-clause-lost_away : goal.returns-in-Ok-clause-lost_away
 returns-in-Ok-clause-lost_away g c =

@@ -21,6 +21,7 @@ use Rattle.local_run.proofs.Going.{goes_records}
 use Rattle.local_run.proofs.Openings.{opens_on}
 use Rattle.wq_run.specs.Ends.{EndsWaiting, LosesOnLinks}
 use Rattle.wq_run.specs.Losses.{AreDueLosses}
+use Rattle.wq_run.specs.Vain.{AreVain, IfWaited}
 use Rattle.flow_run.proofs.Placed.{placed_by}
 use Rattle.flow_run.proofs.Stops.{causes_stop, fine_stop, hall_stop, started_stop, starts_stop, stop_kept, waits_logged}
 use Rattle.flow_run.proofs.runs.run_desk.Goals as goal
@@ -81,6 +82,17 @@ returns-clause-waited g c apart =
     (subst (λ (P : Plan). IfOk c.work-how.result (EndsWaiting P c.args.desk.options limit rise (records_of c.work-how.new.desk.moves))) c.work-how.ensures.goes.1.plan
     (subst (λ (O : Options). IfOk c.work-how.result (EndsWaiting c.work-how.new.desk.plan O limit rise (records_of c.work-how.new.desk.moves))) c.work-how.ensures.goes.1.options
     (waits_logged c.work-how.new.desk.plan c.work-how.new.desk.options limit rise c.work-how.new.desk.moves c.work-how.result (c.work-how.ensures.waited apart))))
+
+pub returns-clause-vain : goal.returns-clause-vain
+returns-clause-vain g c away tells unjoined =
+    let how = c.work-how.result in
+    let new = c.work-how.new.desk in
+    let got = g.H.Hall.got c.args.hall.now in
+    let got_now = g.H.Hall.got c.work-how.new.hall in
+    subst (λ (G : List Record). IfOk how (λ check. IfWaited check (AreVain g.F.Commands.gives g.F.Commands.may_fail g.H.Way.Link.history g.H.Way.Link.count g.H.Way.Link.idle_count g.H.Way.Link.is_closed c.args.workers.limit c.args.desk.plan c.args.desk.options (before_end G) got got_now))) (sym c.into_parts-site.ensures.records)
+    (subst (λ (P : Plan). IfOk how (λ check. IfWaited check (AreVain g.F.Commands.gives g.F.Commands.may_fail g.H.Way.Link.history g.H.Way.Link.count g.H.Way.Link.idle_count g.H.Way.Link.is_closed c.args.workers.limit P c.args.desk.options (before_end (records_of new.moves)) got got_now))) c.work-how.ensures.goes.1.plan
+    (subst (λ (O : Options). IfOk how (λ check. IfWaited check (AreVain g.F.Commands.gives g.F.Commands.may_fail g.H.Way.Link.history g.H.Way.Link.count g.H.Way.Link.idle_count g.H.Way.Link.is_closed c.args.workers.limit new.plan O (before_end (records_of new.moves)) got got_now))) c.work-how.ensures.goes.1.options
+    (c.work-how.ensures.vain away tells unjoined)))
 
 pub returns-clause-others : goal.returns-clause-others
 returns-clause-others g c told =
