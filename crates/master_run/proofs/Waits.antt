@@ -29,6 +29,8 @@ use Rattle.local_run.specs.declared.ended.Stopped.TheVariants as stopped
 use Rattle.local_run.specs.Ends.{IsRunEnd}
 use Rattle.local_run.proofs.EndKinds.{Says, least_says, so_says}
 use Rattle.wq_run.specs.Ends.{EndsWaiting, IsVain}
+use Rattle.wq_run.specs.Vain.{IfWaited as IfAnswered}
+use Rattle.flow_run.proofs.Dues.{by_either}
 use Rattle.command_words.specs.declared.options.Options.{Options}
 use Rattle.report.specs.declared.cause.Cause.{Cause}
 use Rattle.report.specs.declared.cause.Cause.TheVariants as causes
@@ -71,6 +73,11 @@ wait_says None roomy = tt
 wait_says (Some stops.Halt) roomy = tt
 wait_says (Some (stops.Waited idles)) roomy = least_says (Because (Some (stops.Waited idles))) roomy (λ r. check.Waited (record { idles = idles; rule = rule_no r })) (λ r. refl)
 
+-- if the answer is a wait, this holds of it
+abbrev Answers : (Wait → Type 0) → Check → Type 0
+Answers fact (check.Waited wait) = fact wait
+Answers fact ended = Unit {0}
+
 -- An end answers a wait only by a stop for it.
 waits_by : (P : Plan) (O : RunOptions) (H : List Record) (stop : Option Stop) → Because stop (end_over P O H stop)
 waits_by P O H stop =
@@ -108,32 +115,51 @@ damage_waits : (fact : Wait → Type 0) (source : Bool) (file : FileNo) (logged 
 damage_waits fact true file logged found = tt
 damage_waits fact false file logged found = tt
 
+-- where the cause of a run is a wait this holds of it, since the run answered it
+cause_waits : (fact : Wait → Type 0) (P : Plan) (s r h : Rise) (how : Result Check Stopped) → IfOk how (Answers fact) → IfWaited (run_cause s r h P how) fact
+cause_waits fact P s r h (Ok (check.Complete collected)) says = tt
+cause_waits fact P s r h (Ok (check.CommandFailed rule why)) says = tt
+cause_waits fact P s r h (Ok (check.InputsTooLarge rule total)) says = tt
+cause_waits fact P s r h (Ok (check.LogFull count)) says = tt
+cause_waits fact P s r h (Ok (check.NoRoom rule need bytes limit)) says = tt
+cause_waits fact P s r h (Ok (check.Waited wait)) says = says
+cause_waits fact P s r h (Ok check.Going) says = tt
+cause_waits fact P s r h (Ok check.Halted) says = tt
+cause_waits fact P s r h (Err (stopped.Refused (faults.OtherFlow logged found))) says = tt
+cause_waits fact P s r h (Err (stopped.Refused (faults.NotLegal at))) says = tt
+cause_waits fact P s r h (Err (stopped.Refused (faults.LogFull count))) says = tt
+cause_waits fact P s r h (Err (stopped.Refused (faults.StoredAboveLimit bytes limit))) says = tt
+cause_waits fact P s r h (Err (stopped.Refused (faults.SourceMissing file))) says = tt
+cause_waits fact P s r h (Err (stopped.Refused (faults.SourceTooLarge file size))) says = tt
+cause_waits fact P s r h (Err (stopped.Refused (faults.SourceChanged file logged found))) says = tt
+cause_waits fact P s r h (Err (stopped.Refused (faults.FileDamaged file logged found))) says = tt
+cause_waits fact P s r h (Err (stopped.Refused (faults.Site old new))) says = tt
+cause_waits fact P s r h (Err (stopped.Refused faults.Memory)) says = tt
+cause_waits fact P s r h (Err (stopped.Halted (halts.Damaged file logged found))) says = damage_waits fact (is_source P file.0) file logged found
+cause_waits fact P s r h (Err (stopped.Halted halts.Runner)) says = tt
+cause_waits fact P s r h (Err (stopped.Halted halts.Site)) says = tt
+cause_waits fact P s r h (Err (stopped.Halted halts.Memory)) says = tt
+cause_waits fact P s r h (Err stopped.Hall) says = tt
+
+waits_ended : (ask : Ask) (rise : ℕ) (records : List Record) (ended : Check) → (ask.options.wq ≡ false → IsRunEnd ask.options.limit ended) → (ask.options.wq ≡ true → EndsWaiting ask.plan ask.options ask.workers.limit rise records ended)
+    → Answers (WaitsInVain ask.plan ask.options ask.workers.limit rise records) ended
+waits_ended ask rise records (check.Waited wait) closed away = waits_in ask.options.wq ask.plan ask.options ask.workers.limit rise ask.options.limit records wait refl closed away
+waits_ended ask rise records _ closed away = tt
+
 -- where the cause of a run is a wait it waited in vain
 pub waited_run : (ask : Ask) (rise : ℕ) (s r h : Rise) (records : List Record) (how : Result Check Stopped) → (ask.options.wq ≡ false → IfOk how (IsRunEnd ask.options.limit)) → (ask.options.wq ≡ true → IfOk how (EndsWaiting ask.plan ask.options ask.workers.limit rise records))
     → IfWaited (run_cause s r h ask.plan how) (WaitsInVain ask.plan ask.options ask.workers.limit rise records)
-waited_run ask rise s r h records (Ok (check.Complete collected)) closed away = tt
-waited_run ask rise s r h records (Ok (check.CommandFailed rule why)) closed away = tt
-waited_run ask rise s r h records (Ok (check.InputsTooLarge rule total)) closed away = tt
-waited_run ask rise s r h records (Ok (check.LogFull count)) closed away = tt
-waited_run ask rise s r h records (Ok (check.NoRoom rule need bytes limit)) closed away = tt
-waited_run ask rise s r h records (Ok (check.Waited wait)) closed away = waits_in ask.options.wq ask.plan ask.options ask.workers.limit rise ask.options.limit records wait refl closed away
-waited_run ask rise s r h records (Ok check.Going) closed away = tt
-waited_run ask rise s r h records (Ok check.Halted) closed away = tt
-waited_run ask rise s r h records (Err (stopped.Refused (faults.OtherFlow logged found))) closed away = tt
-waited_run ask rise s r h records (Err (stopped.Refused (faults.NotLegal at))) closed away = tt
-waited_run ask rise s r h records (Err (stopped.Refused (faults.LogFull count))) closed away = tt
-waited_run ask rise s r h records (Err (stopped.Refused (faults.StoredAboveLimit bytes limit))) closed away = tt
-waited_run ask rise s r h records (Err (stopped.Refused (faults.SourceMissing file))) closed away = tt
-waited_run ask rise s r h records (Err (stopped.Refused (faults.SourceTooLarge file size))) closed away = tt
-waited_run ask rise s r h records (Err (stopped.Refused (faults.SourceChanged file logged found))) closed away = tt
-waited_run ask rise s r h records (Err (stopped.Refused (faults.FileDamaged file logged found))) closed away = tt
-waited_run ask rise s r h records (Err (stopped.Refused (faults.Site old new))) closed away = tt
-waited_run ask rise s r h records (Err (stopped.Refused faults.Memory)) closed away = tt
-waited_run ask rise s r h records (Err (stopped.Halted (halts.Damaged file logged found))) closed away = damage_waits (WaitsInVain ask.plan ask.options ask.workers.limit rise records) (is_source ask.plan file.0) file logged found
-waited_run ask rise s r h records (Err (stopped.Halted halts.Runner)) closed away = tt
-waited_run ask rise s r h records (Err (stopped.Halted halts.Site)) closed away = tt
-waited_run ask rise s r h records (Err (stopped.Halted halts.Memory)) closed away = tt
-waited_run ask rise s r h records (Err stopped.Hall) closed away = tt
+waited_run ask rise s r h records (Ok ended) closed away = cause_waits (WaitsInVain ask.plan ask.options ask.workers.limit rise records) ask.plan s r h (Ok ended) (waits_ended ask rise records ended closed away)
+waited_run ask rise s r h records (Err why) closed away = cause_waits (WaitsInVain ask.plan ask.options ask.workers.limit rise records) ask.plan s r h (Err why) tt
+
+vain_ended : (so : Type 0) (wq : Bool) (limit : Option ℕ) (ended : Check) → (wq ≡ false → IsRunEnd limit ended) → (wq ≡ true → IfAnswered ended so) → Answers (λ wait. so) ended
+vain_ended so wq limit (check.Waited wait) closed away = by_either wq (λ is. away is) (λ alone. absurd (closed alone))
+vain_ended so wq limit _ closed away = tt
+
+-- where the cause of a run is a wait what is so of it with workers is so
+pub vain_run : (so : Type 0) (wq : Bool) (limit : Option ℕ) (P : Plan) (s r h : Rise) (how : Result Check Stopped) → (wq ≡ false → IfOk how (IsRunEnd limit)) → (wq ≡ true → IfOk how (λ ended. IfAnswered ended so)) → IfWaited (run_cause s r h P how) (λ wait. so)
+vain_run so wq limit P s r h (Ok ended) closed away = cause_waits (λ (wait : Wait). so) P s r h (Ok ended) (vain_ended so wq limit ended closed away)
+vain_run so wq limit P s r h (Err why) closed away = cause_waits (λ (wait : Wait). so) P s r h (Err why) tt
 
 -- ---- of other calls
 

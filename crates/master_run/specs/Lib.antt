@@ -6,6 +6,7 @@ pub mod Prints
 pub mod Counts
 pub mod Ends
 pub mod Headline
+pub mod Vain
 pub mod Serves
 pub mod Stages
 pub mod Runs

@@ -3,6 +3,7 @@ ghost use Rattle.std.specs.Prelude.{◌≡◌, ◌≢◌, ◌≤◌, ◌<◌, �
 ghost use Rattle.std.specs.Prelude.{drop, false, length, map, sum_by};
 ghost use Rattle.flow_types.specs.declared.records.Record.{Record as RecordValue};
 ghost use Rattle.flow_types.specs.Plans.{IsValid};
+ghost use Rattle.run_history.specs.Answers.{before_end};
 ghost use Rattle.txn_log.specs.Spells.{Spells};
 ghost use Rattle.file_store.specs.Outputs.{file_name};
 ghost use Rattle.worker_pool.specs.Crews.{AllSure, AllTell};
@@ -13,6 +14,7 @@ ghost use Rattle.report.specs.Causes.{kind_of, may_lose};
 ghost use Rattle.master_run.specs.Ends.{counts};
 ghost use Rattle.wq_run.specs.Ends.{AreBack};
 ghost use Rattle.wq_run.specs.Losses.{AreDueLosses};
+ghost use Rattle.wq_run.specs.Vain.{AreVain};
 ghost use Rattle.master_run.specs.Headline.{FailureEnd, IfWaited, LogsFailed, WaitsInVain};
 ghost use Rattle.master_run.specs.Headline.{is_run_end};
 ghost use Rattle.master_run.specs.Serves.{IsCut, Serves};
@@ -93,6 +95,9 @@ fn run_by_all<
         → AreBack (H.got hall.old) (H.got hall.new) (H.given hall.old) (H.given hall.new) }
     ensures waited { IfWaited result.cause (WaitsInVain ask.plan ask.options ask.workers.limit
         (H.idle_count hall.new - H.idle_count hall.old) result.records) }
+    ensures vain { H.Way.tells → IfWaited result.cause (λ wait. AreVain F.gives F.may_fail
+        H.Way.history H.Way.count H.Way.idle_count H.Way.is_closed ask.workers.limit ask.plan
+        ask.options (before_end result.records) (H.got hall.old) (H.got hall.new)) }
     ensures due_losses { H.Way.tells → S.tells → (G : List RecordValue)
         → Spells G (S.files site ask.log) → IsFalse (may_lose (kind_of result.cause))
         → AreDueLosses F.gives F.may_fail H.Way.history H.Way.count H.Way.idle_count
@@ -200,6 +205,9 @@ pub fn run_flow<
         → AreBack (H.got hall.old) (H.got hall.new) (H.given hall.old) (H.given hall.new) }
     ensures waited { IfWaited result.cause (WaitsInVain ask.plan ask.options ask.workers.limit
         (H.idle_count hall.new - H.idle_count hall.old) result.records) }
+    ensures vain { H.Way.tells → IfWaited result.cause (λ wait. AreVain F.gives F.may_fail
+        H.Way.history H.Way.count H.Way.idle_count H.Way.is_closed ask.workers.limit ask.plan
+        ask.options (before_end result.records) (H.got hall.old) (H.got hall.new)) }
     ensures due_losses { H.Way.tells → S.tells → (G : List RecordValue)
         → Spells G (S.files site ask.log) → IsFalse (may_lose (kind_of result.cause))
         → AreDueLosses F.gives F.may_fail H.Way.history H.Way.count H.Way.idle_count

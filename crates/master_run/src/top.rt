@@ -4,6 +4,7 @@ ghost use Rattle.std.specs.Prelude.{drop, false, length, map, sum_by, true};
 ghost use Rattle.flow_types.specs.declared.records.Record.{Record as RecordValue};
 ghost use Rattle.flow_types.specs.Plans.{IsValid};
 ghost use Rattle.flow_types.specs.Serial.{serial};
+ghost use Rattle.run_history.specs.Answers.{before_end};
 ghost use Rattle.run_history.specs.History.{since_opening};
 ghost use Rattle.run_history.specs.Spent.{SpentOnce};
 ghost use Rattle.outside.specs.Disk.{IsImage};
@@ -24,6 +25,7 @@ ghost use Rattle.report.specs.Causes.{was_read};
 ghost use Rattle.master_run.specs.declared.ask.Ask.{Ask as AskValue};
 ghost use Rattle.wq_run.specs.Ends.{AreBack, LosesOnLinks};
 ghost use Rattle.wq_run.specs.Losses.{AreDueLosses};
+ghost use Rattle.wq_run.specs.Vain.{AreVain};
 ghost use Rattle.flow_run.specs.Places.{PlacedBy};
 ghost use Rattle.master_run.specs.Asked.{IsLocal, choice, request, run_mode, run_options};
 ghost use Rattle.master_run.specs.Asked.{workers_of};
@@ -34,6 +36,7 @@ ghost use Rattle.master_run.specs.Headline.{IsPlanOf, IsSpentBy, KeepsLimit, Log
 ghost use Rattle.master_run.specs.Headline.{WaitedBy, WaitsInVain, is_run_end, is_runner_fault};
 ghost use Rattle.master_run.specs.Prints.{Prints};
 ghost use Rattle.master_run.specs.Serves.{CanComplete, IsCut, Serves};
+ghost use Rattle.master_run.specs.Vain.{VainBy};
 
 use crate::ask::Ask;
 use crate::asking::read_ask;
@@ -124,6 +127,9 @@ fn serve<
         → AreBack (H.got hall.old) (H.got hall.new) (H.given hall.old) (H.given hall.new) }
     ensures waited { IfWaited result.cause (WaitsInVain ask.plan ask.options ask.workers.limit
         (H.idle_count hall.new - H.idle_count hall.old) result.records) }
+    ensures vain { H.Way.tells → IfWaited result.cause (λ wait. AreVain F.gives F.may_fail
+        H.Way.history H.Way.count H.Way.idle_count H.Way.is_closed ask.workers.limit ask.plan
+        ask.options (before_end result.records) (H.got hall.old) (H.got hall.new)) }
     ensures due_losses { H.Way.tells → S.tells → (G : List RecordValue)
         → Spells G (S.files site ask.log) → IsFalse (may_lose (kind_of result.cause))
         → AreDueLosses F.gives F.may_fail H.Way.history H.Way.count H.Way.idle_count
@@ -212,6 +218,11 @@ fn follow<
     ensures waited { (options : OptionsValue) → choice words.now ≡ Ok options
         → IfWaited result.cause (WaitsInVain result.plan (run_options options)
         options.limits.idle (H.idle_count hall.new - H.idle_count hall.old) result.records) }
+    ensures vain { H.Way.tells
+        → (options : OptionsValue) → choice words.now ≡ Ok options
+        → IfWaited result.cause (λ wait. AreVain F.gives F.may_fail H.Way.history H.Way.count
+        H.Way.idle_count H.Way.is_closed options.limits.idle result.plan (run_options options)
+        (before_end result.records) (H.got hall.old) (H.got hall.new)) }
     ensures due_losses { H.Way.tells → S.tells
         → (options : OptionsValue) → choice words.now ≡ Ok options → (ask : AskValue)
         → request words.now env.now (S.files site) ≡ Ok ask
@@ -369,6 +380,16 @@ pub fn makeflow_top<
         (λ plan. S.tells → IsPlanOf (request words.now env.now (S.files site)) plan)
         (run_options options) options.limits.idle
         (H.idle_count hall.new - H.idle_count hall.old) result.records result.cause }
+
+    // Where the hall's links tell their bytes, a call that ended so was handed back no link but ill
+    // ones and those over which came a hello or totals whose amounts, with nothing running there,
+    // none of the ready rules fits that may run at workers and fit the storage.
+    ensures vain { H.Way.tells
+        → (options : OptionsValue) → choice words.now ≡ Ok options
+        → VainBy F.gives F.may_fail H.Way.history H.Way.count H.Way.idle_count H.Way.is_closed
+        (λ plan. S.tells → IsPlanOf (request words.now env.now (S.files site)) plan)
+        (run_options options) options.limits.idle (H.got hall.old) (H.got hall.new)
+        result.records result.cause }
 
     // A crash at any moment since the entry leaves what it might have left before the log was read,
     // or the records that stood then and the first of those that were added, with every file that

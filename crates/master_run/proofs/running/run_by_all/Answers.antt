@@ -1,5 +1,7 @@
 use Rattle.std.proofs.Common.{◌≡◌, ◌<◌, ◌-◌, ◌∙◌, inl, ℕ, List, map, sum, sum_by, ap, sym, subst, refl, arith, false, true, true≢false}
 use Rattle.flow_types.specs.declared.records.Record.{Record}
+use Rattle.run_history.specs.declared.answers.Wait.{Wait}
+use Rattle.run_history.specs.Answers.{before_end}
 use Rattle.worker_pool.specs.Crews.{AllSure, AllTell}
 use Rattle.outside.proofs.Moments.{weakened}
 use Rattle.report.specs.declared.cause.Cause.{Cause}
@@ -16,10 +18,11 @@ use Rattle.log_recover.specs.Recovery.{IsRecovering}
 use Rattle.master_run.specs.Runs.{run_cause, unread_cause}
 use Rattle.wq_run.specs.Ends.{AreBack}
 use Rattle.wq_run.specs.Losses.{AreDueLosses}
+use Rattle.wq_run.specs.Vain.{AreVain}
 use Rattle.flow_run.proofs.Dues.{due_none}
 use Rattle.flow_run.proofs.Stops.{back_same}
 use Rattle.master_run.proofs.Ran.{closed_run, closed_starts, cut_run, failed_run, logged_run, loses_none, lost_run, over_run, ran_serves, run_faults, told_cause}
-use Rattle.master_run.proofs.Waits.{unread_waits, waited_run}
+use Rattle.master_run.proofs.Waits.{unread_waits, vain_run, waited_run}
 use Rattle.master_run.proofs.Refusals.{by_fault}
 use Rattle.master_run.proofs.Counted.{hall_rise, site_rise}
 use Rattle.master_run.proofs.Unread.{recovering_before, unread_cuts, unread_ends, unread_failed, unread_serves}
@@ -125,6 +128,21 @@ pub returns-clause-waited : goal.returns-clause-waited
 returns-clause-waited g c =
     subst (λ (cause : Cause). IfWaited cause (WaitsInVain c.args.ask.plan c.args.ask.options c.args.ask.workers.limit (g.H.Hall.idle_count c.resume.new.hall - g.H.Hall.idle_count c.args.hall.now) c.new-in-Err.result)) (sym c.unread_cause.ensures)
     (unread_waits (WaitsInVain c.args.ask.plan c.args.ask.options c.args.ask.workers.limit (g.H.Hall.idle_count c.resume.new.hall - g.H.Hall.idle_count c.args.hall.now) c.new-in-Err.result) (record { before = c.args.before; after = c.faults-after-in-Err.result }) c.in-Err.refused.why)
+
+pub returns-in-Ok-resume-clause-vain : goal.returns-in-Ok-resume-clause-vain
+returns-in-Ok-resume-clause-vain g c tells =
+    let same : c.run_cause.result ≡ run_cause (site_rise (counts c.args.before (map g.R.Runner.count c.args.runners.now) (g.H.Hall.count c.args.hall.now) (g.H.Hall.idle_count c.args.hall.now) 0) (counts (g.S.Site.count c.in-Ok-resume.ended.site) (map g.R.Runner.count c.resume.new.runners) (g.H.Hall.count c.resume.new.hall) (g.H.Hall.idle_count c.resume.new.hall) 0)) c.first_rise-runner.result (hall_rise (counts c.args.before (map g.R.Runner.count c.args.runners.now) (g.H.Hall.count c.args.hall.now) (g.H.Hall.idle_count c.args.hall.now) 0) (counts (g.S.Site.count c.in-Ok-resume.ended.site) (map g.R.Runner.count c.resume.new.runners) (g.H.Hall.count c.resume.new.hall) (g.H.Hall.idle_count c.resume.new.hall) 0)) c.args.ask.plan c.in-Ok-resume.ended.how =
+    c.run_cause.ensures ∙ told_cause c.args.before c.faults-after.result (g.S.Site.count c.in-Ok-resume.ended.site) c.faults-met.result (g.H.Hall.count c.args.hall.now) c.faults.result (g.H.Hall.count c.resume.new.hall) c.first_rise-runner.result c.in-Ok.copied c.args.ask.plan c.in-Ok-resume.ended.how c.faults-after.ensures c.faults-met.ensures c.faults.ensures c.in-Ok.ensures.0 in
+    let ended = c.in-Ok-resume.ended in
+    let so : Type 0 = AreVain g.F.Commands.gives g.F.Commands.may_fail g.H.Way.Link.history g.H.Way.Link.count g.H.Way.Link.idle_count g.H.Way.Link.is_closed c.args.ask.workers.limit c.args.ask.plan c.args.ask.options (before_end ended.records) (g.H.Hall.got c.args.hall.now) (g.H.Hall.got c.resume.new.hall) in
+    subst (λ (cause : Cause). IfWaited cause (λ wait. so)) (sym same)
+    (vain_run so c.args.ask.options.wq c.args.ask.options.limit c.args.ask.plan (site_rise (counts c.args.before (map g.R.Runner.count c.args.runners.now) (g.H.Hall.count c.args.hall.now) (g.H.Hall.idle_count c.args.hall.now) 0) (counts (g.S.Site.count c.in-Ok-resume.ended.site) (map g.R.Runner.count c.resume.new.runners) (g.H.Hall.count c.resume.new.hall) (g.H.Hall.idle_count c.resume.new.hall) 0)) c.first_rise-runner.result (hall_rise (counts c.args.before (map g.R.Runner.count c.args.runners.now) (g.H.Hall.count c.args.hall.now) (g.H.Hall.idle_count c.args.hall.now) 0) (counts (g.S.Site.count c.in-Ok-resume.ended.site) (map g.R.Runner.count c.resume.new.runners) (g.H.Hall.count c.resume.new.hall) (g.H.Hall.idle_count c.resume.new.hall) 0)) ended.how
+    (λ alone. c.in-Ok-resume.ensures.closed (c.requires.fits alone)) (λ away. c.in-Ok-resume.ensures.vain away tells))
+
+pub returns-clause-vain : goal.returns-clause-vain
+returns-clause-vain g c tells =
+    let so : Type 0 = AreVain g.F.Commands.gives g.F.Commands.may_fail g.H.Way.Link.history g.H.Way.Link.count g.H.Way.Link.idle_count g.H.Way.Link.is_closed c.args.ask.workers.limit c.args.ask.plan c.args.ask.options (before_end c.new-in-Err.result) (g.H.Hall.got c.args.hall.now) (g.H.Hall.got c.resume.new.hall) in
+    subst (λ (cause : Cause). IfWaited cause (λ wait. so)) (sym c.unread_cause.ensures) (unread_waits (λ (wait : Wait). so) (record { before = c.args.before; after = c.faults-after-in-Err.result }) c.in-Err.refused.why)
 
 pub returns-in_default-clause-due_losses : goal.returns-in_default-clause-due_losses
 returns-in_default-clause-due_losses g c tells t H spelled keeps = absurd (true≢false keeps)

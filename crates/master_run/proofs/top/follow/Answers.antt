@@ -2,7 +2,9 @@ use Rattle.std.proofs.Common.{◌≡◌, ◌∙◌, ◌-◌, ℕ, List, drop, ma
 use Rattle.outside.specs.Files.{Files}
 use Rattle.flow_types.specs.declared.plan.Plan.{Plan}
 use Rattle.flow_types.specs.declared.records.Record.{Record}
+use Rattle.run_history.specs.declared.answers.Wait.{Wait}
 use Rattle.run_history.specs.declared.options.Options.{Options as RunOptions}
+use Rattle.run_history.specs.Answers.{before_end}
 use Rattle.worker_pool.specs.Crews.{AllSure, AllTell}
 use Rattle.local_run.specs.Collecting.{RunCollects}
 use Rattle.local_run.specs.Ends.{OpensBy}
@@ -14,6 +16,7 @@ use Rattle.master_run.specs.declared.ask.Ask.{Ask}
 use Rattle.master_run.specs.declared.asking.Refusal.{Refusal}
 use Rattle.wq_run.specs.declared.workers.Workers.{Workers}
 use Rattle.wq_run.specs.Losses.{AreDueLosses}
+use Rattle.wq_run.specs.Vain.{AreVain}
 use Rattle.flow_run.proofs.Stops.{back_same}
 use Rattle.master_run.specs.declared.rises.Rise.{Rise}
 use Rattle.master_run.specs.Asked.{choice, request, run_mode, run_options}
@@ -86,6 +89,15 @@ returns-in-Ok-clause-waited g c options chosen =
     (subst (λ (O : RunOptions). IfWaited c.serve.result.cause (WaitsInVain c.in-Ok.ask.plan O options.limits.idle rise c.serve.result.records)) (c.in-Ok.ensures.goes_by options chosen)
     (subst (λ (w : Workers). IfWaited c.serve.result.cause (WaitsInVain c.in-Ok.ask.plan c.in-Ok.ask.options w.limit rise c.serve.result.records)) (c.in-Ok.ensures.meets options chosen) c.serve.ensures.waited))
 
+pub returns-in-Ok-clause-vain : goal.returns-in-Ok-clause-vain
+returns-in-Ok-clause-vain g c tells options chosen =
+    let got = g.H.Hall.got c.args.hall.now in
+    let got_now = g.H.Hall.got c.serve.new.hall in
+    let ended = before_end c.serve.result.records in
+    subst (λ (P : Plan). IfWaited c.serve.result.cause (λ wait. AreVain g.F.Commands.gives g.F.Commands.may_fail g.H.Way.Link.history g.H.Way.Link.count g.H.Way.Link.idle_count g.H.Way.Link.is_closed options.limits.idle P (run_options options) ended got got_now)) (sym c.serve.ensures.plan)
+    (subst (λ (O : RunOptions). IfWaited c.serve.result.cause (λ wait. AreVain g.F.Commands.gives g.F.Commands.may_fail g.H.Way.Link.history g.H.Way.Link.count g.H.Way.Link.idle_count g.H.Way.Link.is_closed options.limits.idle c.in-Ok.ask.plan O ended got got_now)) (c.in-Ok.ensures.goes_by options chosen)
+    (subst (λ (w : Workers). IfWaited c.serve.result.cause (λ wait. AreVain g.F.Commands.gives g.F.Commands.may_fail g.H.Way.Link.history g.H.Way.Link.count g.H.Way.Link.idle_count g.H.Way.Link.is_closed w.limit c.in-Ok.ask.plan c.in-Ok.ask.options ended got got_now)) (c.in-Ok.ensures.meets options chosen) (c.serve.ensures.vain tells)))
+
 pub returns-in-Err-clause-never : goal.returns-in-Err-clause-never
 returns-in-Err-clause-never g c is =
     rw c.refusal_cause.ensures ((refused_kind (record { before = c.faults-before.result; after = c.faults-after.result }) c.in-Err.refusal c.in-Err.ensures.kind).runs)
@@ -96,6 +108,10 @@ returns-in-Err-clause-back g c whole = back_same (g.H.Hall.got c.args.hall.now) 
 pub returns-in-Err-clause-waited : goal.returns-in-Err-clause-waited
 returns-in-Err-clause-waited g c options chosen =
     none_waits (WaitsInVain c.no_plan.result (run_options options) options.limits.idle (g.H.Hall.idle_count c.args.hall.now - g.H.Hall.idle_count c.args.hall.now) c.new.result) c.refusal_cause.result (rw c.refusal_cause.ensures ((refused_kind (record { before = c.faults-before.result; after = c.faults-after.result }) c.in-Err.refusal c.in-Err.ensures.kind).waits))
+
+pub returns-in-Err-clause-vain : goal.returns-in-Err-clause-vain
+returns-in-Err-clause-vain g c tells options chosen =
+    none_waits (λ (wait : Wait). AreVain g.F.Commands.gives g.F.Commands.may_fail g.H.Way.Link.history g.H.Way.Link.count g.H.Way.Link.idle_count g.H.Way.Link.is_closed options.limits.idle c.no_plan.result (run_options options) (before_end c.new.result) (g.H.Hall.got c.args.hall.now) (g.H.Hall.got c.args.hall.now)) c.refusal_cause.result (rw c.refusal_cause.ensures ((refused_kind (record { before = c.faults-before.result; after = c.faults-after.result }) c.in-Err.refusal c.in-Err.ensures.kind).waits))
 
 pub returns-in-Err-clause-ends : goal.returns-in-Err-clause-ends
 returns-in-Err-clause-ends g c told =

@@ -1,5 +1,6 @@
 use Rattle.std.proofs.Common.{◌≡◌, ◌-◌, ⊎_elim, inl, List, map, sum_by, string_bytes, sym, subst, refl, true, true≢false}
 use Rattle.flow_types.specs.declared.records.Record.{Record}
+use Rattle.run_history.specs.Answers.{before_end}
 use Rattle.worker_pool.specs.Crews.{AllSure, AllTell}
 use Rattle.local_run.specs.Moments.{IsMoment, KeepsSome}
 use Rattle.local_run.specs.Runs.{Held, SerialFits, read_sources}
@@ -19,6 +20,7 @@ use Rattle.run_history.proofs.Limits.{limit-legal}
 use Rattle.master_run.proofs.Unneeded.{drops_unneeded}
 use Rattle.wq_run.specs.Ends.{AreBack}
 use Rattle.wq_run.specs.Losses.{AreDueLosses}
+use Rattle.wq_run.specs.Vain.{AreVain}
 use Rattle.master_run.proofs.Reprinted.{after_closed, after_cut, after_failed, after_kept, after_legal, after_planned, after_run, after_spared, after_sure, after_untouched, after_waited, printed_ends, printed_fault, printed_serves, printed_words, run_read, stands, waited_ran}
 use Rattle.master_run.proofs.top.makeflow_top.Goals as goal
 
@@ -92,6 +94,15 @@ returns-clause-waited g c options chosen =
       plan = c.follow-course.result.plan;
       read = λ is. after_run (g.S.Site.tells → IsPlanOf (request c.args.words.now c.args.env.now (g.S.Site.files c.args.site)) c.follow-course.result.plan) (g.O.Sink.count c.args.out.now) (g.O.Sink.count c.tell-cause.new.out) c.follow-course.result.cause c.tell-cause.result (stands (g.O.Sink.count c.args.out.now) (g.O.Sink.count c.tell-cause.new.out) c.follow-course.result.cause c.tell-cause.result c.tell-cause.ensures.stands) (λ ends told. c.follow-course.ensures.planned told (run_read (kind_of c.follow-course.result.cause) ends)) (waited_ran (kind_of now) is);
       waits = after_waited (WaitsInVain c.follow-course.result.plan (run_options options) options.limits.idle (g.H.Hall.idle_count c.follow-course.new.hall - g.H.Hall.idle_count c.args.hall.now) c.follow-course.result.records) (g.O.Sink.count c.args.out.now) (g.O.Sink.count c.tell-cause.new.out) c.follow-course.result.cause c.tell-cause.result (stands (g.O.Sink.count c.args.out.now) (g.O.Sink.count c.tell-cause.new.out) c.follow-course.result.cause c.tell-cause.result c.tell-cause.ensures.stands) (c.follow-course.ensures.waited options chosen);
+    }
+
+pub returns-clause-vain : goal.returns-clause-vain
+returns-clause-vain g c tells options chosen =
+    let now = c.tell-cause.result in
+    record {
+      plan = c.follow-course.result.plan;
+      read = λ is. after_run (g.S.Site.tells → IsPlanOf (request c.args.words.now c.args.env.now (g.S.Site.files c.args.site)) c.follow-course.result.plan) (g.O.Sink.count c.args.out.now) (g.O.Sink.count c.tell-cause.new.out) c.follow-course.result.cause c.tell-cause.result (stands (g.O.Sink.count c.args.out.now) (g.O.Sink.count c.tell-cause.new.out) c.follow-course.result.cause c.tell-cause.result c.tell-cause.ensures.stands) (λ ends told. c.follow-course.ensures.planned told (run_read (kind_of c.follow-course.result.cause) ends)) (waited_ran (kind_of now) is);
+      vain = after_waited (λ wait. AreVain g.F.Commands.gives g.F.Commands.may_fail g.H.Way.Link.history g.H.Way.Link.count g.H.Way.Link.idle_count g.H.Way.Link.is_closed options.limits.idle c.follow-course.result.plan (run_options options) (before_end c.follow-course.result.records) (g.H.Hall.got c.args.hall.now) (g.H.Hall.got c.follow-course.new.hall)) (g.O.Sink.count c.args.out.now) (g.O.Sink.count c.tell-cause.new.out) c.follow-course.result.cause c.tell-cause.result (stands (g.O.Sink.count c.args.out.now) (g.O.Sink.count c.tell-cause.new.out) c.follow-course.result.cause c.tell-cause.result c.tell-cause.ensures.stands) (c.follow-course.ensures.vain tells options chosen);
     }
 
 pub returns-clause-moments : goal.returns-clause-moments

@@ -1,8 +1,11 @@
 use Rattle.std.proofs.Common.{◌∙◌, ◌+◌, ◌-◌, ℕ, [], map, sum_by, refl, arith, ap, sym, true≢false}
 use Rattle.flow_types.specs.declared.job.Job.{Job}
+use Rattle.run_history.specs.declared.answers.Wait.{Wait}
+use Rattle.run_history.specs.Answers.{before_end}
 use Rattle.worker_pool.specs.Crews.{AllSure, AllTell}
 use Rattle.master_run.specs.Ends.{counts}
 use Rattle.report.specs.Causes.{kind_of}
+use Rattle.wq_run.specs.Vain.{AreVain}
 use Rattle.flow_run.proofs.Dues.{due_none}
 use Rattle.flow_run.proofs.Stops.{back_same}
 use Rattle.master_run.specs.Headline.{WaitsInVain}
@@ -74,3 +77,11 @@ returns-in-Clean-clause-due_losses g c tells t H spelled keeps =
 pub returns-in-PrintLog-clause-due_losses : goal.returns-in-PrintLog-clause-due_losses
 returns-in-PrintLog-clause-due_losses g c tells t H spelled keeps =
     due_none g.F.Commands.gives g.F.Commands.may_fail g.H.Way.Link.history g.H.Way.Link.count g.H.Way.Link.idle_count g.H.Way.Link.is_closed c.args.ask.workers.limit (g.H.Hall.got c.args.hall.now) (g.H.Hall.got c.args.hall.now) H c.read_log.result.records refl (c.read_log.ensures.loses_none t H spelled (loses_cut (kind_of c.read_log.result.cause) keeps))
+
+pub returns-in-Clean-clause-vain : goal.returns-in-Clean-clause-vain
+returns-in-Clean-clause-vain g c tells =
+    still_waits (λ (wait : Wait). AreVain g.F.Commands.gives g.F.Commands.may_fail g.H.Way.Link.history g.H.Way.Link.count g.H.Way.Link.idle_count g.H.Way.Link.is_closed c.args.ask.workers.limit c.args.ask.plan c.args.ask.options (before_end c.clean_flow.result.records) (g.H.Hall.got c.args.hall.now) (g.H.Hall.got c.args.hall.now)) c.clean_flow.result.cause c.clean_flow.ensures.runs_not
+
+pub returns-in-PrintLog-clause-vain : goal.returns-in-PrintLog-clause-vain
+returns-in-PrintLog-clause-vain g c tells =
+    still_waits (λ (wait : Wait). AreVain g.F.Commands.gives g.F.Commands.may_fail g.H.Way.Link.history g.H.Way.Link.count g.H.Way.Link.idle_count g.H.Way.Link.is_closed c.args.ask.workers.limit c.args.ask.plan c.args.ask.options (before_end c.read_log.result.records) (g.H.Hall.got c.args.hall.now) (g.H.Hall.got c.args.hall.now)) c.read_log.result.cause c.read_log.ensures.runs_not
