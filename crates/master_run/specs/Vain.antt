@@ -14,7 +14,7 @@ use Rattle.report.specs.Causes.{kind_of}
 use Rattle.wq_run.specs.Vain.{AreVain}
 use Rattle.master_run.specs.Headline.{IfWaited, is_waited}
 
--- Where the call ended since nobody came, each link that was handed back in it is ill or offered too little for each of the rules, by the plan that was read and the records before the end.
+-- Where the call ended since nobody came, each link that was handed back in it is ill, or offered what none of the rules fits that waited for workers, by the plan that was read and the records before the end.
 pub record VainBy {L : Type 0} (gives : Function) (may_fail : Job → Failure → Type 0) (history : L → List Passed) (count idles : L → ℕ) (closed : L → Bool) (is_read : Plan → Type 0) (O : RunOptions) (limit : ℕ) (got got_now : List (Option LinkNo × L)) (records : List Record) (cause : Cause) : Type 0 where
   pub plan : Plan
   pub read : IsTrue (is_waited (kind_of cause)) → is_read plan

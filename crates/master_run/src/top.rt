@@ -381,9 +381,9 @@ pub fn makeflow_top<
         (run_options options) options.limits.idle
         (H.idle_count hall.new - H.idle_count hall.old) result.records result.cause }
 
-    // Where the hall's links tell their bytes, a call that ended so was handed back no link but ill
-    // ones and those over which came a hello or totals whose amounts, with nothing running there,
-    // none of the ready rules fits that may run at workers and fit the storage.
+    // Where the hall's links tell their bytes, a call that ended so handed back no links but ill
+    // ones and such over which came a hello or totals by whose amounts, with nothing running there,
+    // no ready rule fits that fits the storage and may run at a worker.
     ensures vain { H.Way.tells
         → (options : OptionsValue) → choice words.now ≡ Ok options
         → VainBy F.gives F.may_fail H.Way.history H.Way.count H.Way.idle_count H.Way.is_closed
