@@ -16,9 +16,14 @@ use links::{Got, Link};
 use outside::{Commands, Fault};
 use std::alloc::Global;
 use std::sync::Wait;
+use std::thread::Parker;
+use std::time::Duration;
 use worker_core::{Acts, WorkerCore};
 use worker_pool::{Pool, Terms};
 use wq_messages::PeerFault;
+
+// How long a worker with jobs waits before it looks again for a message or a job's end.
+const PAUSE_MILLIS: u64 = 1;
 
 pub(crate) fn halt_by(fault: Fault) -> Halt
     ensures link { fault ≡ Fault.Failed → result ≡ Halt.Link }
@@ -80,7 +85,7 @@ fn obey<B: Terms, W: Wait, F: Commands, L: Link<F>>(
     Ok(bye)
 }
 
-/// Waits a while for bytes, where less than a message is there.
+/// Takes the bytes that are there, or waits a while for some.
 fn listen<B: Terms, F: Commands, L: Link<F>>(
     alloc: Global,
     link: &mut L,
@@ -105,6 +110,44 @@ fn listen<B: Terms, F: Commands, L: Link<F>>(
         Ok(Got::Closed) => Err(Halt::Closed),
         Err(fault) => Err(halt_by(fault)),
     }
+}
+
+// Whether jobs are out, and nothing is there to be heard over the link.
+fn is_quiet<B: Terms, F: Commands, L: Link<F>>(link: &mut L, pool: &Pool<B>) -> bool
+    ensures { link.new ≡ link.old }
+{
+    pool.out() > 0 && !link.ready()
+}
+
+// Waits for a moment. Nobody wakes it.
+fn pause<W: Wait>(rt: &W) {
+    Parker::new().park_timeout(rt, Duration::from_millis(PAUSE_MILLIS));
+}
+
+/// Waits a while for bytes, where less than a message is there. While jobs are out it waits for a
+/// moment alone, since one may end before bytes come.
+fn await_more<B: Terms, W: Wait, F: Commands, L: Link<F>>(
+    rt: &W,
+    alloc: Global,
+    link: &mut L,
+    ear: &mut Ear,
+    pool: &Pool<B>,
+) -> Result<(), Halt>
+    requires { ear.old.stop ≡ None }
+    ensures goes { (first : WorkerValue) (faults : ℕ) (before : EarState) (core : WorkerValue)
+        (waiting : List StartValue) (heard : Tally) → Takes before (Ok None) ear.old
+        → AtWork F.gives F.may_fail L.tells B.fits first faults
+        (way_of L.history L.is_closed L.count link.old) before core waiting heard false
+        → Goes result (λ _. AtWork F.gives F.may_fail L.tells B.fits first faults
+        (way_of L.history L.is_closed L.count link.new) ear.new core waiting heard false)
+        (HasLeft F.gives F.may_fail L.tells B.fits first faults
+        (way_of L.history L.is_closed L.count link.new) heard) }
+{
+    if is_quiet::<B, F, L>(link, pool) {
+        pause(rt);
+        return Ok(());
+    }
+    listen::<B, F, L>(alloc, link, ear)
 }
 
 /// Does what the next message asks for, or waits a while for more bytes, and answers whether the
@@ -133,7 +176,7 @@ fn attend<B: Terms, W: Wait, F: Commands, L: Link<F>>(
     let at = ear.at();
     match ear.next(alloc) {
         Ok(Some(message)) => obey(rt, alloc, link, core, pool, message, at),
-        Ok(None) => match listen::<B, F, L>(alloc, link, ear) {
+        Ok(None) => match await_more(rt, alloc, link, ear, pool) {
             Ok(()) => Ok(false),
             Err(halt) => Err(halt),
         },

@@ -6,9 +6,9 @@ use Rattle.peer_run.specs.Works.{IsToldPool, way_of}
 use Rattle.peer_run.proofs.Attending.{takes_not}
 use Rattle.peer_run.proofs.work.attend.Goals as goal
 
-pub returns-in-Err-listen-clause-goes : goal.returns-in-Err-listen-clause-goes
-returns-in-Err-listen-clause-goes g c = λ first faults works.
-    c.in-Err-listen.ensures.goes first faults c.args.ear.now c.args.core.now c.args.pool.now.waiting c.args.pool.now.heard
+pub returns-in-Err-await_more-clause-goes : goal.returns-in-Err-await_more-clause-goes
+returns-in-Err-await_more-clause-goes g c = λ first faults works.
+    c.in-Err-await_more.ensures.goes first faults c.args.ear.now c.args.core.now c.args.pool.now.waiting c.args.pool.now.heard
     (subst (λ (o : Option Message). let r : Result (Option Message) Halt = Ok o in Takes c.args.ear.now r c.next.new.self) c.in-Ok-None.field-0-is c.in-Ok-None.ensures) works
 
 pub returns-in-Err-clause-goes : goal.returns-in-Err-clause-goes
