@@ -23,6 +23,8 @@ const WRITE_SECONDS: u64 = 1;
 #[derive(Drop)]
 pub struct TcpLink {
     stream: Option<TcpStream>,
+    // A look has met a failure, which the system tells once.
+    broken: bool,
     closed: bool,
     faults: u64,
     idles: u64,
@@ -46,6 +48,7 @@ impl TcpLink {
         stream.set_nodelay(true)?;
         Ok(TcpLink {
             stream: Some(stream),
+            broken: false,
             closed: false,
             faults: 0,
             idles: 0,
@@ -110,6 +113,9 @@ impl<F: Commands> Link<F> for TcpLink {
     }
 
     fn recv(&mut self, alloc: Global) -> Result<Got, Fault> {
+        if self.broken {
+            return Err(failed(&mut self.faults));
+        }
         match self.read(alloc) {
             Ok(piece) if piece.is_empty() => {
                 self.closed = true;
@@ -130,9 +136,15 @@ impl<F: Commands> Link<F> for TcpLink {
     }
 
     fn ready(&mut self) -> bool {
-        match self.stream.as_ref() {
-            Some(stream) => has_something(stream),
-            None => true,
+        let Some(stream) = self.stream.as_ref() else {
+            return true;
+        };
+        match has_something(stream) {
+            Ok(found) => found,
+            Err(_) => {
+                self.broken = true;
+                true
+            }
         }
     }
 
@@ -149,20 +161,16 @@ impl<F: Commands> Link<F> for TcpLink {
     }
 }
 
-// Whether a read would answer at once: a byte is there, the end or a failure. It waits for none of
-// them.
-fn has_something(stream: &TcpStream) -> bool {
-    if stream.set_nonblocking(true).is_err() {
-        return true;
-    }
+// Whether a byte is there, or the end, or else the failure that is. It waits for none of them.
+fn has_something(stream: &TcpStream) -> io::Result<bool> {
+    stream.set_nonblocking(true)?;
     let mut byte = [0u8; 1];
     let peeked = stream.peek(byte.as_mut_slice());
-    if stream.set_nonblocking(false).is_err() {
-        return true;
-    }
+    stream.set_nonblocking(false)?;
     match peeked {
-        Ok(_) => true,
-        Err(e) => !has_waited(e.kind()),
+        Ok(_) => Ok(true),
+        Err(e) if has_waited(e.kind()) => Ok(false),
+        Err(e) => Err(e),
     }
 }
 
