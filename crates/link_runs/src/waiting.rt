@@ -2,6 +2,7 @@
 use crate::ends::{first_port, meet, open, somebody_comes};
 use links::{Came, Dial, Got, Hall, Link};
 use mem_outside::Blank;
+use outside::Fault;
 use real_links::{TcpDial, TcpHall, TcpLink};
 use std::rt::HostRuntime;
 use std::test::Fail;
@@ -80,5 +81,26 @@ fn a_link_is_ready_once_something_has_come(rt: HostRuntime) -> Result<(), Fail> 
     assert!(rt; something_comes(&rt, &mut given));
     assert!(rt; matches!(Link::<Blank>::recv(&mut given, alloc)?, Got::Closed));
     assert!(rt; Link::<Blank>::ready(&mut given));
+    Ok(())
+}
+
+#[test]
+fn a_reset_that_looks_have_met_is_told_by_the_next_read(rt: HostRuntime) -> Result<(), Fail> {
+    let alloc = rt.alloc();
+    let mut hall = TcpHall::new(&rt, alloc);
+    let mut dial = TcpDial::new(&rt);
+    let port = open(&mut hall, first_port(&rt, 5))?;
+    let (mut dialled, mut given) = meet(alloc, &mut hall, &mut dial, port)?;
+    // A socket that is dropped before all that came was read resets its connection.
+    Link::<Blank>::send(&mut given, b"abc")?;
+    assert!(rt; something_comes(&rt, &mut dialled));
+    drop(dialled);
+    assert!(rt; something_comes(&rt, &mut given));
+    assert!(rt; Link::<Blank>::ready(&mut given));
+    assert_eq!(rt; Link::<Blank>::faults(&given), 0);
+    let got = Link::<Blank>::recv(&mut given, alloc);
+    assert!(rt; matches!(got, Err(Fault::Failed)));
+    assert_eq!(rt; Link::<Blank>::faults(&given), 1);
+    assert!(rt; !Link::<Blank>::closed(&given));
     Ok(())
 }
