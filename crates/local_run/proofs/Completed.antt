@@ -1,6 +1,6 @@
 -- When a run comes to its end with all rules complete.
 use Rattle.std.proofs.Common.{◌≡◌, ◌≤◌, ◌+◌, ◌∙◌, ℕ, Bool, true, false, not, ◌&&◌, List, [], length, Option, Some, None, refl, sym, ap, subst, arith, true≢false}
-use Rattle.std.specs.Prelude.{filter, find, is_some, sum_by, unwrap_or}
+use Rattle.std.specs.Prelude.{filter, find, is_none, is_some, sum_by, unwrap_or}
 use Rattle.std.specs.Option.{option_map_or}
 use Rattle.std.proofs.lemmas.Bool.{ltb-true}
 use Rattle.flow_types.specs.declared.plan.Plan.{Plan}
@@ -13,21 +13,23 @@ use Rattle.run_history.specs.declared.options.Options.{Options}
 use Rattle.run_history.specs.declared.moves.Move.{Move}
 use Rattle.run_history.specs.declared.states.FileState.{FileState}
 use Rattle.run_history.specs.declared.states.FileState.TheVariants as file
+use Rattle.run_history.specs.declared.answers.Stop.{Stop}
+use Rattle.run_history.specs.declared.answers.Stop.TheVariants as stops
 use Rattle.run_history.specs.declared.answers.Check.{Check}
 use Rattle.run_history.specs.declared.answers.Check.TheVariants as checks
 use Rattle.run_history.specs.Legal.{has_places, most_records}
 use Rattle.run_history.specs.Links.{records_of}
 use Rattle.run_history.specs.Laws.{IsPresent}
-use Rattle.run_history.specs.States.{file_state}
-use Rattle.run_history.specs.Storage.{has_failed, input_bytes, ready_rules, running_rules, size_in, size_of, wanted}
-use Rattle.run_history.specs.Answers.{end_of, of_least, passes_inputs, rule_no}
+use Rattle.run_history.specs.States.{file_state, limit_of}
+use Rattle.run_history.specs.Storage.{has_failed, input_bytes, ready_rules, rule_bound, running_rules, size_in, size_of, stored, wanted}
+use Rattle.run_history.specs.Answers.{collected_count, end_of, end_over, is_halt, of_least, passes_inputs, rule_no}
 use Rattle.task_core.proofs.Collecting.{wanted-free}
 use Rattle.outside.specs.Files.{Files}
 use Rattle.file_store.specs.Outputs.{file_name}
 use Rattle.desk.specs.Kept.{Fits, Holds, Keeps}
 use Rattle.local_run.specs.Completing.{SerialInputsFit}
 use Rattle.local_run.specs.Ends.{FitsHere, IsCompleteEnd, records_due}
-use Rattle.local_run.proofs.EndKinds.{Rests, Says, not_going, over_says, unended_over}
+use Rattle.local_run.proofs.EndKinds.{Rests, Says, not_going, over_says_by, unended_over}
 use Rattle.local_run.proofs.Fresh.{drop_place, places_left}
 use Rattle.local_run.proofs.Started.{none_pass}
 
@@ -92,14 +94,21 @@ placed_so : (o : Option ℕ) (place : Bool) → ((f : ℕ) → o ≡ Some f → 
 placed_so None place there wants = true≢false (sym wants)
 placed_so (Some f) place there wants = true≢false (sym wants ∙ ap not (there f refl))
 
--- The end is that all rules are complete, or there is a limit and no room, where none has failed, no inputs are too many and the log has room.
+-- What may be so of the answer of an end where none has failed, no inputs are too many and the log has room: that all rules are complete, that there is a limit and no room, that the run waited where that was the stop, or that it goes on.
+pub well_says : (Q : Check → Type 0) (P : Plan) (O : Options) (H : List Record) (stop : Option Stop) → limit_of H ≡ O.limit → option_map_or is_halt stop false ≡ false → ((r : ℕ) → find (has_failed H) (rule_numbers P) ≡ Some r → ⊥)
+    → ((r : ℕ) → passes_inputs P H r ≡ false) → length (running_rules P H) ≤ 0 → records_due P H + 1 ≤ most_records → Q checks.Going → Q (checks.Complete (collected_count P H))
+    → ((idles r : ℕ) → stop ≡ Some (stops.Waited idles) → Q (checks.Waited (record { idles = idles; rule = rule_no r })))
+    → ((r most : ℕ) → O.limit ≡ Some most → Q (checks.NoRoom (rule_no r) (rule_bound P r) (stored P H) most)) → Q (end_over P O H stop)
+well_says Q P O H stop limited unstopped sound small idle few going complete waited room =
+    over_says_by Q P O H O.limit stop limited unstopped going (λ r found why. absurd (sound r found))
+    (λ wants. absurd (placed_so (wanted P O.mode H) (has_places P H 1) (λ f is. drop_place P H f idle (wanted-free P O.mode H f is) few) wants)) complete waited
+    (λ more. none_large Q P H small) (λ more full. absurd (true≢false (sym full ∙ ap not (places_left P H idle more few)))) room
+
+-- So is it of an end without a stop, which isn't to go on.
 pub completes_so : (P : Plan) (O : Options) (M : List Move) → Rests P O M → FitsHere P O → ((r : ℕ) → find (has_failed (records_of M)) (rule_numbers P) ≡ Some r → ⊥) → ((r : ℕ) → passes_inputs P (records_of M) r ≡ false)
     → length (running_rules P (records_of M)) ≤ 0 → records_due P (records_of M) + 1 ≤ most_records → IsCompleteEnd O.limit (end_of P O M None)
 completes_so P O M rests here sound small idle few =
-    let H = records_of M in
     complete_end O.limit (end_of P O M None)
     (subst (EndsWell O.limit) (sym (unended_over P O M rests.unended))
-    (over_says (EndsWell O.limit) P O H O.limit rests.limited tt (λ r found why. absurd (sound r found))
-    (λ wants. absurd (placed_so (wanted P O.mode H) (has_places P H 1) (λ f is. drop_place P H f idle (wanted-free P O.mode H f is) few) wants)) tt
-    (λ more. none_large (EndsWell O.limit) P H small) (λ more full. absurd (true≢false (sym full ∙ ap not (places_left P H idle more few)))) (λ r most is. is)))
+    (well_says (EndsWell O.limit) P O (records_of M) None rests.limited refl sound small idle few tt tt (λ idles r waits. absurd (true≢false (ap is_none waits))) (λ r most is. is)))
     (not_going P O M rests here)

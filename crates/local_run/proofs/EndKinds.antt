@@ -11,6 +11,7 @@ use Rattle.flow_types.specs.Plans.{IsValid, is_empty, rule_numbers}
 use Rattle.run_history.specs.declared.options.Options.{Options}
 use Rattle.run_history.specs.declared.moves.Move.{Move}
 use Rattle.run_history.specs.declared.answers.Stop.{Stop}
+use Rattle.run_history.specs.declared.answers.Stop.TheVariants as stops
 use Rattle.run_history.specs.declared.answers.Nothing.{Nothing}
 use Rattle.run_history.specs.declared.answers.Nothing.TheVariants as nothing
 use Rattle.run_history.specs.declared.answers.Check.{Check}
@@ -81,7 +82,45 @@ limit_says Q P H (Some most) is room =
     none_says Q (filter (fits_storage P H) (ready_rules P H)) (ready_rules P H) (no_room P H)
     (λ r. subst (λ (n : ℕ). Q (checks.NoRoom (rule_no r) (rule_bound P r) (stored P H) n)) (sym (ap (λ (o : Option ℕ). unwrap_or o 0) is)) (room r most refl))
 
--- what may be so of every answer of an end, over records with this limit
+-- a stop for waiting says that the run waited for one of these
+waited_says : (Q : Check → Type 0) (rules : List ℕ) (stop : Option Stop) → ((idles r : ℕ) → stop ≡ Some (stops.Waited idles) → Q (checks.Waited (record { idles = idles; rule = rule_no r })))
+    → Says Q (option_and_then (λ idles. of_least rules (λ r. checks.Waited (record { idles = idles; rule = rule_no r }))) (option_and_then idles_in stop))
+waited_says Q rules None each = tt
+waited_says Q rules (Some stops.Halt) each = tt
+waited_says Q rules (Some (stops.Waited idles)) each = least_says Q rules (λ r. checks.Waited (record { idles = idles; rule = rule_no r })) (λ r. each idles r refl)
+
+-- What may be so of every answer of an end over records with this limit, where the run may have waited in vain and wasn't stopped at once.
+pub over_says_by : (Q : Check → Type 0) (P : Plan) (O : Options) (H : List Record) (limit : Option ℕ) (stop : Option Stop) → limit_of H ≡ limit → option_map_or is_halt stop false ≡ false → Q checks.Going
+    → ((r : ℕ) → find (has_failed H) (rule_numbers P) ≡ Some r → (why : Failure) → Q (checks.CommandFailed (rule_no r) why))
+    → ((is_some (wanted P O.mode H) && not (has_places P H 1)) ≡ true → Q (log_full H))
+    → Q (checks.Complete (collected_count P H))
+    → ((idles r : ℕ) → stop ≡ Some (stops.Waited idles) → Q (checks.Waited (record { idles = idles; rule = rule_no r })))
+    → (list_all (is_complete H) (rule_numbers P) ≡ false → Says Q (of_least (filter (passes_inputs P H) (ready_rules P H)) (λ r. checks.InputsTooLarge (rule_no r) (input_bytes P H r))))
+    → (list_all (is_complete H) (rule_numbers P) ≡ false → not (has_places P H 2) ≡ true → Q (log_full H))
+    → ((r most : ℕ) → limit ≡ Some most → Q (checks.NoRoom (rule_no r) (rule_bound P r) (stored P H) most))
+    → Q (end_over P O H stop)
+over_says_by Q P O H limit stop limited unstopped going failed wanting complete waited large full room =
+    let ready : List ℕ = ready_rules P H in
+    let roomy : List ℕ = filter (fits_storage P H) ready in
+    let all : Bool = list_all (is_complete H) (rule_numbers P) in
+    at_last Q _ going
+    (else_says Q (where_so (not (is_empty (running_rules P H))) checks.Going) _ (so_says Q (not (is_empty (running_rules P H))) checks.Going (λ runs. going)) (λ n1.
+    (else_says Q (where_so (option_map_or is_halt stop false) checks.Halted) _ (so_says Q (option_map_or is_halt stop false) checks.Halted (λ is. absurd (true≢false (sym is ∙ unstopped)))) (λ n2.
+    (else_says Q (option_and_then (failed_answer H) (find (has_failed H) (rule_numbers P))) _ (failed_says Q H (find (has_failed H) (rule_numbers P)) failed) (λ n3.
+    (else_says Q (where_so (is_some (wanted P O.mode H) && not (has_places P H 1)) (log_full H)) _ (so_says Q (is_some (wanted P O.mode H) && not (has_places P H 1)) (log_full H) wanting) (λ n4.
+    (else_says Q (where_so (is_some (wanted P O.mode H)) checks.Going) _ (so_says Q (is_some (wanted P O.mode H)) checks.Going (λ wants. going)) (λ n5.
+    (else_says Q (where_so all (checks.Complete (collected_count P H))) _ (so_says Q all (checks.Complete (collected_count P H)) (λ done. complete)) (λ n6.
+    (let more : all ≡ false = not_all all n6 in
+    else_says Q (option_and_then (λ idles. of_least roomy (λ r. checks.Waited (record { idles = idles; rule = rule_no r }))) (option_and_then idles_in stop)) _ (waited_says Q roomy stop waited) (λ n7.
+    (else_says Q (of_least (filter (passes_inputs P H) ready) (λ r. checks.InputsTooLarge (rule_no r) (input_bytes P H r))) _ (large more) (λ n8.
+    (else_says Q (where_so (not (has_places P H 2)) (log_full H)) _ (so_says Q (not (has_places P H 2)) (log_full H) (full more)) (λ n9.
+    (else_says Q (where_none roomy ready (no_room P H)) None (limit_says Q P H limit limited room) (λ n10. tt))))))))))))))))))))
+  where
+    not_all : (all : Bool) → where_so all (checks.Complete (collected_count P H)) ≡ None → all ≡ false
+    not_all true is = absurd (true≢false (ap is_some is))
+    not_all false is = refl
+
+-- The same without a stop.
 pub over_says : (Q : Check → Type 0) (P : Plan) (O : Options) (H : List Record) (limit : Option ℕ) → limit_of H ≡ limit → Q checks.Going
     → ((r : ℕ) → find (has_failed H) (rule_numbers P) ≡ Some r → (why : Failure) → Q (checks.CommandFailed (rule_no r) why))
     → ((is_some (wanted P O.mode H) && not (has_places P H 1)) ≡ true → Q (log_full H))
@@ -91,26 +130,7 @@ pub over_says : (Q : Check → Type 0) (P : Plan) (O : Options) (H : List Record
     → ((r most : ℕ) → limit ≡ Some most → Q (checks.NoRoom (rule_no r) (rule_bound P r) (stored P H) most))
     → Q (end_over P O H None)
 over_says Q P O H limit limited going failed wanting complete large full room =
-    let none : Option Stop = None in
-    let ready : List ℕ = ready_rules P H in
-    let roomy : List ℕ = filter (fits_storage P H) ready in
-    let all : Bool = list_all (is_complete H) (rule_numbers P) in
-    at_last Q _ going
-    (else_says Q (where_so (not (is_empty (running_rules P H))) checks.Going) _ (so_says Q (not (is_empty (running_rules P H))) checks.Going (λ runs. going)) (λ n1.
-    (else_says Q (where_so (option_map_or is_halt none false) checks.Halted) _ tt (λ n2.
-    (else_says Q (option_and_then (failed_answer H) (find (has_failed H) (rule_numbers P))) _ (failed_says Q H (find (has_failed H) (rule_numbers P)) failed) (λ n3.
-    (else_says Q (where_so (is_some (wanted P O.mode H) && not (has_places P H 1)) (log_full H)) _ (so_says Q (is_some (wanted P O.mode H) && not (has_places P H 1)) (log_full H) wanting) (λ n4.
-    (else_says Q (where_so (is_some (wanted P O.mode H)) checks.Going) _ (so_says Q (is_some (wanted P O.mode H)) checks.Going (λ wants. going)) (λ n5.
-    (else_says Q (where_so all (checks.Complete (collected_count P H))) _ (so_says Q all (checks.Complete (collected_count P H)) (λ done. complete)) (λ n6.
-    (let more : all ≡ false = not_all all n6 in
-    else_says Q (option_and_then (λ idles. of_least roomy (λ r. checks.Waited (record { idles = idles; rule = rule_no r }))) (option_and_then idles_in none)) _ tt (λ n7.
-    (else_says Q (of_least (filter (passes_inputs P H) ready) (λ r. checks.InputsTooLarge (rule_no r) (input_bytes P H r))) _ (large more) (λ n8.
-    (else_says Q (where_so (not (has_places P H 2)) (log_full H)) _ (so_says Q (not (has_places P H 2)) (log_full H) (full more)) (λ n9.
-    (else_says Q (where_none roomy ready (no_room P H)) None (limit_says Q P H limit limited room) (λ n10. tt))))))))))))))))))))
-  where
-    not_all : (all : Bool) → where_so all (checks.Complete (collected_count P H)) ≡ None → all ≡ false
-    not_all true is = absurd (true≢false (ap is_some is))
-    not_all false is = refl
+    over_says_by Q P O H limit None limited refl going failed wanting complete (λ idles r waits. absurd (true≢false (ap is_none waits))) large full room
 
 -- the answer is one of a run's ends, or that it goes on
 abbrev EndsOrGoes : Option ℕ → Check → Type 0
