@@ -103,6 +103,30 @@ joins_grow M more all are = let a = joins_behind M more all are in omega (arith,
 pub joins_same : (M all : List Move) → link_moves all ≡ link_moves M → next_link all ≡ next_link M
 joins_same M all same = let a = joins_behind M [] all (same ∙ sym (append-nil (link_moves M))) in omega (arith, a)
 
+pub joins_still : (M all : List Move) → link_moves all ≡ link_moves M → count_by is_join all ≡ count_by is_join M
+joins_still M all same = let a = joins_behind M [] all (same ∙ sym (append-nil (link_moves M))) in omega (arith, a)
+
+-- where links only state other amounts none joins
+pub joins_stated : (up : List ℕ) (link : ℕ) (M all : List Move) → StatesOn up link M all → count_by is_join all ≡ count_by is_join M
+joins_stated up link M all st = (let a = joins_behind M st.more all st.are in let b = none_join st.more st.each in omega (arith, a, b))
+  where
+    none_join : (more : List Move) → AllByRecursion (IsHeardChange up link) more → count_by is_join more ≡ 0
+    none_join [] each = refl
+    none_join (moves.Logged x ∷ more) each = absurd each.0
+    none_join (moves.Joined at total largest cache ∷ more) each = absurd each.0
+    none_join (moves.Changed at total largest cache ∷ more) each =
+        let cons : count_by is_join (moves.Changed at total largest cache ∷ more) ≡ 0 + count_by is_join more = count_cons is_join (moves.Changed at total largest cache) more in
+        let rest : count_by is_join more ≡ 0 = none_join more each.1 in
+        omega (arith, cons, rest)
+    none_join (moves.Left at ∷ more) each = absurd each.0
+
+-- one more where a link joins
+pub joins_more : (M : List Move) (link : LinkNo) (total largest : Amounts) (cache : ℕ) (all : List Move) → all ≡ M ++ (moves.Joined link total largest cache ∷ []) → count_by is_join all ≤ count_by is_join M + 1
+joins_more M link total largest cache all are =
+    let both = ap (count_by is_join) are ∙ count_both is_join M (moves.Joined link total largest cache ∷ []) in
+    let one : count_by is_join (moves.Joined link total largest cache ∷ []) ≡ 1 = refl in
+    omega (arith, both, one)
+
 next_grow : (M more all : List Move) → link_moves all ≡ link_moves M ++ more → next_link M ≤ next_link all
 next_grow M more all are = let a = joins_behind M more all are in omega (arith, a)
 

@@ -35,8 +35,10 @@ use Rattle.outside.specs.Files.{Files}
 use Rattle.local_run.specs.declared.halt.Halt.TheVariants as halts
 use Rattle.local_run.proofs.Closings.{ends_fine, is_broken}
 use Rattle.local_run.specs.Links.{link_moves}
+use Rattle.local_run.specs.Course.{begins_anew}
 use Rattle.local_run.specs.Losses.{LosesAway, is_lost}
 use Rattle.wq_run.specs.Ends.{IsOver, LosesOnLinks}
+use Rattle.wq_run.specs.Calm.{AddsWell}
 use Rattle.wq_run.specs.Works.{EndsAt, HaltedBy, HasEnd}
 
 not_cleaned : (check : Check) (kind : EndKind) → kind_of check ≡ Some kind → is_cleaned_kind kind ≡ false
@@ -90,11 +92,16 @@ lost_by {S} d moment (Some kind) after h = record {
 
 -- the moves of an end are its record alone, or none
 abbrev EndsBeside : List Move → List Move → Type 0
-EndsBeside before all = (more : List Move) × (all ≡ before ++ more) × (link_moves more ≡ []) × (list_any is_lost (records_of more) ≡ false)
+EndsBeside before all = (more : List Move) × (all ≡ before ++ more) × (link_moves more ≡ []) × (list_any is_lost (records_of more) ≡ false) × (list_all is_end (records_of more) ≡ true) × (list_any begins_anew (records_of more) ≡ false)
 
-beside_by : {S : Type 0} (d : DeskState S) (moment : ℕ) (kind : Option EndKind) (after : DeskState S) → EndsBy kind d moment after → EndsBeside d.moves after.moves
-beside_by {S} d moment None after h = ([], ap (λ (a : DeskState S). a.moves) h ∙ sym (append-nil d.moves), refl, refl)
-beside_by {S} d moment (Some kind) after h = (moves.Logged (records.Ended moment kind) ∷ [], ap (λ (a : DeskState S). a.moves) h, refl, refl)
+beside_by : {S : Type 0} (d : DeskState S) (moment : ℕ) (kind : Option EndKind) (after : DeskState S) → ((k : EndKind) → kind ≡ Some k → is_cleaned_kind k ≡ false) → EndsBy kind d moment after → EndsBeside d.moves after.moves
+beside_by {S} d moment None after stays h = ([], ap (λ (a : DeskState S). a.moves) h ∙ sym (append-nil d.moves), refl, refl, refl, refl)
+beside_by {S} d moment (Some kind) after stays h = (moves.Logged (records.Ended moment kind) ∷ [], ap (λ (a : DeskState S). a.moves) h, refl, refl, refl, ap (λ (b : Bool). b || false) (stays kind refl))
+
+-- by an end no attempt fails and none is given up
+well_by : {S : Type 0} (d : DeskState S) (moment : ℕ) (kind : Option EndKind) (after : DeskState S) → EndsBy kind d moment after → AddsWell d.moves after.moves
+well_by {S} d moment None after h = record { more = []; are = ap (λ (a : DeskState S). a.moves) h ∙ sym (append-nil d.moves); none = refl }
+well_by {S} d moment (Some kind) after h = record { more = moves.Logged (records.Ended moment kind) ∷ []; are = ap (λ (a : DeskState S). a.moves) h; none = refl }
 
 -- an end that was reached
 pub ends_at : {S : Type 0} (count : S → ℕ) (d : DeskState S) (moment : ℕ) (check : Check) (after : DeskState S) → has_ended (records_of d.moves) ≡ false → IsOver check → Ends count d moment (Ok check) after
@@ -103,8 +110,9 @@ ends_at {S} count d moment check after unended over h =
     let H = records_of d.moves in
     let answer = end_of d.plan d.options d.moves d.stop in
     let kept = kind_same d moment (logged_end d.plan d.options d.moves d.stop) after h.2 in
-    let beside = beside_by d moment (logged_end d.plan d.options d.moves d.stop) after h.2 in
-    let logged : H ≡ before_end (records_of after.moves) = logged_by d moment (logged_end d.plan d.options d.moves d.stop) after (λ k is. logged_not_cleaned answer (has_ended H) k is) unended h.2 in
+    let uncleaned : (k : EndKind) → logged_end d.plan d.options d.moves d.stop ≡ Some k → is_cleaned_kind k ≡ false = λ k is. logged_not_cleaned answer (has_ended H) k is in
+    let beside = beside_by d moment (logged_end d.plan d.options d.moves d.stop) after uncleaned h.2 in
+    let logged : H ≡ before_end (records_of after.moves) = logged_by d moment (logged_end d.plan d.options d.moves d.stop) after uncleaned unended h.2 in
     record {
       logged = logged;
       answer = h.1 ∙ ap (end_over d.plan d.options (before_end H)) (unended_stop H d.stop unended)
@@ -115,7 +123,11 @@ ends_at {S} count d moment check after unended over h =
       more = beside.0;
       are = beside.1;
       none = beside.2;
+      unended = unended;
+      ended = beside.4;
+      same = beside.5;
       spared = beside.3;
+      well = well_by d moment (logged_end d.plan d.options d.moves d.stop) after h.2;
       lost = lost_by d moment (logged_end d.plan d.options d.moves d.stop) after h.2;
     }
 

@@ -1,5 +1,5 @@
 -- Why guests are left.
-use Rattle.std.proofs.Common.{◌≡◌, ◌≤◌, ◌+◌, inl, inr, ◌∙◌, ℕ, zero, suc, Bool, true, false, cond, List, [], ◌∷◌, Some, None, Result, Ok, Err, length, refl, sym, ap, subst, arith, true≢false}
+use Rattle.std.proofs.Common.{◌≡◌, ◌≤◌, ◌<◌, ◌+◌, inl, inr, ◌∙◌, ℕ, zero, suc, Bool, true, false, cond, List, [], ◌∷◌, Some, None, Result, Ok, Err, length, refl, sym, ap, subst, arith, true≢false}
 use Rattle.std.specs.Prelude.{IfErr, count_by}
 use Rattle.std.specs.List.{range_with_len}
 use Rattle.std.proofs.lemmas.Bool.{leb-false}
@@ -17,8 +17,9 @@ use Rattle.run_history.specs.declared.links.JoinRefused.TheVariants as refused
 use Rattle.run_history.specs.declared.moves.Move.{Move}
 use Rattle.run_history.specs.declared.options.Options.{Options}
 use Rattle.run_history.specs.Links.{is_live}
-use Rattle.run_history.specs.Moves.{change_refusal, has_link_room, is_join, join_refusal, live_links, most_links, next_link}
+use Rattle.run_history.specs.Moves.{change_refusal, has_link_room, is_join, join_refusal, joins_and_changes, live_links, most_joins, most_links, next_link}
 use Rattle.links.specs.declared.passing.Passed.{Passed}
+use Rattle.links.specs.Honesty.{OwesNothing}
 use Rattle.links.specs.Ill.{Misspeaks, closed as ill_closed, failed as ill_failed, misspeaks as ill_misspeaks, silent as ill_silent}
 use Rattle.links.specs.Passings.{received_in, sent_in}
 use Rattle.link_session.specs.declared.session.Stage.{Stage}
@@ -123,6 +124,12 @@ module _ {L : Type 0} (gives : Function) (may_fail : Job → Failure → Type 0)
   guest_silent honest p stranger none long link others =
       ill_silent long (λ hello. carried_heard (received_in (history p.way)) [] p.feed.rest (messages.Hello hello.0 hello.1 hello.2) stranger.serves.came none hello.3)
 
+  -- Where its link is idle only while nothing is owed, its hello has come before.
+  pub guest_answered : (honest : L → Type 0) (p : PeerState L) → IsStranger gives may_fail history honest p → front p.feed.rest ≡ part → 8 ≤ idles p.way → (0 < idles p.way → OwesNothing (sent_in (history p.way)) (received_in (history p.way))) → ⊥
+  guest_answered honest p stranger none long owes =
+      let hello = (owes (omega (arith, long))).hello in
+      carried_heard (received_in (history p.way)) [] p.feed.rest (messages.Hello hello.0 hello.1 hello.2) stranger.serves.came none hello.3
+
   -- less than a whole message lies there
   pub still_part : (p q : PeerState L) → (let r : Result Told Leave = Ok tell.Nothing in Hears p.feed p.session r q.feed q.session) → front q.feed.rest ≡ part
   still_part p q waits = ap (λ (x : Stream). front x.rest) waits.1 ∙ waits.0
@@ -174,6 +181,12 @@ module _ {L S : Type 0} (ill : LinkNo → L → Type 0) where
       by_room : (why : JoinRefused) (room : Bool) → has_link_room d.options d.moves ≡ room → join_refusal d.options d.moves ≡ Some why → HasEarned ill d.moves None way
       by_room why true room is = inr (inr (change_full d.moves why (sym (ap (λ (b : Bool). cond b (change_refusal d.moves) (Some refused.TooManyLinks)) room) ∙ is)))
       by_room why false room is = inr (inl (many_live d.options d.moves room))
+
+-- The desk has taken as many joins as links may live, where it takes more.
+pub refused_links : {L : Type 0} (M : List Move) (way : L) → HasEarned (λ (link : LinkNo) (x : L). ⊥) M None way → (most_joins ≤ joins_and_changes M → ⊥) → 0 < count_by is_join M
+refused_links M way (inl is) room = absurd (is (record { 0 = 0 }))
+refused_links M way (inr (inl many)) room = omega (arith, many)
+refused_links M way (inr (inr full)) room = absurd (room full)
 
 -- A guest that is left had earned it.
 pub left_earned : {L : Type 0} (ill : LinkNo → L → Type 0) (M : List Move) (way : L) (leave : Leave) (lost : Bool) → LeavesGuest ill way leave → left_lost leave lost ≡ false → HasEarned ill M None way

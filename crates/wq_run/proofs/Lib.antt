@@ -25,3 +25,6 @@ pub mod Leaving
 pub mod Vain
 pub mod Hands
 pub mod Whole
+pub mod Calm
+pub mod Calmly
+pub mod Manned

@@ -150,7 +150,7 @@ any_step : (p : ℕ → Bool) (n a k : ℕ) → (a + 1 ≤ k → k < a + 1 + n �
 any_step p n a k rest low high is true same = or_left (p a) (list_any p (range_with_len (a + 1) n)) (ap p (eqb-true a k same) ∙ is)
 any_step p n a k rest low high is false apart = or_right (p a) (list_any p (range_with_len (a + 1) n)) (rest (next_more a k low (eqb-false a k apart)) (omega (arith, high)))
 
-any_range : (p : ℕ → Bool) (n a k : ℕ) → a ≤ k → k < a + n → p k ≡ true → list_any p (range_with_len a n) ≡ true
+pub any_range : (p : ℕ → Bool) (n a k : ℕ) → a ≤ k → k < a + n → p k ≡ true → list_any p (range_with_len a n) ≡ true
 any_range p zero a k low high is = let wrong : ⊥ = omega (arith, low, high) in absurd wrong
 any_range p (suc n) a k low high is = any_step p n a k (λ up within. any_range p n (a + 1) k up within is) low high is (a == k) refl
 

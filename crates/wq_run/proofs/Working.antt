@@ -74,6 +74,9 @@ here_more P O limit rise more all check less e = record {
   more = e.more;
   are = e.are;
   none = e.none;
+  unended = e.unended;
+  ended = e.ended;
+  same = e.same;
 }
 
 -- ---- what a stop for waiting sets
@@ -206,6 +209,9 @@ module _ {S : Type 0} (trust : Type 0) (gives : Function) (may_fail : Job → Fa
               more = ends.ends.2.more;
               are = ends.ends.2.are;
               none = ends.ends.2.none;
+              unended = ends.ends.2.unended;
+              ended = ends.ends.2.ended;
+              same = ends.ends.2.same;
             },
           ),
         );
@@ -357,6 +363,9 @@ module _ {S : Type 0} (trust : Type 0) (gives : Function) (may_fail : Job → Fa
       more = h.2.more;
       are = h.2.are;
       none = h.2.none;
+      unended = h.2.unended;
+      ended = h.2.ended;
+      same = h.2.same;
     },
   )
   waits_by sure limit n d mid after count count_now hall hall_now idles idles_now (Err why) goes h vain most few less =

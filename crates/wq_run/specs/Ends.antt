@@ -1,5 +1,6 @@
 -- How a run with workers ends.
-use Rattle.std.specs.Prelude.{◌≡◌, ◌≤◌, ◌<◌, ◌+◌, ℕ, true, List, [], ◌++◌, length, Option, Some, None, Result, Ok, Err, All}
+use Rattle.std.specs.Prelude.{◌≡◌, ◌≤◌, ◌<◌, ◌+◌, ℕ, true, false, List, [], ◌++◌, length, Option, Some, None, Result, Ok, Err, All}
+use Rattle.std.specs.List.{list_all, list_any}
 use Rattle.flow_types.specs.declared.numbers.LinkNo.{LinkNo}
 use Rattle.flow_types.specs.declared.plan.Plan.{Plan}
 use Rattle.flow_types.specs.declared.records.Record.{Record}
@@ -9,14 +10,15 @@ use Rattle.run_history.specs.declared.answers.Stop.{Stop}
 use Rattle.run_history.specs.declared.answers.Stop.TheVariants as stops
 use Rattle.run_history.specs.declared.moves.Move.{Move}
 use Rattle.run_history.specs.declared.options.Options.{Options}
-use Rattle.run_history.specs.Answers.{before_end, end_over, is_in_vain}
+use Rattle.run_history.specs.Answers.{before_end, end_over, has_ended, is_in_vain}
+use Rattle.run_history.specs.History.{is_end}
 use Rattle.run_history.specs.Links.{records_of}
 use Rattle.desk.specs.declared.answers.Trouble.{Trouble}
 use Rattle.desk.specs.State.{IsFine}
 use Rattle.local_run.specs.declared.ended.Stopped.{Stopped}
 use Rattle.local_run.specs.declared.ended.Stopped.TheVariants as stopped
 use Rattle.local_run.specs.declared.halt.Halt.TheVariants as halts
-use Rattle.local_run.specs.Course.{IsHalt}
+use Rattle.local_run.specs.Course.{IsHalt, begins_anew}
 use Rattle.local_run.specs.Links.{link_moves}
 use Rattle.wq_run.specs.Seats.{back_under}
 use Rattle.local_run.specs.Losses.{LosesAway}
@@ -60,12 +62,15 @@ pub record EndsWaiting (P : Plan) (O : Options) (limit rise : ℕ) (all : List R
   pub answer : check ≡ end_over P O (before_end all) stop
   pub over : IsOver check
 
--- How a run with workers ends at a desk with all these moves: what it ends by, and waits in vain by, are the desk's own moves before those of its end, among which no link came or left.
+-- How a run with workers ends at a desk with all these moves: what it ends by, and waits in vain by, are the desk's own moves before its end. Until then the run hadn't ended, and behind them stands its end alone, or nothing, which begins no other.
 pub record EndsHere (P : Plan) (O : Options) (limit rise : ℕ) (all : List Move) (check : Check) : Type 0 where
   pub ends : EndsWaiting P O limit rise (records_of all) check
   pub more : List Move
   pub are : all ≡ ends.moves ++ more
   pub none : link_moves more ≡ []
+  pub unended : has_ended (records_of ends.moves) ≡ false
+  pub ended : list_all is_end (records_of more) ≡ true
+  pub same : list_any begins_anew (records_of more) ≡ false
 
 -- As many links were handed back as were given, and no two under one number.
 pub record AreBack {L : Type 0} (got got_now : List (Option LinkNo × L)) (given given_now : ℕ) : Type 0 where

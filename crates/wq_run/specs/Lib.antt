@@ -8,5 +8,6 @@ pub mod Losses
 pub mod Dues
 pub mod Keeping
 pub mod Vain
+pub mod Calm
 pub mod Calls
 pub mod Turns

@@ -16,6 +16,7 @@ use Rattle.links.specs.declared.passing.Passed.{Passed}
 use Rattle.local_run.specs.Course.{TellsJobs}
 use Rattle.local_run.specs.Underway.{HeldState, IsShapedPool, IsSurePool, IsWantHalt, ToldOf}
 use Rattle.wq_run.specs.Keeping.{KeepsOn}
+use Rattle.wq_run.specs.Calm.{Asked, KeepsCalm}
 use Rattle.wq_run.specs.Seats.{CompanyState, IsServed, KeepsServed, Meets, SeatState, inside_of}
 use Rattle.wq_run.specs.Trusted.{IsOf, IsOpen}
 
@@ -35,11 +36,12 @@ pub record MayServe {S L : Type 0} (trust : Type 0) (gives : Function) (may_fail
 
 -- It went on from there: the run came to the like, peers can come, the hall and the company are as after such calls, and nothing that runs here is unheard but where there was no memory.
 pub record ServedOn {S L : Type 0} (trust : Type 0) (gives : Function) (may_fail : Job → Failure → Type 0) (sources : Contents) (tells kept : Type 0) (files : S → Files) (may_leave : S → Outcomes) (moment : S → ℕ)
-    (images_since : S → ℕ → Files → Type 0) (fits : Job → Outcome → Type 0) (ill : LinkNo → L → Type 0) (told : Type 0) (history : L → List Passed) (holds listens honest : Type 0) (count count_now : ℕ) (got got_now : List (Option LinkNo × L)) (given given_now idles idles_now : ℕ) (d after : DeskState S)
+    (images_since : S → ℕ → Files → Type 0) (fits : Job → Outcome → Type 0) (ill : LinkNo → L → Type 0) (told : Type 0) (history : L → List Passed) (rests rests_now : Option Asked → Type 0) (holds listens honest : Type 0) (count count_now : ℕ) (got got_now : List (Option LinkNo × L)) (given given_now idles idles_now : ℕ) (d after : DeskState S)
     (held held_now : HeldState) (pool pool_now : PoolState) (company company_now : CompanyState L) : Type 0 where
   pub served : KeepsServed trust gives may_fail sources tells kept (IsSurePool fits) files may_leave moment images_since d after held held_now pool.waiting pool_now.waiting pool.heard pool_now.heard company.seats company_now.seats
   pub line : pool_now.line ≡ pool.line
   pub coming : IsOpen holds listens honest
   pub due : told → KeepsOn ill history d.moves after.moves held.halt held_now.halt company company_now got got_now
+  pub calm : (asked : Option Asked) → told → IsSurePool fits → KeepsCalm (rests asked) (rests_now asked) d.moves after.moves held.halt held_now.halt company company_now
   pub met : Meets count count_now got got_now given given_now idles idles_now (inside_of company) (inside_of company_now) company.failed company_now.failed company.lost company_now.lost
   pub heard : (IsWantHalt held_now.halt → ⊥) → pool_now.waiting ≡ []

@@ -1,8 +1,10 @@
 -- What is so of each link that was handed back, where a run waited in vain.
-use Rattle.std.specs.Prelude.{◌≡◌, ◌<◌, ◌⊎◌, ◌&&◌, ◌||◌, not, ℕ, Bool, true, List, [], ◌∷◌, ◌++◌, length, Option, Some, All}
+use Rattle.std.specs.Prelude.{◌≡◌, ◌<◌, ◌⊎◌, ◌&&◌, ◌||◌, not, ℕ, Bool, true, false, List, [], ◌∷◌, ◌++◌, length, Option, Some, All}
 use Rattle.std.specs.List.{AllByRecursion, list_all}
 use Rattle.flow_types.specs.declared.plan.Plan.{Plan}
+use Rattle.flow_types.specs.declared.numbers.Amounts.{Amounts}
 use Rattle.flow_types.specs.declared.numbers.LinkNo.{LinkNo}
+use Rattle.flow_types.specs.declared.numbers.Needs.TheVariants as needs
 use Rattle.flow_types.specs.declared.job.Failure.{Failure}
 use Rattle.flow_types.specs.declared.job.Job.{Job}
 use Rattle.flow_types.specs.declared.records.Record.{Record}
@@ -10,9 +12,10 @@ use Rattle.flow_types.specs.Serial.{Function}
 use Rattle.run_history.specs.declared.answers.Check.{Check}
 use Rattle.run_history.specs.declared.answers.Check.TheVariants as checks
 use Rattle.run_history.specs.declared.options.Options.{Options}
-use Rattle.run_history.specs.Links.{LinkRow, has_room, load_of, may_run_on}
+use Rattle.run_history.specs.Links.{LinkRow, amounts_on, has_room, is_at_most, load_of, may_run_on, needs_of}
 use Rattle.run_history.specs.Storage.{fits_storage, ready_rules}
 use Rattle.links.specs.declared.passing.Passed.{Passed}
+use Rattle.links.specs.Honesty.{IsAtLeast}
 use Rattle.links.specs.Ill.{IsIll}
 use Rattle.links.specs.Passings.{received_in}
 use Rattle.peers.specs.Serves.{WasHonest}
@@ -69,3 +72,8 @@ pub record HandsBack {L : Type 0} (history : L → List Passed) (seats : List (S
   pub are : got_now ≡ got ++ links
   pub each : AllByRecursion (IsOfSeat history seats) links
   pub many : length links ≡ length seats
+
+-- Each rule that may run at the local place needs no more than there is, and what each other rule states is at most these amounts.
+pub record NeedsAtMost (P : Plan) (O : Options) (least : Amounts) : Type 0 where
+  pub here : (r : ℕ) → r < length P.rules → may_run_on P O r 0 ≡ true → is_at_most (amounts_on 0 O.local (needs_of P r)) O.local ≡ true
+  pub there : (r : ℕ) (amounts : Amounts) → r < length P.rules → may_run_on P O r 0 ≡ false → needs_of P r ≡ needs.Stated amounts → IsAtLeast amounts least

@@ -1,6 +1,6 @@
 -- What rounds of a run with workers come to.
-use Rattle.std.specs.Prelude.{◌≡◌, ◌≤◌, ◌<◌, ◌-◌, ℕ, false, List, [], ◌++◌, length, Option, Some, None, Result, Ok, Err, OnOk}
-use Rattle.std.specs.List.{list_any}
+use Rattle.std.specs.Prelude.{◌≡◌, ◌≤◌, ◌<◌, ◌-◌, ℕ, true, false, List, [], ◌++◌, length, Option, Some, None, Result, Ok, Err, OnOk}
+use Rattle.std.specs.List.{list_all, list_any}
 use Rattle.flow_types.specs.declared.job.Job.{Job}
 use Rattle.flow_types.specs.declared.job.Failure.{Failure}
 use Rattle.flow_types.specs.Serial.{Contents, Function}
@@ -8,6 +8,7 @@ use Rattle.run_history.specs.declared.answers.Check.{Check}
 use Rattle.run_history.specs.declared.answers.Stop.{Stop}
 use Rattle.run_history.specs.declared.moves.Move.{Move}
 use Rattle.run_history.specs.Answers.{before_end, end_of, end_over, has_ended}
+use Rattle.run_history.specs.History.{is_end}
 use Rattle.run_history.specs.Links.{records_of}
 use Rattle.run_history.specs.Storage.{running_rules}
 use Rattle.outside.specs.Disk.{Outcomes}
@@ -16,12 +17,13 @@ use Rattle.desk.specs.State.{DeskState, IsFine}
 use Rattle.local_run.specs.declared.ended.Stopped.{Stopped}
 use Rattle.local_run.specs.declared.ended.Stopped.TheVariants as stopped
 use Rattle.local_run.specs.declared.halt.Halt.{Halt}
-use Rattle.local_run.specs.Course.{GoesOn, IsHalt}
+use Rattle.local_run.specs.Course.{GoesOn, IsHalt, begins_anew}
 use Rattle.local_run.specs.Ends.{IsApart, IsFoundDamaged, IsSureHalt, IsWholeHalt}
 use Rattle.local_run.specs.Links.{link_moves}
 use Rattle.local_run.specs.Losses.{is_lost}
 use Rattle.wq_run.specs.declared.rounds.Turn.{Turn}
 use Rattle.wq_run.specs.declared.rounds.Turn.TheVariants as turns
+use Rattle.wq_run.specs.Calm.{AddsWell}
 use Rattle.wq_run.specs.Ends.{EndsHere, IsOver, LosesOnLinks}
 
 -- Nothing stopped the run, and it hasn't ended.
@@ -94,7 +96,11 @@ pub record EndsAt {S : Type 0} (after : DeskState S) (moves : List Move) (stop :
   pub more : List Move
   pub are : after.moves ≡ moves ++ more
   pub none : link_moves more ≡ []
+  pub unended : has_ended (records_of moves) ≡ false
+  pub ended : list_all is_end (records_of more) ≡ true
+  pub same : list_any begins_anew (records_of more) ≡ false
   pub spared : list_any is_lost (records_of more) ≡ false
+  pub well : AddsWell moves after.moves
   pub lost : LosesOnLinks (records_of moves) (records_of after.moves)
 
 -- What an end made of the desk, by what it tells.

@@ -1,9 +1,9 @@
 //! A run with workers, from its first claim to its end.
-ghost use Rattle.std.specs.Prelude.{◌≡◌, ◌≤◌, ◌<◌, ◌-◌, ℕ, List, length, sum_by, IfOk, OnOk};
-ghost use Rattle.std.specs.Prelude.{None, false};
+ghost use Rattle.std.specs.Prelude.{◌≡◌, ◌≤◌, ◌<◌, ◌-◌, ℕ, List, length, sum_by, IfOk, OnOk, None, false};
+ghost use Rattle.flow_types.specs.declared.numbers.Amounts.{Amounts as AmountsValue};
 ghost use Rattle.flow_types.specs.Plans.{IsValid};
 ghost use Rattle.run_history.specs.declared.moves.Move.{Move};
-ghost use Rattle.run_history.specs.Answers.{before_end, has_ended};
+ghost use Rattle.run_history.specs.Answers.{before_end, has_ended, passes_inputs};
 ghost use Rattle.run_history.specs.Links.{records_of};
 ghost use Rattle.run_history.specs.Moves.{joins_and_changes};
 ghost use Rattle.run_history.specs.Storage.{running_rules};
@@ -12,12 +12,14 @@ ghost use Rattle.desk.specs.State.{IsFine};
 ghost use Rattle.local_run.specs.Course.{GoesOn, TellsJobs};
 ghost use Rattle.local_run.specs.Ends.{IsApart, IsWholeRun, RunDamage};
 ghost use Rattle.local_run.specs.Runs.{IsCutRun};
+ghost use Rattle.wq_run.specs.Calm.{ComeFew, GoesWell};
 ghost use Rattle.wq_run.specs.Ends.{AreBack, EndsHere, IsSparedRunners, LosesOnLinks, StopsBy};
 ghost use Rattle.wq_run.specs.Losses.{AreDueLosses};
 ghost use Rattle.wq_run.specs.Trusted.{IsOf};
-ghost use Rattle.wq_run.specs.Vain.{AreVain, IfWaited};
+ghost use Rattle.wq_run.specs.Vain.{AreVain, IfWaited, NeedsAtMost};
 
 use crate::company::{Company, disband};
+use crate::laws::{manned_halls_are_staffed, offers_were_stated};
 use crate::reliance::Trust;
 use crate::rounds::run_all;
 use crate::workers::Workers;
@@ -90,7 +92,20 @@ pub fn work<
         → IfOk result (λ check. IfWaited check (AreVain F.gives F.may_fail H.Way.history
         H.Way.count H.Way.idle_count H.Way.is_closed workers.limit desk.new.plan desk.new.options
         (before_end (records_of desk.new.moves)) (H.got hall.old) (H.got hall.new))) }
+    ensures manned { (least : AmountsValue) → H.Way.tells → joins_and_changes desk.old.moves ≡ 0
+        → H.sure hall.old → H.manned hall.old least → AllSure R.sure runners.old
+        → ComeFew H.Way.history H.Way.count H.Way.idle_count H.Way.is_closed (H.got hall.old)
+        (H.got hall.new) → 1 ≤ workers.limit
+        → NeedsAtMost desk.old.plan desk.old.options least
+        → IfOk result (λ check. IfWaited check (((r : ℕ) → passes_inputs desk.new.plan
+        (before_end (records_of desk.new.moves)) r ≡ false) → ⊥)) }
+    ensures calm { H.Way.tells → joins_and_changes desk.old.moves ≡ 0 → H.sure hall.old
+        → AllSure R.sure runners.old → ComeFew H.Way.history H.Way.count H.Way.idle_count
+        H.Way.is_closed (H.got hall.old) (H.got hall.new)
+        → OnOk result (GoesWell (records_of desk.old.moves) (records_of desk.new.moves)) }
 {
+    offers_were_stated::<F, H::Way>();
+    manned_halls_are_staffed::<F, H>();
     match hall.listen(workers.port) {
         Ok(()) => {}
         Err(Fault::Failed) => return Err(Stopped::Hall),

@@ -8,6 +8,7 @@ mod beside;
 mod company;
 mod course;
 mod finishing;
+mod laws;
 mod reliance;
 mod rounds;
 mod seat;

@@ -1,5 +1,6 @@
 //! The rounds of a run with workers, until it ends.
-ghost use Rattle.std.specs.Prelude.{◌≡◌, ◌≤◌, ◌<◌, [], ℕ, length, sum_by, IfOk, None, OnOk, Some, false, true};
+ghost use Rattle.std.specs.Prelude.{◌≡◌, ◌≤◌, ◌<◌, [], ℕ, length, sum_by, IfOk, None, OnOk};
+ghost use Rattle.std.specs.Prelude.{Option, Some, false, true};
 ghost use Rattle.flow_types.specs.declared.job.Job.{Job};
 ghost use Rattle.flow_types.specs.Plans.{IsValid};
 ghost use Rattle.run_history.specs.declared.answers.Stop.TheVariants as stops;
@@ -12,6 +13,7 @@ ghost use Rattle.local_run.specs.Course.{TellsJobs};
 ghost use Rattle.wq_run.specs.Ends.{IsOver};
 ghost use Rattle.wq_run.specs.Dues.{IsIllLink};
 ghost use Rattle.wq_run.specs.Keeping.{KeepsOn};
+ghost use Rattle.wq_run.specs.Calm.{Asked, IsComing, IsSureOf, IsSureCompany, IsUnmet, KeepsCalm};
 ghost use Rattle.wq_run.specs.Seats.{AreSeats, Meets, gathered, inside_of};
 ghost use Rattle.wq_run.specs.Trusted.{IsOf, IsOpen};
 ghost use Rattle.wq_run.specs.Vain.{IfWaited, IsAlone};
@@ -114,6 +116,14 @@ fn wait_round<W: Wait, F: Commands, S: Site, H: Hall<F>, C: Clock, T: Terms + Tr
         (IsIllLink F.gives F.may_fail H.Way.history H.Way.count H.Way.idle_count H.Way.is_closed limit)
         H.Way.history desk.old.moves desk.new.moves None None company.old
         company.new (H.got hall.old) (H.got hall.new)) }
+    ensures calm { (asked : Option Asked) → H.Way.tells
+        → OnOk result (KeepsCalm (IsSureCompany F.gives F.may_fail H.Way.history H.Way.idle_count
+        (IsSureOf H.Way.sure H.Way.offers asked) (IsComing H.sure H.staffed asked hall.old)
+        (IsUnmet H.manned H.idle_count asked hall.old) desk.old.moves company.old) (IsSureCompany
+        F.gives F.may_fail H.Way.history H.Way.idle_count (IsSureOf H.Way.sure H.Way.offers asked)
+        (IsComing H.sure H.staffed asked hall.new) (IsUnmet H.manned H.idle_count asked hall.new)
+        desk.new.moves company.new) desk.old.moves desk.new.moves None None company.old
+        company.new) }
     ensures met { Meets (H.count hall.old) (H.count hall.new) (H.got hall.old)
         (H.got hall.new) (H.given hall.old) (H.given hall.new) (H.idle_count hall.old)
         (H.idle_count hall.new) (inside_of company.old) (inside_of company.new)
@@ -180,6 +190,14 @@ fn go_round<
         (IsIllLink F.gives F.may_fail H.Way.history H.Way.count H.Way.idle_count H.Way.is_closed limit)
         H.Way.history desk.old.moves desk.new.moves None None company.old
         company.new (H.got hall.old) (H.got hall.new)) }
+    ensures calm { (asked : Option Asked) → H.Way.tells → AllSure R.sure runners.old
+        → OnOk result (KeepsCalm (IsSureCompany F.gives F.may_fail H.Way.history H.Way.idle_count
+        (IsSureOf H.Way.sure H.Way.offers asked) (IsComing H.sure H.staffed asked hall.old)
+        (IsUnmet H.manned H.idle_count asked hall.old) desk.old.moves company.old) (IsSureCompany
+        F.gives F.may_fail H.Way.history H.Way.idle_count (IsSureOf H.Way.sure H.Way.offers asked)
+        (IsComing H.sure H.staffed asked hall.new) (IsUnmet H.manned H.idle_count asked hall.new)
+        desk.new.moves company.new) desk.old.moves desk.new.moves None None company.old
+        company.new) }
     ensures met { Meets (H.count hall.old) (H.count hall.new) (H.got hall.old)
         (H.got hall.new) (H.given hall.old) (H.given hall.new) (H.idle_count hall.old)
         (H.idle_count hall.new) (inside_of company.old) (inside_of company.new)
@@ -272,6 +290,14 @@ pub(crate) fn run_all<
         (IsIllLink F.gives F.may_fail H.Way.history H.Way.count H.Way.idle_count H.Way.is_closed limit)
         H.Way.history desk.old.moves desk.new.moves None None company.old
         company.new (H.got hall.old) (H.got hall.new)) }
+    ensures calm { (asked : Option Asked) → H.Way.tells → AllSure R.sure runners.old
+        → OnOk result (KeepsCalm (IsSureCompany F.gives F.may_fail H.Way.history H.Way.idle_count
+        (IsSureOf H.Way.sure H.Way.offers asked) (IsComing H.sure H.staffed asked hall.old)
+        (IsUnmet H.manned H.idle_count asked hall.old) desk.old.moves company.old) (IsSureCompany
+        F.gives F.may_fail H.Way.history H.Way.idle_count (IsSureOf H.Way.sure H.Way.offers asked)
+        (IsComing H.sure H.staffed asked hall.new) (IsUnmet H.manned H.idle_count asked hall.new)
+        desk.new.moves company.new) desk.old.moves desk.new.moves None None company.old
+        company.new) }
     ensures met { Meets (H.count hall.old) (H.count hall.new) (H.got hall.old)
         (H.got hall.new) (H.given hall.old) (H.given hall.new) (H.idle_count hall.old)
         (H.idle_count hall.new) (inside_of company.old) (inside_of company.new)

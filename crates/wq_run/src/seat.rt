@@ -1,7 +1,8 @@
 //! A worker that joined, and the attempts that run there.
 ghost use Rattle.std.specs.Prelude.{◌≡◌, ◌==◌, ◌∷◌, ◌++◌, [], IfErr, IfOk, IfSome, List, None};
-ghost use Rattle.std.specs.Prelude.{true};
+ghost use Rattle.std.specs.Prelude.{◌<◌, Some, true};
 ghost use Rattle.std.specs.List.{position};
+ghost use Rattle.flow_types.specs.declared.numbers.AttemptNo.{AttemptNo as AttemptNoValue};
 ghost use Rattle.flow_types.specs.Plans.{is_empty};
 ghost use Rattle.desk.specs.declared.attempt.Attempt.{Attempt as AttemptValue};
 ghost use Rattle.local_run.specs.Underway.{IsHeld};
@@ -108,8 +109,10 @@ impl<F: Commands, L: Link<F>, T: Trust> Seat<F, L, T> {
 
     // Whether no attempt of this number, nor of a later one, was opened there.
     fn is_new(&self, number: AttemptNo) -> bool
-        ensures { result ≡ true → IsHeard T.holds L.tells → MayOpen T.holds F.gives F.may_fail L.history (IsFair T.holds L.tells L.honest) T.plan
+        ensures opens { result ≡ true → IsHeard T.holds L.tells → MayOpen T.holds F.gives F.may_fail L.history (IsFair T.holds L.tells L.honest) T.plan
             T.run T.due self.now number }
+        ensures newest { result ≡ true → (newest : AttemptNoValue)
+            → self.now.newest ≡ Some newest → newest.0 < number.0 }
     {
         if !self.is_ready {
             return false;

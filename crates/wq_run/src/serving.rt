@@ -1,5 +1,6 @@
 //! The caller's thread of a run with workers, beside those of its runners.
-ghost use Rattle.std.specs.Prelude.{◌≡◌, ◌≤◌, ◌<◌, ◌⊎◌, [], ℕ, List, None, false, length, sum_by, true};
+ghost use Rattle.std.specs.Prelude.{◌≡◌, ◌≤◌, ◌<◌, ◌⊎◌, [], ℕ, List, None, Option};
+ghost use Rattle.std.specs.Prelude.{false, length, sum_by, true};
 ghost use Rattle.crossbeam_queue.specs.Passes.{view, IsPassOf, IsSamePass};
 ghost use Rattle.flow_types.specs.declared.job.Job.{Job};
 ghost use Rattle.flow_types.specs.Plans.{IsValid};
@@ -12,13 +13,12 @@ ghost use Rattle.worker_pool.specs.Tallies.{GrowsWith};
 ghost use Rattle.worker_pool.specs.Tickets.{fresh};
 ghost use Rattle.desk.specs.State.{IsFine};
 ghost use Rattle.local_run.specs.Course.{TellsJobs};
-ghost use Rattle.local_run.specs.Underway.{IsShapedPool, IsSurePool, IsWantHalt, ToldOf};
-ghost use Rattle.local_run.specs.Underway.{halt_after};
+ghost use Rattle.local_run.specs.Underway.{IsShapedPool, IsSurePool, IsWantHalt, ToldOf, halt_after};
 ghost use Rattle.wq_run.specs.Comes.{ComesOn};
 ghost use Rattle.wq_run.specs.Dues.{IsIllLink};
 ghost use Rattle.wq_run.specs.Keeping.{KeepsOn};
-ghost use Rattle.wq_run.specs.Seats.{AreSeats, IsServed, KeepsServed, Meets};
-ghost use Rattle.wq_run.specs.Seats.{gathered, inside_of};
+ghost use Rattle.wq_run.specs.Calm.{Asked, IsComing, IsSureOf, IsSureCompany, IsUnmet, KeepsCalm};
+ghost use Rattle.wq_run.specs.Seats.{AreSeats, IsServed, KeepsServed, Meets, gathered, inside_of};
 ghost use Rattle.wq_run.specs.Trusted.{IsOf, IsOpen};
 ghost use Rattle.wq_run.specs.Turns.{MayServe, ServedOn};
 
@@ -70,6 +70,14 @@ fn start_more<B: PoolTerms, W: Wait, F: Commands, S: Site, H: Hall<F>, T: Terms 
         (IsIllLink F.gives F.may_fail H.Way.history H.Way.count H.Way.idle_count H.Way.is_closed limit)
         H.Way.history desk.old.moves desk.new.moves held.old.halt held.new.halt company.old
         company.new (H.got hall.old) (H.got hall.new) }
+    ensures calm { (asked : Option Asked) → H.Way.tells → IsSurePool B.fits
+        → KeepsCalm (IsSureCompany F.gives F.may_fail H.Way.history H.Way.idle_count
+        (IsSureOf H.Way.sure H.Way.offers asked) (IsComing H.sure H.staffed asked hall.old)
+        (IsUnmet H.manned H.idle_count asked hall.old) desk.old.moves company.old) (IsSureCompany
+        F.gives F.may_fail H.Way.history H.Way.idle_count (IsSureOf H.Way.sure H.Way.offers asked)
+        (IsComing H.sure H.staffed asked hall.new) (IsUnmet H.manned H.idle_count asked hall.new)
+        desk.new.moves company.new) desk.old.moves desk.new.moves held.old.halt held.new.halt
+        company.old company.new }
     ensures met { Meets (H.count hall.old) (H.count hall.new) (H.got hall.old)
         (H.got hall.new) (H.given hall.old) (H.given hall.new) (H.idle_count hall.old)
         (H.idle_count hall.new) (inside_of company.old) (inside_of company.new)
@@ -123,6 +131,14 @@ fn turn<B: PoolTerms, W: Wait, F: Commands, S: Site, H: Hall<F>, T: Terms + Trus
         (IsIllLink F.gives F.may_fail H.Way.history H.Way.count H.Way.idle_count H.Way.is_closed limit)
         H.Way.history desk.old.moves desk.new.moves held.old.halt held.new.halt company.old
         company.new (H.got hall.old) (H.got hall.new) }
+    ensures calm { (asked : Option Asked) → H.Way.tells → IsSurePool B.fits
+        → KeepsCalm (IsSureCompany F.gives F.may_fail H.Way.history H.Way.idle_count
+        (IsSureOf H.Way.sure H.Way.offers asked) (IsComing H.sure H.staffed asked hall.old)
+        (IsUnmet H.manned H.idle_count asked hall.old) desk.old.moves company.old) (IsSureCompany
+        F.gives F.may_fail H.Way.history H.Way.idle_count (IsSureOf H.Way.sure H.Way.offers asked)
+        (IsComing H.sure H.staffed asked hall.new) (IsUnmet H.manned H.idle_count asked hall.new)
+        desk.new.moves company.new) desk.old.moves desk.new.moves held.old.halt held.new.halt
+        company.old company.new }
     ensures met { Meets (H.count hall.old) (H.count hall.new) (H.got hall.old)
         (H.got hall.new) (H.given hall.old) (H.given hall.new) (H.idle_count hall.old)
         (H.idle_count hall.new) (inside_of company.old) (inside_of company.new)
@@ -226,6 +242,14 @@ fn serve<B: PoolTerms, W: Wait, F: Commands, S: Site, H: Hall<F>, T: Terms + Tru
         (IsIllLink F.gives F.may_fail H.Way.history H.Way.count H.Way.idle_count H.Way.is_closed limit)
         H.Way.history desk.old.moves desk.new.moves held.old.halt held.new.halt company.old
         company.new (H.got hall.old) (H.got hall.new) }
+    ensures calm { (asked : Option Asked) → H.Way.tells → IsSurePool B.fits
+        → KeepsCalm (IsSureCompany F.gives F.may_fail H.Way.history H.Way.idle_count
+        (IsSureOf H.Way.sure H.Way.offers asked) (IsComing H.sure H.staffed asked hall.old)
+        (IsUnmet H.manned H.idle_count asked hall.old) desk.old.moves company.old) (IsSureCompany
+        F.gives F.may_fail H.Way.history H.Way.idle_count (IsSureOf H.Way.sure H.Way.offers asked)
+        (IsComing H.sure H.staffed asked hall.new) (IsUnmet H.manned H.idle_count asked hall.new)
+        desk.new.moves company.new) desk.old.moves desk.new.moves held.old.halt held.new.halt
+        company.old company.new }
     ensures met { Meets (H.count hall.old) (H.count hall.new) (H.got hall.old)
         (H.got hall.new) (H.given hall.old) (H.given hall.new) (H.idle_count hall.old)
         (H.idle_count hall.new) (inside_of company.old) (inside_of company.new)
@@ -281,13 +305,19 @@ fn serve_and_close<
     requires may { MayServe T.trust F.gives F.may_fail T.sources S.tells T.kept S.files S.may_leave
         S.moment S.images_since B.fits T.keen T.holds T.plan T.run T.due (H.listens hall.old)
         (H.honest hall.old) most desk.old held.old pool.old company.seats }
-    ensures served { ServedOn T.trust F.gives F.may_fail T.sources S.tells T.kept S.files S.may_leave
-        S.moment S.images_since B.fits
-        (IsIllLink F.gives F.may_fail H.Way.history H.Way.count H.Way.idle_count H.Way.is_closed limit)
-        H.Way.tells H.Way.history T.holds (H.listens hall.new) (H.honest hall.new)
-        (H.count hall.old) (H.count hall.new) (H.got hall.old) (H.got hall.new)
-        (H.given hall.old) (H.given hall.new) (H.idle_count hall.old) (H.idle_count hall.new)
-        desk.old desk.new held.old held.new pool.old pool.new company result }
+    ensures served { ServedOn T.trust F.gives F.may_fail T.sources S.tells T.kept S.files
+        S.may_leave S.moment S.images_since B.fits (IsIllLink F.gives F.may_fail H.Way.history
+        H.Way.count H.Way.idle_count H.Way.is_closed limit) H.Way.tells H.Way.history (λ
+        (asked : Option Asked). IsSureCompany F.gives F.may_fail H.Way.history H.Way.idle_count
+        (IsSureOf H.Way.sure H.Way.offers asked) (IsComing H.sure H.staffed asked hall.old)
+        (IsUnmet H.manned H.idle_count asked hall.old) desk.old.moves company) (λ
+        (asked : Option Asked). IsSureCompany F.gives F.may_fail H.Way.history H.Way.idle_count
+        (IsSureOf H.Way.sure H.Way.offers asked) (IsComing H.sure H.staffed asked hall.new)
+        (IsUnmet H.manned H.idle_count asked hall.new) desk.new.moves result) T.holds
+        (H.listens hall.new) (H.honest hall.new) (H.count hall.old) (H.count hall.new)
+        (H.got hall.old) (H.got hall.new) (H.given hall.old) (H.given hall.new)
+        (H.idle_count hall.old) (H.idle_count hall.new) desk.old desk.new held.old held.new pool.old
+        pool.new company result }
 {
     serve::<B, W, F, S, H, T, C>(
         rt,
@@ -367,6 +397,14 @@ fn serve_beside<
         (IsIllLink F.gives F.may_fail H.Way.history H.Way.count H.Way.idle_count H.Way.is_closed limit)
         H.Way.history desk.old.moves desk.new.moves held.old.halt held.new.halt company.old
         company.new (H.got hall.old) (H.got hall.new) }
+    ensures calm { (asked : Option Asked) → H.Way.tells → IsSurePool B.fits
+        → KeepsCalm (IsSureCompany F.gives F.may_fail H.Way.history H.Way.idle_count
+        (IsSureOf H.Way.sure H.Way.offers asked) (IsComing H.sure H.staffed asked hall.old)
+        (IsUnmet H.manned H.idle_count asked hall.old) desk.old.moves company.old) (IsSureCompany
+        F.gives F.may_fail H.Way.history H.Way.idle_count (IsSureOf H.Way.sure H.Way.offers asked)
+        (IsComing H.sure H.staffed asked hall.new) (IsUnmet H.manned H.idle_count asked hall.new)
+        desk.new.moves company.new) desk.old.moves desk.new.moves held.old.halt held.new.halt
+        company.old company.new }
     ensures met { Meets (H.count hall.old) (H.count hall.new) (H.got hall.old)
         (H.got hall.new) (H.given hall.old) (H.given hall.new) (H.idle_count hall.old)
         (H.idle_count hall.new) (inside_of company.old) (inside_of company.new)
@@ -389,12 +427,19 @@ fn serve_beside<
                 (H.listens hall.now) (H.honest hall.now) most desk.old held.now pool.now
                 company.seats }
             ensures served { ServedOn T.trust F.gives F.may_fail T.sources S.tells T.kept S.files
-                S.may_leave S.moment S.images_since B.fits
-                (IsIllLink F.gives F.may_fail H.Way.history H.Way.count H.Way.idle_count
-                H.Way.is_closed limit) H.Way.tells H.Way.history T.holds (H.listens hall.exit.now)
-                (H.honest hall.exit.now) (H.count hall.entry.now) (H.count hall.exit.now)
-                (H.got hall.entry.now) (H.got hall.exit.now) (H.given hall.entry.now)
-                (H.given hall.exit.now) (H.idle_count hall.entry.now)
+                S.may_leave S.moment S.images_since B.fits (IsIllLink F.gives F.may_fail
+                H.Way.history H.Way.count H.Way.idle_count H.Way.is_closed limit) H.Way.tells
+                H.Way.history (λ (asked : Option Asked). IsSureCompany F.gives F.may_fail
+                H.Way.history H.Way.idle_count (IsSureOf H.Way.sure H.Way.offers asked)
+                (IsComing H.sure H.staffed asked hall.entry.now)
+                (IsUnmet H.manned H.idle_count asked hall.entry.now) desk.old.moves company) (λ
+                (asked : Option Asked). IsSureCompany F.gives F.may_fail H.Way.history
+                H.Way.idle_count (IsSureOf H.Way.sure H.Way.offers asked)
+                (IsComing H.sure H.staffed asked hall.exit.now)
+                (IsUnmet H.manned H.idle_count asked hall.exit.now) desk.new.moves result) T.holds
+                (H.listens hall.exit.now) (H.honest hall.exit.now) (H.count hall.entry.now)
+                (H.count hall.exit.now) (H.got hall.entry.now) (H.got hall.exit.now)
+                (H.given hall.entry.now) (H.given hall.exit.now) (H.idle_count hall.entry.now)
                 (H.idle_count hall.exit.now) desk.old desk.new held.entry.now held.exit.now
                 pool.entry.now pool.exit.now company result }
         {
@@ -457,6 +502,14 @@ fn serve_in<
         (IsIllLink F.gives F.may_fail H.Way.history H.Way.count H.Way.idle_count H.Way.is_closed limit)
         H.Way.history desk.old.moves desk.new.moves None (halt_after result None) company.old
         company.new (H.got hall.old) (H.got hall.new) }
+    ensures calm { (asked : Option Asked) → H.Way.tells → IsSurePool B.fits
+        → KeepsCalm (IsSureCompany F.gives F.may_fail H.Way.history H.Way.idle_count
+        (IsSureOf H.Way.sure H.Way.offers asked) (IsComing H.sure H.staffed asked hall.old)
+        (IsUnmet H.manned H.idle_count asked hall.old) desk.old.moves company.old) (IsSureCompany
+        F.gives F.may_fail H.Way.history H.Way.idle_count (IsSureOf H.Way.sure H.Way.offers asked)
+        (IsComing H.sure H.staffed asked hall.new) (IsUnmet H.manned H.idle_count asked hall.new)
+        desk.new.moves company.new) desk.old.moves desk.new.moves None (halt_after result None)
+        company.old company.new }
     ensures met { Meets (H.count hall.old) (H.count hall.new) (H.got hall.old)
         (H.got hall.new) (H.given hall.old) (H.given hall.new) (H.idle_count hall.old)
         (H.idle_count hall.new) (inside_of company.old) (inside_of company.new)
@@ -521,6 +574,14 @@ pub(crate) fn serve_all<
         (IsIllLink F.gives F.may_fail H.Way.history H.Way.count H.Way.idle_count H.Way.is_closed limit)
         H.Way.history desk.old.moves desk.new.moves None (halt_after result None) company.old
         company.new (H.got hall.old) (H.got hall.new) }
+    ensures calm { (asked : Option Asked) → H.Way.tells → AllSure R.sure runners.old
+        → KeepsCalm (IsSureCompany F.gives F.may_fail H.Way.history H.Way.idle_count
+        (IsSureOf H.Way.sure H.Way.offers asked) (IsComing H.sure H.staffed asked hall.old)
+        (IsUnmet H.manned H.idle_count asked hall.old) desk.old.moves company.old) (IsSureCompany
+        F.gives F.may_fail H.Way.history H.Way.idle_count (IsSureOf H.Way.sure H.Way.offers asked)
+        (IsComing H.sure H.staffed asked hall.new) (IsUnmet H.manned H.idle_count asked hall.new)
+        desk.new.moves company.new) desk.old.moves desk.new.moves None (halt_after result None)
+        company.old company.new }
     ensures met { Meets (H.count hall.old) (H.count hall.new) (H.got hall.old)
         (H.got hall.new) (H.given hall.old) (H.given hall.new) (H.idle_count hall.old)
         (H.idle_count hall.new) (inside_of company.old) (inside_of company.new)

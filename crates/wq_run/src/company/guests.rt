@@ -1,7 +1,9 @@
 //! Peers that came and haven't joined yet.
-ghost use Rattle.std.specs.Prelude.{◌≡◌, ◌⊎◌, ◌++◌, ◌∷◌, [], ℕ, IfErr, IfOk, IfSome, None, OnOk};
-ghost use Rattle.std.specs.Prelude.{Option, false};
+ghost use Rattle.std.specs.Prelude.{◌≡◌, ◌≤◌, ◌+◌, ◌⊎◌, ◌++◌, ◌∷◌, [], ℕ, IfErr, IfOk, IfSome, List};
+ghost use Rattle.std.specs.Prelude.{None, OnOk, Option, count_by, false};
 ghost use Rattle.flow_types.specs.declared.messages.Message.TheVariants as messages;
+ghost use Rattle.run_history.specs.declared.moves.Move.{Move};
+ghost use Rattle.run_history.specs.Moves.{is_join};
 ghost use Rattle.links.specs.Passings.{received_in};
 ghost use Rattle.message_forms.specs.Streams.{Carries};
 ghost use Rattle.peers.specs.States.{LeavesAs};
@@ -10,6 +12,8 @@ ghost use Rattle.local_run.specs.Underway.{HeldState, IsSurePool};
 ghost use Rattle.wq_run.specs.Dues.{HasHeard, IsIllLink};
 ghost use Rattle.wq_run.specs.Keeping.{KeepsOn};
 ghost use Rattle.wq_run.specs.Earned.{LeavesGuest};
+ghost use Rattle.wq_run.specs.Calm.{Asked, IsComing, IsSureOf, IsSureCompany, IsSureGuest};
+ghost use Rattle.wq_run.specs.Calm.{IsSureLinks, IsSureSeat, IsUnmet, KeepsCalm, StaysOr};
 ghost use Rattle.wq_run.specs.Seats.{IsGuest, IsUnseated, KeepsManned, Meets, inside_of, with_hand};
 ghost use Rattle.wq_run.specs.Trusted.{IsAwaited, IsFair, IsHeard, IsMeant, IsStranger, StaysOpen};
 
@@ -22,7 +26,7 @@ use flow_types::Amounts;
 use links::{Hall, Link};
 use local_run::join;
 use outside::{Commands, Site};
-use peers::{Leave, Peer, Told};
+use peers::{Leave, Listened, Peer, Told, sure_links_are_orderly, tasks_come_behind_their_inputs};
 use std::alloc::Global;
 use worker_pool::Terms as PoolTerms;
 
@@ -51,12 +55,18 @@ fn listen<F: Commands, L: Link<F>, T: Trust>(
         (IsFair T.holds L.tells L.honest) peer.new) }
     ensures leaves { IfErr result (LeavesAs (L.is_closed peer.new.way) (L.count peer.old.way)
         (L.count peer.new.way)) }
+    ensures calm { (asked : Option Asked) → L.tells
+        → IsSureGuest F.gives F.may_fail L.history L.idle_count (IsSureOf L.sure L.offers asked)
+        peer.old
+        → StaysOr (IsSureGuest F.gives F.may_fail L.history L.idle_count
+        (IsSureOf L.sure L.offers asked) peer.new) ⊥ result }
 {
     if !peer.ready() && !is_turn {
         return Ok(());
     }
     match peer.listen(alloc) {
-        Ok(_) => Ok(()),
+        Ok(Listened::Piece) => Ok(()),
+        Ok(Listened::Idle(_)) => Ok(()),
         Err(leave) => Err(leave),
     }
 }
@@ -80,7 +90,14 @@ fn greet<F: Commands, L: Link<F>, T: Trust>(
         peer.new.way) }
     ensures offered { IfOk result (λ offer. IfSome offer
         (λ _. L.tells → HasHeard L.history peer.new 1)) }
+    ensures calm { (asked : Option Asked) → L.tells
+        → IsSureGuest F.gives F.may_fail L.history L.idle_count (IsSureOf L.sure L.offers asked)
+        peer.old
+        → StaysOr (IsSureGuest F.gives F.may_fail L.history L.idle_count
+        (IsSureOf L.sure L.offers asked) peer.new) ⊥ result }
 {
+    sure_links_are_orderly::<F, L>();
+    tasks_come_behind_their_inputs();
     match listen::<F, L, T>(peer, alloc, is_turn) {
         Ok(()) => {}
         Err(leave) => return Err(leave),
@@ -120,6 +137,15 @@ fn stay<F: Commands, H: Hall<F>, T: Trust>(
     ensures kept { company.new.lost ≡ false → H.got hall.new ≡ H.got hall.old }
     ensures listens { StaysOpen T.holds (H.listens hall.old) (H.honest hall.old)
         (H.listens hall.new) (H.honest hall.new) }
+    ensures calm { (asked : Option Asked) (M : List Move) → company.new.lost ≡ false
+        → IsSureGuest F.gives F.may_fail H.Way.history H.Way.idle_count
+        (IsSureOf H.Way.sure H.Way.offers asked) peer
+        → IsSureLinks F.gives F.may_fail H.Way.history H.Way.idle_count
+        (IsSureOf H.Way.sure H.Way.offers asked) (IsComing H.sure H.staffed asked hall.old) M
+        company.old
+        → IsSureCompany F.gives F.may_fail H.Way.history H.Way.idle_count
+        (IsSureOf H.Way.sure H.Way.offers asked) (IsComing H.sure H.staffed asked hall.new)
+        (IsUnmet H.manned H.idle_count asked hall.new) M company.new }
     ensures met { Meets (H.count hall.old) (H.count hall.new) (H.got hall.old)
         (H.got hall.new) (H.given hall.old) (H.given hall.new) (H.idle_count hall.old)
         (H.idle_count hall.new) (with_hand None (inside_of company.old))
@@ -149,6 +175,15 @@ fn take_seat<F: Commands, H: Hall<F>, T: Trust>(
         × (company.new.seats ≡ company.old.seats ++ seat ∷ []) }
     ensures listens { StaysOpen T.holds (H.listens hall.old) (H.honest hall.old)
         (H.listens hall.new) (H.honest hall.new) }
+    ensures calm { (asked : Option Asked) (M all : List Move)
+        → count_by is_join all ≤ count_by is_join M + 1 → company.new.lost ≡ false
+        → IsSureSeat F.gives F.may_fail H.Way.history (IsSureOf H.Way.sure H.Way.offers asked) seat
+        → IsSureLinks F.gives F.may_fail H.Way.history H.Way.idle_count
+        (IsSureOf H.Way.sure H.Way.offers asked) (IsComing H.sure H.staffed asked hall.old) M
+        company.old
+        → IsSureCompany F.gives F.may_fail H.Way.history H.Way.idle_count
+        (IsSureOf H.Way.sure H.Way.offers asked) (IsComing H.sure H.staffed asked hall.new)
+        (IsUnmet H.manned H.idle_count asked hall.new) all company.new }
     ensures met { Meets (H.count hall.old) (H.count hall.new) (H.got hall.old)
         (H.got hall.new) (H.given hall.old) (H.given hall.new) (H.idle_count hall.old)
         (H.idle_count hall.new) (with_hand None (inside_of company.old))
@@ -192,6 +227,15 @@ fn seat_guest<B: PoolTerms, F: Commands, S: Site, H: Hall<F>, T: Terms + Trust>(
         (IsIllLink F.gives F.may_fail H.Way.history H.Way.count H.Way.idle_count H.Way.is_closed limit)
         H.Way.history desk.old.moves desk.new.moves halt halt company.old
         company.new (H.got hall.old) (H.got hall.new) }
+    ensures calm { (asked : Option Asked) (halt : Option HaltValue) → H.Way.tells
+        → KeepsCalm (IsSureGuest F.gives F.may_fail H.Way.history H.Way.idle_count
+        (IsSureOf H.Way.sure H.Way.offers asked) peer × IsSureLinks F.gives F.may_fail H.Way.history
+        H.Way.idle_count (IsSureOf H.Way.sure H.Way.offers asked)
+        (IsComing H.sure H.staffed asked hall.old) desk.old.moves company.old) (IsSureCompany
+        F.gives F.may_fail H.Way.history H.Way.idle_count (IsSureOf H.Way.sure H.Way.offers asked)
+        (IsComing H.sure H.staffed asked hall.new) (IsUnmet H.manned H.idle_count asked hall.new)
+        desk.new.moves company.new) desk.old.moves desk.new.moves halt halt company.old
+        company.new }
     ensures met { Meets (H.count hall.old) (H.count hall.new) (H.got hall.old)
         (H.got hall.new) (H.given hall.old) (H.given hall.new) (H.idle_count hall.old)
         (H.idle_count hall.new) (with_hand None (inside_of company.old))
@@ -225,6 +269,14 @@ fn greet_next<B: PoolTerms, F: Commands, S: Site, H: Hall<F>, T: Terms + Trust>(
         (IsIllLink F.gives F.may_fail H.Way.history H.Way.count H.Way.idle_count H.Way.is_closed limit)
         H.Way.history desk.old.moves desk.new.moves halt halt company.old
         company.new (H.got hall.old) (H.got hall.new) }
+    ensures calm { (asked : Option Asked) (halt : Option HaltValue) → H.Way.tells
+        → KeepsCalm (IsSureCompany F.gives F.may_fail H.Way.history H.Way.idle_count
+        (IsSureOf H.Way.sure H.Way.offers asked) (IsComing H.sure H.staffed asked hall.old)
+        (IsUnmet H.manned H.idle_count asked hall.old) desk.old.moves company.old) (IsSureCompany
+        F.gives F.may_fail H.Way.history H.Way.idle_count (IsSureOf H.Way.sure H.Way.offers asked)
+        (IsComing H.sure H.staffed asked hall.new) (IsUnmet H.manned H.idle_count asked hall.new)
+        desk.new.moves company.new) desk.old.moves desk.new.moves halt halt company.old
+        company.new }
     ensures met { Meets (H.count hall.old) (H.count hall.new) (H.got hall.old)
         (H.got hall.new) (H.given hall.old) (H.given hall.new) (H.idle_count hall.old)
         (H.idle_count hall.new) (inside_of company.old) (inside_of company.new)
@@ -268,6 +320,14 @@ pub(super) fn greet_all<B: PoolTerms, F: Commands, S: Site, H: Hall<F>, T: Terms
         (IsIllLink F.gives F.may_fail H.Way.history H.Way.count H.Way.idle_count H.Way.is_closed limit)
         H.Way.history desk.old.moves desk.new.moves halt halt company.old
         company.new (H.got hall.old) (H.got hall.new) }
+    ensures calm { (asked : Option Asked) (halt : Option HaltValue) → H.Way.tells
+        → KeepsCalm (IsSureCompany F.gives F.may_fail H.Way.history H.Way.idle_count
+        (IsSureOf H.Way.sure H.Way.offers asked) (IsComing H.sure H.staffed asked hall.old)
+        (IsUnmet H.manned H.idle_count asked hall.old) desk.old.moves company.old) (IsSureCompany
+        F.gives F.may_fail H.Way.history H.Way.idle_count (IsSureOf H.Way.sure H.Way.offers asked)
+        (IsComing H.sure H.staffed asked hall.new) (IsUnmet H.manned H.idle_count asked hall.new)
+        desk.new.moves company.new) desk.old.moves desk.new.moves halt halt company.old
+        company.new }
     ensures met { Meets (H.count hall.old) (H.count hall.new) (H.got hall.old)
         (H.got hall.new) (H.given hall.old) (H.given hall.new) (H.idle_count hall.old)
         (H.idle_count hall.new) (inside_of company.old) (inside_of company.new)

@@ -1,5 +1,9 @@
 //! Where peers come and go.
-ghost use Rattle.std.specs.Prelude.{◌≡◌, ◌∷◌, ◌++◌, [], IfOk, None, false};
+ghost use Rattle.std.specs.Prelude.{◌≡◌, ◌∷◌, ◌++◌, [], IfOk, List, None, Option, false};
+ghost use Rattle.flow_types.specs.declared.numbers.Amounts.{Amounts};
+ghost use Rattle.run_history.specs.declared.moves.Move.{Move};
+ghost use Rattle.wq_run.specs.Calm.{Asked, IsComing, IsSureOf, IsSureCompany, IsSureGuest};
+ghost use Rattle.wq_run.specs.Calm.{IsSureLinks, IsUnmet};
 ghost use Rattle.wq_run.specs.Seats.{IsGuest, Meets, inside_of, with_hand};
 ghost use Rattle.wq_run.specs.Trusted.{IsAwaited, IsFair, IsHeard, IsOpen, StaysOpen};
 
@@ -8,7 +12,7 @@ use crate::reliance::Trust;
 use flow_types::LinkNo;
 use links::{Came, Hall, Link};
 use outside::{Clock, Commands, Fault};
-use peers::{Peer, honest_links_were_honest};
+use peers::{Peer, honest_links_were_honest, tasks_come_behind_their_inputs};
 use std::alloc::Global;
 
 /// The most looks that find nothing before each link, and the place where peers come, has its turn
@@ -36,6 +40,8 @@ pub(super) fn hand_back<F: Commands, H: Hall<F>, T: Trust>(
         → H.got hall.new ≡ H.got hall.old ++ (link, way) ∷ [] }
     ensures listens { StaysOpen T.holds (H.listens hall.old) (H.honest hall.old)
         (H.listens hall.new) (H.honest hall.new) }
+    ensures sure { H.sure hall.old → H.sure hall.new }
+    ensures staffed { (amounts : Amounts) → H.staffed hall.old amounts → H.staffed hall.new amounts }
     ensures met { Meets (H.count hall.old) (H.count hall.new) (H.got hall.old)
         (H.got hall.new) (H.given hall.old) (H.given hall.new) (H.idle_count hall.old)
         (H.idle_count hall.new) (with_hand link (inside_of company.old))
@@ -51,11 +57,16 @@ pub(super) fn hand_back<F: Commands, H: Hall<F>, T: Trust>(
 // A guest at this link, over which nothing has passed yet.
 fn guest_at<F: Commands, L: Link<F>, T: Trust>(alloc: Global, way: L) -> Result<Peer<F, L>, L>
     requires fresh { L.history way ≡ [] }
+    requires rested { L.idle_count way ≡ 0 }
     requires honest { T.holds → L.honest way }
     ensures guest { IfOk result
         (IsGuest (IsAwaited (IsHeard T.holds L.tells) F.gives F.may_fail L.history (IsFair T.holds L.tells L.honest))) }
+    ensures sure { (asked : Option Asked) → L.tells → IsSureOf L.sure L.offers asked way
+        → IfOk result
+        (IsSureGuest F.gives F.may_fail L.history L.idle_count (IsSureOf L.sure L.offers asked)) }
 {
     honest_links_were_honest::<F, L>();
+    tasks_come_behind_their_inputs();
     Peer::new(alloc, way, 0)
 }
 
@@ -67,11 +78,20 @@ fn let_in<F: Commands, H: Hall<F>, T: Trust>(
     way: H::Way,
 )
     requires fresh { H.Way.history way ≡ [] }
+    requires rested { H.Way.idle_count way ≡ 0 }
     requires honest { T.holds → H.Way.honest way }
     ensures seats { company.new.seats ≡ company.old.seats }
     ensures kept { company.new.lost ≡ false → H.got hall.new ≡ H.got hall.old }
     ensures listens { StaysOpen T.holds (H.listens hall.old) (H.honest hall.old)
         (H.listens hall.new) (H.honest hall.new) }
+    ensures calm { (asked : Option Asked) (M : List Move) → H.Way.tells
+        → IsSureOf H.Way.sure H.Way.offers asked way → company.new.lost ≡ false
+        → IsSureLinks F.gives F.may_fail H.Way.history H.Way.idle_count
+        (IsSureOf H.Way.sure H.Way.offers asked) (IsComing H.sure H.staffed asked hall.old) M
+        company.old
+        → IsSureCompany F.gives F.may_fail H.Way.history H.Way.idle_count
+        (IsSureOf H.Way.sure H.Way.offers asked) (IsComing H.sure H.staffed asked hall.new)
+        (IsUnmet H.manned H.idle_count asked hall.new) M company.new }
     ensures met { Meets (H.count hall.old) (H.count hall.new) (H.got hall.old)
         (H.got hall.new) (H.given hall.old) (H.given hall.new) (H.idle_count hall.old)
         (H.idle_count hall.new) (with_hand None (inside_of company.old))
@@ -102,6 +122,13 @@ fn wait<F: Commands, H: Hall<F>, T: Trust>(
     ensures seats { company.new.seats ≡ company.old.seats }
     ensures kept { company.new.lost ≡ false → H.got hall.new ≡ H.got hall.old }
     ensures listens { IsOpen T.holds (H.listens hall.new) (H.honest hall.new) }
+    ensures calm { (asked : Option Asked) (M : List Move) → H.Way.tells → company.new.lost ≡ false
+        → IsSureCompany F.gives F.may_fail H.Way.history H.Way.idle_count
+        (IsSureOf H.Way.sure H.Way.offers asked) (IsComing H.sure H.staffed asked hall.old)
+        (IsUnmet H.manned H.idle_count asked hall.old) M company.old
+        → IsSureCompany F.gives F.may_fail H.Way.history H.Way.idle_count
+        (IsSureOf H.Way.sure H.Way.offers asked) (IsComing H.sure H.staffed asked hall.new)
+        (IsUnmet H.manned H.idle_count asked hall.new) M company.new }
     ensures met { Meets (H.count hall.old) (H.count hall.new) (H.got hall.old)
         (H.got hall.new) (H.given hall.old) (H.given hall.new) (H.idle_count hall.old)
         (H.idle_count hall.new) (inside_of company.old) (inside_of company.new)
@@ -136,6 +163,13 @@ pub(super) fn meet<F: Commands, H: Hall<F>, T: Trust>(
     ensures seats { company.new.seats ≡ company.old.seats }
     ensures kept { company.new.lost ≡ false → H.got hall.new ≡ H.got hall.old }
     ensures listens { IsOpen T.holds (H.listens hall.new) (H.honest hall.new) }
+    ensures calm { (asked : Option Asked) (M : List Move) → H.Way.tells → company.new.lost ≡ false
+        → IsSureCompany F.gives F.may_fail H.Way.history H.Way.idle_count
+        (IsSureOf H.Way.sure H.Way.offers asked) (IsComing H.sure H.staffed asked hall.old)
+        (IsUnmet H.manned H.idle_count asked hall.old) M company.old
+        → IsSureCompany F.gives F.may_fail H.Way.history H.Way.idle_count
+        (IsSureOf H.Way.sure H.Way.offers asked) (IsComing H.sure H.staffed asked hall.new)
+        (IsUnmet H.manned H.idle_count asked hall.new) M company.new }
     ensures met { Meets (H.count hall.old) (H.count hall.new) (H.got hall.old)
         (H.got hall.new) (H.given hall.old) (H.given hall.new) (H.idle_count hall.old)
         (H.idle_count hall.new) (inside_of company.old) (inside_of company.new)

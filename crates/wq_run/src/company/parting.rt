@@ -2,6 +2,7 @@
 ghost use Rattle.std.specs.Prelude.{◌≡◌, ◌<◌, ◌⊎◌, ◌∷◌, ◌++◌, ℕ, List, None, Some, false, length};
 ghost use Rattle.flow_types.specs.declared.job.Start.{Start as StartValue};
 ghost use Rattle.flow_types.specs.Plans.{IsValid};
+ghost use Rattle.run_history.specs.declared.moves.Move.{Move};
 ghost use Rattle.worker_pool.specs.declared.hand.Tally.{Tally};
 ghost use Rattle.desk.specs.State.{DeskState};
 ghost use Rattle.local_run.specs.Underway.{IsSurePool};
@@ -59,6 +60,8 @@ pub(super) fn part<B: PoolTerms, F: Commands, S: Site, H: Hall<F>, T: Terms + Tr
         H.Way.history (length before) desk.old.moves desk.new.moves held.old.halt held.new.halt
         (record company.old { seats = before ++ seat ∷ behind }) company.new (H.got hall.old)
         (H.got hall.new) }
+    ensures grows { held.new.halt ≡ None → (held.old.halt ≡ None)
+        × ((more : List Move) × (desk.new.moves ≡ desk.old.moves ++ more)) }
     ensures met { Meets (H.count hall.old) (H.count hall.new) (H.got hall.old)
         (H.got hall.new) (H.given hall.old) (H.given hall.new) (H.idle_count hall.old)
         (H.idle_count hall.new) (with_hand (Some seat.link) (inside_of company.old))
@@ -107,6 +110,8 @@ pub(super) fn part_at<B: PoolTerms, F: Commands, S: Site, H: Hall<F>, T: Terms +
         (IsIllLink F.gives F.may_fail H.Way.history H.Way.count H.Way.idle_count H.Way.is_closed limit)
         H.Way.history at desk.old.moves desk.new.moves held.old.halt held.new.halt company.old
         company.new (H.got hall.old) (H.got hall.new) }
+    ensures grows { held.new.halt ≡ None → (held.old.halt ≡ None)
+        × ((more : List Move) × (desk.new.moves ≡ desk.old.moves ++ more)) }
     ensures met { Meets (H.count hall.old) (H.count hall.new) (H.got hall.old)
         (H.got hall.new) (H.given hall.old) (H.given hall.new) (H.idle_count hall.old)
         (H.idle_count hall.new) (inside_of company.old) (inside_of company.new)

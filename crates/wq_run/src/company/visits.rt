@@ -1,10 +1,13 @@
 //! What is heard of the workers, and what they are asked.
-ghost use Rattle.std.specs.Prelude.{◌≡◌, ◌<◌, ℕ, length};
+ghost use Rattle.std.specs.Prelude.{◌≡◌, ◌<◌, ℕ, Option, length};
+ghost use Rattle.std.specs.List.{AllByRecursion};
 ghost use Rattle.flow_types.specs.Plans.{IsValid};
 ghost use Rattle.run_history.specs.Links.{records_of};
 ghost use Rattle.local_run.specs.Underway.{IsSurePool};
 ghost use Rattle.wq_run.specs.Dues.{IsIllLink};
 ghost use Rattle.wq_run.specs.Keeping.{KeepsAt, KeepsOn};
+ghost use Rattle.wq_run.specs.Calm.{Asked, IsComing, IsSureOf, IsSureCompany, IsSureSeat, IsUnmet};
+ghost use Rattle.wq_run.specs.Calm.{KeepsCalm, KeepsCalmAt};
 ghost use Rattle.wq_run.specs.Seats.{IsManned, KeepsManned, Meets, SeatsAfter, inside_of, seats_under};
 ghost use Rattle.wq_run.specs.Trusted.{IsOf, StaysOpen};
 
@@ -43,6 +46,12 @@ fn hear_at<B: PoolTerms, F: Commands, S: Site, H: Hall<F>, T: Terms + Trust, C: 
         (IsIllLink F.gives F.may_fail H.Way.history H.Way.count H.Way.idle_count H.Way.is_closed limit)
         H.Way.history at desk.old.moves desk.new.moves held.old.halt held.new.halt company.old
         company.new result }
+    ensures calm { (asked : Option Asked) → H.Way.tells
+        → KeepsCalmAt (AllByRecursion
+        (IsSureSeat F.gives F.may_fail H.Way.history (IsSureOf H.Way.sure H.Way.offers asked))
+        company.old.seats) (AllByRecursion
+        (IsSureSeat F.gives F.may_fail H.Way.history (IsSureOf H.Way.sure H.Way.offers asked))
+        company.new.seats) desk.old.moves desk.new.moves held.old.halt held.new.halt result }
     ensures many { length company.new.seats ≡ length company.old.seats }
     ensures numbers { (k : ℕ) → seats_under k company.new.seats ≡ seats_under k company.old.seats }
     ensures newest { company.new.newest ≡ company.old.newest }
@@ -79,6 +88,12 @@ fn claim_at<B: PoolTerms, F: Commands, S: Site, H: Hall<F>, T: Terms + Trust, C:
         (IsIllLink F.gives F.may_fail H.Way.history H.Way.count H.Way.idle_count H.Way.is_closed limit)
         H.Way.history at desk.old.moves desk.new.moves held.old.halt held.new.halt company.old
         company.new result }
+    ensures calm { (asked : Option Asked) → H.Way.tells
+        → KeepsCalmAt (AllByRecursion
+        (IsSureSeat F.gives F.may_fail H.Way.history (IsSureOf H.Way.sure H.Way.offers asked))
+        company.old.seats) (AllByRecursion
+        (IsSureSeat F.gives F.may_fail H.Way.history (IsSureOf H.Way.sure H.Way.offers asked))
+        company.new.seats) desk.old.moves desk.new.moves held.old.halt held.new.halt result }
     ensures many { length company.new.seats ≡ length company.old.seats }
     ensures numbers { (k : ℕ) → seats_under k company.new.seats ≡ seats_under k company.old.seats }
     ensures newest { company.new.newest ≡ company.old.newest }
@@ -122,6 +137,14 @@ fn visit<B: PoolTerms, F: Commands, S: Site, H: Hall<F>, T: Terms + Trust, C: Cl
         (IsIllLink F.gives F.may_fail H.Way.history H.Way.count H.Way.idle_count H.Way.is_closed limit)
         H.Way.history desk.old.moves desk.new.moves held.old.halt held.new.halt company.old
         company.new (H.got hall.old) (H.got hall.new) }
+    ensures calm { (asked : Option Asked) → H.Way.tells
+        → KeepsCalm (IsSureCompany F.gives F.may_fail H.Way.history H.Way.idle_count
+        (IsSureOf H.Way.sure H.Way.offers asked) (IsComing H.sure H.staffed asked hall.old)
+        (IsUnmet H.manned H.idle_count asked hall.old) desk.old.moves company.old) (IsSureCompany
+        F.gives F.may_fail H.Way.history H.Way.idle_count (IsSureOf H.Way.sure H.Way.offers asked)
+        (IsComing H.sure H.staffed asked hall.new) (IsUnmet H.manned H.idle_count asked hall.new)
+        desk.new.moves company.new) desk.old.moves desk.new.moves held.old.halt held.new.halt
+        company.old company.new }
     ensures met { Meets (H.count hall.old) (H.count hall.new) (H.got hall.old)
         (H.got hall.new) (H.given hall.old) (H.given hall.new) (H.idle_count hall.old)
         (H.idle_count hall.new) (inside_of company.old) (inside_of company.new)
@@ -162,6 +185,14 @@ fn ask<B: PoolTerms, F: Commands, S: Site, H: Hall<F>, T: Terms + Trust, C: Cloc
         (IsIllLink F.gives F.may_fail H.Way.history H.Way.count H.Way.idle_count H.Way.is_closed limit)
         H.Way.history desk.old.moves desk.new.moves held.old.halt held.new.halt company.old
         company.new (H.got hall.old) (H.got hall.new) }
+    ensures calm { (asked : Option Asked) → H.Way.tells
+        → KeepsCalm (IsSureCompany F.gives F.may_fail H.Way.history H.Way.idle_count
+        (IsSureOf H.Way.sure H.Way.offers asked) (IsComing H.sure H.staffed asked hall.old)
+        (IsUnmet H.manned H.idle_count asked hall.old) desk.old.moves company.old) (IsSureCompany
+        F.gives F.may_fail H.Way.history H.Way.idle_count (IsSureOf H.Way.sure H.Way.offers asked)
+        (IsComing H.sure H.staffed asked hall.new) (IsUnmet H.manned H.idle_count asked hall.new)
+        desk.new.moves company.new) desk.old.moves desk.new.moves held.old.halt held.new.halt
+        company.old company.new }
     ensures met { Meets (H.count hall.old) (H.count hall.new) (H.got hall.old)
         (H.got hall.new) (H.given hall.old) (H.given hall.new) (H.idle_count hall.old)
         (H.idle_count hall.new) (inside_of company.old) (inside_of company.new)
@@ -203,6 +234,14 @@ pub(super) fn visit_all<B: PoolTerms, F: Commands, S: Site, H: Hall<F>, T: Terms
         (IsIllLink F.gives F.may_fail H.Way.history H.Way.count H.Way.idle_count H.Way.is_closed limit)
         H.Way.history desk.old.moves desk.new.moves held.old.halt held.new.halt company.old
         company.new (H.got hall.old) (H.got hall.new) }
+    ensures calm { (asked : Option Asked) → H.Way.tells
+        → KeepsCalm (IsSureCompany F.gives F.may_fail H.Way.history H.Way.idle_count
+        (IsSureOf H.Way.sure H.Way.offers asked) (IsComing H.sure H.staffed asked hall.old)
+        (IsUnmet H.manned H.idle_count asked hall.old) desk.old.moves company.old) (IsSureCompany
+        F.gives F.may_fail H.Way.history H.Way.idle_count (IsSureOf H.Way.sure H.Way.offers asked)
+        (IsComing H.sure H.staffed asked hall.new) (IsUnmet H.manned H.idle_count asked hall.new)
+        desk.new.moves company.new) desk.old.moves desk.new.moves held.old.halt held.new.halt
+        company.old company.new }
     ensures met { Meets (H.count hall.old) (H.count hall.new) (H.got hall.old)
         (H.got hall.new) (H.given hall.old) (H.given hall.new) (H.idle_count hall.old)
         (H.idle_count hall.new) (inside_of company.old) (inside_of company.new)
@@ -241,6 +280,14 @@ pub(crate) fn ask_all<B: PoolTerms, F: Commands, S: Site, H: Hall<F>, T: Terms +
         (IsIllLink F.gives F.may_fail H.Way.history H.Way.count H.Way.idle_count H.Way.is_closed limit)
         H.Way.history desk.old.moves desk.new.moves held.old.halt held.new.halt company.old
         company.new (H.got hall.old) (H.got hall.new) }
+    ensures calm { (asked : Option Asked) → H.Way.tells
+        → KeepsCalm (IsSureCompany F.gives F.may_fail H.Way.history H.Way.idle_count
+        (IsSureOf H.Way.sure H.Way.offers asked) (IsComing H.sure H.staffed asked hall.old)
+        (IsUnmet H.manned H.idle_count asked hall.old) desk.old.moves company.old) (IsSureCompany
+        F.gives F.may_fail H.Way.history H.Way.idle_count (IsSureOf H.Way.sure H.Way.offers asked)
+        (IsComing H.sure H.staffed asked hall.new) (IsUnmet H.manned H.idle_count asked hall.new)
+        desk.new.moves company.new) desk.old.moves desk.new.moves held.old.halt held.new.halt
+        company.old company.new }
     ensures met { Meets (H.count hall.old) (H.count hall.new) (H.got hall.old)
         (H.got hall.new) (H.given hall.old) (H.given hall.new) (H.idle_count hall.old)
         (H.idle_count hall.new) (inside_of company.old) (inside_of company.new)

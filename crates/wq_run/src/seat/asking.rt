@@ -1,17 +1,23 @@
 //! What a worker is asked to do.
 ghost use Rattle.std.specs.Prelude.{◌≡◌, ◌≤◌, ◌<◌, ◌∷◌, ◌++◌, [], ℕ, List, None, Some, length};
-ghost use Rattle.std.specs.Prelude.{IfSome, OnErr, OnOk, false};
+ghost use Rattle.std.specs.Prelude.{IfErr, IfOk, IfSome, OnErr, OnOk, Option, false};
 ghost use Rattle.std.specs.List.{AllByRecursion};
 ghost use Rattle.flow_types.specs.declared.job.Task.{Task as TaskValue};
+ghost use Rattle.flow_types.specs.declared.messages.Key.{Key as KeyValue};
 ghost use Rattle.flow_types.specs.declared.messages.Message.TheVariants as messages;
+ghost use Rattle.flow_types.specs.declared.numbers.AttemptNo.{AttemptNo as AttemptNoValue};
 ghost use Rattle.flow_types.specs.Plans.{IsValid, most_bytes};
 ghost use Rattle.run_history.specs.Links.{records_of};
 ghost use Rattle.wq_messages.specs.Spelling.{HasCounts, most_body, spelling};
 ghost use Rattle.desk.specs.declared.attempt.Attempt.{Attempt as AttemptValue};
 ghost use Rattle.desk.specs.Tasks.{task_of};
+ghost use Rattle.link_session.specs.Keys.{key_of};
 ghost use Rattle.link_session.specs.Sessions.{is_open, started};
 ghost use Rattle.local_run.specs.Underway.{IsHeld, IsSurePool};
+ghost use Rattle.peers.specs.Provides.{keys_of};
 ghost use Rattle.peers.specs.States.{MaySend, ReceivesOn};
+ghost use Rattle.wq_run.specs.Calm.{AddsWell, Asked, FaresWell, IsSureOf, IsSureSeat, IsSureToAsk};
+ghost use Rattle.wq_run.specs.Calm.{IsWantOr, StaysOr};
 ghost use Rattle.wq_run.specs.Dues.{FaresSeat, IsIllLink};
 ghost use Rattle.wq_run.specs.Seats.{IsAtSeat, IsInside, SeatAfter, seat_with};
 ghost use Rattle.wq_run.specs.Trusted.{IsFair, IsHeard, IsOf, IsOwn, MayAsk, MayOpen, WasAsked};
@@ -23,7 +29,7 @@ use flow_types::{AttemptNo, FileNo, Key, Memory, Rows, Task};
 use links::Link;
 use local_run::{Halt, Held, claim_away, lose_away, read_away};
 use outside::{Clock, Commands, Site};
-use peers::{Leave, what_is_due_stays_due};
+use peers::{Leave, tasks_come_behind_their_inputs, what_is_due_stays_due};
 use std::alloc::Global;
 use worker_pool::Terms as PoolTerms;
 
@@ -83,8 +89,15 @@ impl<F: Commands, L: Link<F>, T: Terms + Trust> Seat<F, L, T> {
         ensures comes { L.tells
             → ReceivesOn (L.history self.old.peer.way) (L.history self.new.peer.way) }
         ensures cause { MaySend (L.count self.old.peer.way) (L.count self.new.peer.way) result }
+        ensures calm { (asked : Option Asked) (task : TaskValue) (left : List KeyValue) → L.tells
+            → IsSureToAsk F.gives F.may_fail L.history (IsSureOf L.sure L.offers asked) self.old
+            task (key ∷ left)
+            → StaysOr (IsSureToAsk F.gives F.may_fail L.history (IsSureOf L.sure L.offers asked)
+            self.new task left) ⊥ result }
+        ensures wants { L.sure self.old.peer.way → IfErr result (IsWantOr ⊥) }
     {
         what_is_due_stays_due();
+        tasks_come_behind_their_inputs();
         match self.peer.put(alloc, key, content) {
             Ok(()) => Ok(()),
             Err(leave) => {
@@ -107,8 +120,15 @@ impl<F: Commands, L: Link<F>, T: Terms + Trust> Seat<F, L, T> {
         ensures comes { L.tells
             → ReceivesOn (L.history self.old.peer.way) (L.history self.new.peer.way) }
         ensures cause { MaySend (L.count self.old.peer.way) (L.count self.new.peer.way) result }
+        ensures calm { (asked : Option Asked) → L.tells
+            → IsSureToAsk F.gives F.may_fail L.history (IsSureOf L.sure L.offers asked) self.old
+            task []
+            → StaysOr
+            (IsSureSeat F.gives F.may_fail L.history (IsSureOf L.sure L.offers asked) self.new) ⊥
+            result }
     {
         what_is_due_stays_due();
+        tasks_come_behind_their_inputs();
         match self.peer.ask(alloc, task) {
             Ok(()) => {
                 self.is_ready = true;
@@ -136,7 +156,14 @@ impl<F: Commands, L: Link<F>, T: Terms + Trust> Seat<F, L, T> {
             → AllByRecursion (IsOwn T.plan T.run task.now) self.old.attempts
             → OnOk result
             (MayAsk T.holds F.gives F.may_fail L.history (IsFair T.holds L.tells L.honest) T.plan T.run T.due self.new task.now) }
+        ensures calm { (asked : Option Asked) → L.tells
+            → IsSureSeat F.gives F.may_fail L.history (IsSureOf L.sure L.offers asked) self.old
+            → ((newest : AttemptNoValue) → self.old.newest ≡ Some newest
+            → newest.0 < task.now.attempt.0)
+            → IfOk result (λ files. IsSureToAsk F.gives F.may_fail L.history
+            (IsSureOf L.sure L.offers asked) self.new task.now (keys_of task.now.run files)) }
     {
+        tasks_come_behind_their_inputs();
         self.is_ready = false;
         self.newest = Some(task.attempt);
         self.peer.open(task)
@@ -168,6 +195,13 @@ impl<F: Commands, L: Link<F>, T: Terms + Trust> Seat<F, L, T> {
         ensures fares { (limit : ℕ) → L.tells → FaresSeat
             (IsIllLink F.gives F.may_fail L.history L.count L.idle_count L.is_closed limit)
             L.history desk.old.moves desk.new.moves held.old.halt held.new.halt self.old self.new result }
+        ensures calm { (asked : Option Asked) (task : TaskValue) (left : List KeyValue) → L.tells
+            → IsSureToAsk F.gives F.may_fail L.history (IsSureOf L.sure L.offers asked) self.old
+            task (key_of run file ∷ left)
+            → FaresWell desk.old.moves desk.new.moves held.new.halt result (IsSureToAsk F.gives
+            F.may_fail L.history (IsSureOf L.sure L.offers asked) self.new task left) }
+        ensures wants { L.sure self.old.peer.way → held.new.halt ≡ None
+            → AddsWell desk.old.moves desk.new.moves × IfErr result (IsWantOr ⊥) }
     {
         if !held.is_going() {
             return Ok(());
@@ -216,6 +250,11 @@ impl<F: Commands, L: Link<F>, T: Terms + Trust> Seat<F, L, T> {
         ensures fares { (limit : ℕ) → L.tells → FaresSeat
             (IsIllLink F.gives F.may_fail L.history L.count L.idle_count L.is_closed limit)
             L.history desk.old.moves desk.new.moves held.old.halt held.new.halt self.old self.new result }
+        ensures calm { (asked : Option Asked) → L.tells
+            → IsSureToAsk F.gives F.may_fail L.history (IsSureOf L.sure L.offers asked) self.old
+            task (keys_of task.run files.now)
+            → FaresWell desk.old.moves desk.new.moves held.new.halt result
+            (IsSureSeat F.gives F.may_fail L.history (IsSureOf L.sure L.offers asked) self.new) }
     {
         for file in files {
             match self.put::<B, S>(alloc, desk, held, task.run, *file) {
@@ -287,6 +326,11 @@ impl<F: Commands, L: Link<F>, T: Terms + Trust> Seat<F, L, T> {
         ensures fares { (limit : ℕ) → L.tells → FaresSeat
             (IsIllLink F.gives F.may_fail L.history L.count L.idle_count L.is_closed limit)
             L.history desk.old.moves desk.new.moves held.old.halt held.new.halt self.old self.new result }
+        ensures calm { (asked : Option Asked) → L.tells
+            → IsSureSeat F.gives F.may_fail L.history (IsSureOf L.sure L.offers asked) self.old
+            → ((newest : AttemptNoValue) → self.old.newest ≡ Some newest → newest.0 < number.0)
+            → FaresWell desk.old.moves desk.new.moves held.new.halt result
+            (IsSureSeat F.gives F.may_fail L.history (IsSureOf L.sure L.offers asked) self.new) }
     {
         let Some(task) = self.task(alloc, desk, number) else {
             held.stop(Halt::Memory);
@@ -326,6 +370,10 @@ impl<F: Commands, L: Link<F>, T: Terms + Trust> Seat<F, L, T> {
         ensures fares { (limit : ℕ) → L.tells → FaresSeat
             (IsIllLink F.gives F.may_fail L.history L.count L.idle_count L.is_closed limit)
             L.history desk.old.moves desk.new.moves held.old.halt held.new.halt self.old self.new result }
+        ensures calm { (asked : Option Asked) → L.tells
+            → IsSureSeat F.gives F.may_fail L.history (IsSureOf L.sure L.offers asked) self.old
+            → FaresWell desk.old.moves desk.new.moves held.new.halt result
+            (IsSureSeat F.gives F.may_fail L.history (IsSureOf L.sure L.offers asked) self.new) }
     {
         let number = attempt.number();
         let is_new = self.is_new(number);
@@ -368,6 +416,10 @@ impl<F: Commands, L: Link<F>, T: Terms + Trust> Seat<F, L, T> {
         ensures fares { (limit : ℕ) → L.tells → FaresSeat
             (IsIllLink F.gives F.may_fail L.history L.count L.idle_count L.is_closed limit)
             L.history desk.old.moves desk.new.moves held.old.halt held.new.halt self.old self.new result }
+        ensures calm { (asked : Option Asked) → L.tells
+            → IsSureSeat F.gives F.may_fail L.history (IsSureOf L.sure L.offers asked) self.old
+            → FaresWell desk.old.moves desk.new.moves held.new.halt result
+            (IsSureSeat F.gives F.may_fail L.history (IsSureOf L.sure L.offers asked) self.new) }
     {
         match claim_away::<B, F, S, T>(desk, self.link(), clock.now()) {
             Ok(Claim::Taken(attempt)) => {

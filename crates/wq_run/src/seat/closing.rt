@@ -2,6 +2,7 @@
 ghost use Rattle.std.specs.Prelude.{◌≡◌, ◌++◌, ◌∷◌, ◌<◌, ◌+◌, [], ℕ, List, None};
 ghost use Rattle.std.specs.Prelude.{OnOk, Option, Some, false, length, slice_get};
 ghost use Rattle.std.specs.List.{AllByRecursion};
+ghost use Rattle.flow_types.specs.declared.job.Outcome.TheVariants as outcomes;
 ghost use Rattle.flow_types.specs.declared.job.Start.{Start as StartValue};
 ghost use Rattle.flow_types.specs.declared.plan.Rule.{Rule};
 ghost use Rattle.flow_types.specs.Plans.{IsValid};
@@ -18,6 +19,7 @@ ghost use Rattle.peers.specs.States.{ReceivesOn};
 ghost use Rattle.local_run.specs.declared.halt.Halt.{Halt as HaltValue};
 ghost use Rattle.local_run.specs.Underway.{AwayState, IsHeld, IsSurePool, RunsAt, Underway};
 ghost use Rattle.local_run.specs.Underway.{halt_after};
+ghost use Rattle.wq_run.specs.Calm.{AddsWell, Asked, FaresWell, IsSureOf, IsSureSeat};
 ghost use Rattle.wq_run.specs.Dues.{EndsWith, FaresSeat, GaveBackIf, GivesUp, IsIllLink, ended};
 ghost use Rattle.wq_run.specs.Seats.{AtPlace, IsAtPlace, IsAtSeat, KeepsSeat, MayEnd, MayEndAs};
 ghost use Rattle.wq_run.specs.Seats.{Stays};
@@ -62,6 +64,14 @@ fn end_away<B: PoolTerms, F: Commands, S: Site, T: Terms>(
         S.files S.may_leave S.moment S.images_since next first
         desk.new held waiting None heard (halt_after result halt) }
     ensures adds { OnOk result (EndsWith desk.old.moves attempt outcome desk.new.moves) }
+    ensures calm { (outs : List (List ℕ)) (away : AwayState) (front back : List AttemptValue)
+        (first : DeskState S) (held : List AttemptValue) (waiting : List StartValue)
+        (heard : Tally) → outcome ≡ outcomes.Success outs
+        → away.attempts ≡ front ++ attempt ∷ back
+        → Underway T.trust F.gives F.may_fail T.sources S.tells T.kept (IsSurePool B.fits)
+        S.files S.may_leave S.moment S.images_since away first
+        desk.old held waiting None heard None
+        → OnOk result (AddsWell desk.old.moves desk.new.moves) }
 {
     match outcome {
         Outcome::Success(outs) => finish_away::<B, F, S, T>(desk, attempt, &outs, moment),
@@ -101,6 +111,11 @@ impl<F: Commands, L: Link<F>, T: Terms + Trust> Seat<F, L, T> {
         ensures fares { (limit : ℕ) → L.tells → FaresSeat
             (IsIllLink F.gives F.may_fail L.history L.count L.idle_count L.is_closed limit)
             L.history desk.old.moves desk.new.moves held.old.halt held.new.halt self.old self.new (ended Leave) }
+        ensures calm { (asked : Option Asked) (outs : List (List ℕ))
+            → outcome ≡ outcomes.Success outs
+            → IsSureSeat F.gives F.may_fail L.history (IsSureOf L.sure L.offers asked) self.old
+            → FaresWell desk.old.moves desk.new.moves held.new.halt (ended Leave)
+            (IsSureSeat F.gives F.may_fail L.history (IsSureOf L.sure L.offers asked) self.new) }
     {
         let attempt = self.take(number);
         if let Err(why) = end_away::<B, F, S, T>(desk, attempt, outcome, clock.now()) {

@@ -1,20 +1,22 @@
 //! What a worker tells.
-ghost use Rattle.std.specs.Prelude.{◌≡◌, ◌<◌, ℕ, IfErr, IfOk, List, None, OnOk, Option, false, true};
+ghost use Rattle.std.specs.Prelude.{◌≡◌, ◌<◌, [], ℕ, IfErr, IfOk, List, None, Option, false, true, OnOk};
 ghost use Rattle.flow_types.specs.declared.messages.Message.{Message};
 ghost use Rattle.flow_types.specs.declared.messages.Message.TheVariants as messages;
 ghost use Rattle.flow_types.specs.declared.numbers.AttemptNo.{AttemptNo as AttemptNoValue};
 ghost use Rattle.flow_types.specs.Plans.{IsValid};
 ghost use Rattle.run_history.specs.Links.{is_live, records_of};
-ghost use Rattle.links.specs.Passings.{received_in};
+ghost use Rattle.links.specs.Passings.{received_in, sent_in};
 ghost use Rattle.message_forms.specs.Streams.{Carries};
+ghost use Rattle.links.specs.Honesty.{OwesNothing};
 ghost use Rattle.wq_frames.specs.Frames.{front, part};
-ghost use Rattle.peers.specs.Hears.{Hears};
-ghost use Rattle.peers.specs.Serves.{IsStillOwed, Serves};
+ghost use Rattle.peers.specs.Hears.{Hears, IsCalm};
+ghost use Rattle.peers.specs.Provides.{Provides};
+ghost use Rattle.peers.specs.Serves.{IsSettled, IsStillOwed, Serves};
 ghost use Rattle.peers.specs.States.{LeavesAs, ReceivesOn};
 ghost use Rattle.local_run.specs.declared.halt.Halt.{Halt as HaltValue};
 ghost use Rattle.local_run.specs.Underway.{HeldState, IsSurePool};
-ghost use Rattle.wq_run.specs.Dues.{FaresSeat, HearsOffer, IsIllLink, OffersMore, Shows};
-ghost use Rattle.wq_run.specs.Dues.{StaysHeard};
+ghost use Rattle.wq_run.specs.Calm.{AddsWell, Asked, FaresWell, IsSureOf, IsSureSeat, StaysOr};
+ghost use Rattle.wq_run.specs.Dues.{FaresSeat, IsFull, IsIllLink, Shows, HearsOffer, OffersMore, StaysHeard};
 ghost use Rattle.wq_run.specs.Seats.{IsAtSeat, SeatAfter, SeatState};
 ghost use Rattle.wq_run.specs.Trusted.{IsFair, IsHeard, IsOf, IsTrusted, TellsDue};
 
@@ -25,7 +27,10 @@ use flow_types::{Amounts, Outcome};
 use links::Link;
 use local_run::{Halt, Held, change};
 use outside::{Clock, Commands, Site};
-use peers::{Leave, Listened, Told, honest_links_were_honest};
+use peers::{
+    Leave, Listened, Told, honest_links_were_honest, sure_links_are_orderly,
+    tasks_come_behind_their_inputs,
+};
 use run_history::JoinRefused;
 use std::alloc::Global;
 use worker_pool::Terms as PoolTerms;
@@ -33,10 +38,16 @@ use worker_pool::Terms as PoolTerms;
 /// The most messages that are taken from one worker before the next has its turn.
 const MOST_MESSAGES: u32 = 64;
 
+/// What a look at a link found: bytes, or the link was asked and idle.
+struct Look {
+    came: bool,
+    was_idle: bool,
+}
+
 impl<F: Commands, L: Link<F>, T: Terms + Trust> Seat<F, L, T> {
-    // Takes the bytes that are there, and answers whether there were some. Where it has its turn to
+    // Takes the bytes that are there, and tells what the look found. Where the link has its turn to
     // be idle it is asked all the same.
-    fn listen(&mut self, alloc: Global, is_turn: bool) -> Result<bool, Leave>
+    fn listen(&mut self, alloc: Global, is_turn: bool) -> Result<Look, Leave>
         ensures link { self.new.link ≡ self.old.link }
         ensures attempts { self.new.attempts ≡ self.old.attempts }
         ensures session { self.new.peer.session ≡ self.old.peer.session }
@@ -48,13 +59,31 @@ impl<F: Commands, L: Link<F>, T: Terms + Trust> Seat<F, L, T> {
             → OnOk result (StaysHeard L.history self.old.peer self.new.peer) }
         ensures leaves { IfErr result (LeavesAs (L.is_closed self.new.peer.way)
             (L.count self.old.peer.way) (L.count self.new.peer.way)) }
+        ensures calm { (asked : Option Asked) → L.tells
+            → IsSureSeat F.gives F.may_fail L.history (IsSureOf L.sure L.offers asked) self.old
+            → StaysOr
+            (IsSureSeat F.gives F.may_fail L.history (IsSureOf L.sure L.offers asked) self.new) ⊥
+            result }
+        ensures owes { L.tells → L.sure self.old.peer.way
+            → IfOk result (λ look. look.was_idle ≡ true
+            → OwesNothing (sent_in (L.history self.new.peer.way))
+            (received_in (L.history self.new.peer.way))) }
     {
         if !self.peer.ready() && !is_turn {
-            return Ok(false);
+            return Ok(Look {
+                came: false,
+                was_idle: false,
+            });
         }
         match self.peer.listen(alloc) {
-            Ok(Listened::Piece) => Ok(true),
-            Ok(Listened::Idle(_)) => Ok(false),
+            Ok(Listened::Piece) => Ok(Look {
+                came: true,
+                was_idle: false,
+            }),
+            Ok(Listened::Idle(_)) => Ok(Look {
+                came: false,
+                was_idle: true,
+            }),
             Err(leave) => {
                 self.is_ready = false;
                 Err(leave)
@@ -70,6 +99,13 @@ impl<F: Commands, L: Link<F>, T: Terms + Trust> Seat<F, L, T> {
             → front self.now.peer.feed.rest ≡ part → result ≡ true
             → (number : AttemptNoValue)
             × IsStillOwed F.gives F.may_fail (L.history self.now.peer.way) number }
+        ensures settled { (said heard : List Message) → L.tells
+            → Serves F.gives F.may_fail (L.history self.now.peer.way) self.now.peer.feed
+            self.now.peer.session said heard None
+            → Provides self.now.peer.session.known said None []
+            → front self.now.peer.feed.rest ≡ part
+            → IsSettled F.gives F.may_fail (L.history self.now.peer.way)
+            → result ≡ false }
     {
         for attempt in &self.attempts {
             if self.peer.has(attempt.number()) {
@@ -79,15 +115,22 @@ impl<F: Commands, L: Link<F>, T: Terms + Trust> Seat<F, L, T> {
         false
     }
 
-    // Whether it was idle for too long while something runs there.
-    fn is_silent(&self, limit: u32) -> bool
+    // Whether it was idle, and has been for too long while something runs there.
+    fn is_silent(&self, was_idle: bool, limit: u32) -> bool
         ensures ill { result ≡ true → L.tells → front self.now.peer.feed.rest ≡ part
             → IsTrusted T.holds F.gives F.may_fail L.history
             (IsFair T.holds L.tells L.honest) T.plan T.run T.due self.now
             → IsIllLink F.gives F.may_fail L.history L.count L.idle_count L.is_closed limit
             self.now.link self.now.peer.way }
+        ensures calm { (asked : Option Asked) → L.tells
+            → IsSureSeat F.gives F.may_fail L.history (IsSureOf L.sure L.offers asked) self.now
+            → front self.now.peer.feed.rest ≡ part → (was_idle ≡ true
+            → OwesNothing (sent_in (L.history self.now.peer.way))
+            (received_in (L.history self.now.peer.way))) → result ≡ false }
     {
-        self.peer.idles() >= u64::from(limit) && self.has_open()
+        honest_links_were_honest::<F, L>();
+        sure_links_are_orderly::<F, L>();
+        was_idle && self.peer.idles() >= u64::from(limit) && self.has_open()
     }
 
     // What the next whole message tells, if one is there.
@@ -109,8 +152,14 @@ impl<F: Commands, L: Link<F>, T: Terms + Trust> Seat<F, L, T> {
             → OnOk result (StaysHeard L.history self.old.peer self.new.peer) }
         ensures offers { L.tells
             → IfOk result (λ told. HearsOffer L.history self.old.peer self.new.peer told) }
+        ensures calm { (asked : Option Asked) → L.tells
+            → IsSureSeat F.gives F.may_fail L.history (IsSureOf L.sure L.offers asked) self.old
+            → IsCalm result × IfOk result (λ told. IsSureSeat F.gives F.may_fail L.history
+            (IsSureOf L.sure L.offers asked) self.new) }
     {
         honest_links_were_honest::<F, L>();
+        sure_links_are_orderly::<F, L>();
+        tasks_come_behind_their_inputs();
         match self.peer.hear(alloc) {
             Ok(told) => Ok(told),
             Err(leave) => {
@@ -139,6 +188,11 @@ impl<F: Commands, L: Link<F>, T: Terms + Trust> Seat<F, L, T> {
             → L.tells → OffersMore L.history before self.old → FaresSeat
             (IsIllLink F.gives F.may_fail L.history L.count L.idle_count L.is_closed limit)
             L.history desk.old.moves desk.new.moves halt halt before self.new result }
+        ensures calm { (asked : Option Asked)
+            → IsSureSeat F.gives F.may_fail L.history (IsSureOf L.sure L.offers asked) self.old
+            → AddsWell desk.old.moves desk.new.moves × StaysOr (IsSureSeat F.gives F.may_fail
+            L.history (IsSureOf L.sure L.offers asked) self.new
+            × (self.new.peer.way ≡ self.old.peer.way)) (IsFull desk.new.moves) result }
     {
         match change::<B, F, S, T>(desk, self.link(), total, largest, cache) {
             Ok(()) => Ok(true),
@@ -171,6 +225,11 @@ impl<F: Commands, L: Link<F>, T: Terms + Trust> Seat<F, L, T> {
         ensures fares { (limit : ℕ) → L.tells → FaresSeat
             (IsIllLink F.gives F.may_fail L.history L.count L.idle_count L.is_closed limit)
             L.history desk.old.moves desk.new.moves held.old.halt held.new.halt self.old self.new result }
+        ensures calm { (asked : Option Asked) → L.tells
+            → IsSureSeat F.gives F.may_fail L.history (IsSureOf L.sure L.offers asked) self.old
+            → FaresWell desk.old.moves desk.new.moves held.new.halt result (IsSureSeat F.gives
+            F.may_fail L.history (IsSureOf L.sure L.offers asked) self.new
+            × (self.new.peer.way ≡ self.old.peer.way)) }
         ensures rests { IfOk result (λ did. did ≡ false → held.new.halt ≡ None
             → (front self.new.peer.feed.rest ≡ part) × (IsHeard T.holds L.tells
             → IsTrusted T.holds F.gives F.may_fail L.history
@@ -243,13 +302,17 @@ impl<F: Commands, L: Link<F>, T: Terms + Trust> Seat<F, L, T> {
         ensures fares { L.tells → FaresSeat
             (IsIllLink F.gives F.may_fail L.history L.count L.idle_count L.is_closed limit)
             L.history desk.old.moves desk.new.moves held.old.halt held.new.halt self.old self.new result }
+        ensures calm { (asked : Option Asked) → L.tells
+            → IsSureSeat F.gives F.may_fail L.history (IsSureOf L.sure L.offers asked) self.old
+            → FaresWell desk.old.moves desk.new.moves held.new.halt result
+            (IsSureSeat F.gives F.may_fail L.history (IsSureOf L.sure L.offers asked) self.new) }
     {
         if !self.is_ready() {
             held.stop(Halt::Memory);
             return Ok(false);
         }
-        let came = match self.listen(alloc, is_turn) {
-            Ok(came) => came,
+        let Look { came, was_idle } = match self.listen(alloc, is_turn) {
+            Ok(look) => look,
             Err(leave) => return Err(leave),
         };
         let mut did = came;
@@ -257,7 +320,7 @@ impl<F: Commands, L: Link<F>, T: Terms + Trust> Seat<F, L, T> {
             match self.hear::<B, S, C>(alloc, desk, held, clock) {
                 Ok(true) => did = true,
                 Ok(false) => {
-                    if self.is_silent(limit) {
+                    if self.is_silent(was_idle, limit) {
                         return Err(Leave::Closed);
                     }
                     return Ok(did);

@@ -1,18 +1,24 @@
-use Rattle.std.proofs.Common.{List, Option, [], ap, arith, false, rules, subst, sym, true≢false, ◌++◌, ◌-◌, ◌∙◌, ◌≡◌}
+use Rattle.std.proofs.Common.{List, None, Option, Some, [], ap, arith, false, refl, rules, subst, sym, true≢false, ◌++◌, ◌-◌, ◌∙◌, ◌≡◌}
 use Rattle.std.specs.Prelude.{IfOk, OnOk, sum_by}
 use Rattle.run_history.specs.Answers.{before_end}
 use Rattle.std.proofs.lemmas.List.{append-nil}
 use Rattle.worker_pool.specs.Crews.{AllSure}
 use Rattle.wq_run.specs.Seats.{AreSeats, CompanyState, gathered, links_in}
+use Rattle.wq_run.specs.Dues.{IsIllLink}
+use Rattle.flow_types.specs.declared.plan.Plan.{Plan}
+use Rattle.run_history.specs.declared.options.Options.{Options}
+use Rattle.wq_run.proofs.Manned.{company_begins, manned_whole, none_asked, same_asked, stated_ended}
 use Rattle.wq_run.proofs.Services.{met_then}
 use Rattle.wq_run.proofs.Working.{are_back, damage_by, ends_by_waiting, spared_by, stands_begins, stops_by, whole_by}
 use Rattle.flow_types.specs.declared.numbers.LinkNo.{LinkNo}
 use Rattle.run_history.specs.Links.{records_of}
 use Rattle.wq_run.specs.Losses.{AreDueLosses}
-use Rattle.wq_run.specs.Vain.{AreVain, IfWaited}
+use Rattle.wq_run.specs.Vain.{AreVain, IfWaited, NeedsAtMost}
 use Rattle.wq_run.proofs.Duly.{due_whole}
 use Rattle.wq_run.proofs.Heards.{ok_step}
 use Rattle.wq_run.proofs.Whole.{vain_whole}
+use Rattle.wq_run.specs.Calm.{Asked, ComeFew, IsComing, IsSureOf, IsSureCompany, IsUnmet}
+use Rattle.wq_run.proofs.Calmly.{calm_ended, calm_whole, few_whole}
 use Rattle.wq_run.proofs.course.work.Goals as goal
 
 pub returns-in-Err-Failed : goal.returns-in-Err-Failed
@@ -34,6 +40,8 @@ returns-in-Err-Failed g c =
       vain = λ tells first. tt;
       ends = tt;
       back = λ uncut. record { more = []; are = c.listen.ensures.got ∙ sym (append-nil (g.H.Hall.got c.args.hall.now)); many = (let given = c.listen.ensures.given in omega (arith, given)); apart = λ k. omega arith };
+      manned = λ least tells first sure manned all few limited most. tt;
+      calm = λ tells first sure all few. tt;
     }
 
 pub returns-in-Err-Memory : goal.returns-in-Err-Memory
@@ -55,6 +63,8 @@ returns-in-Err-Memory g c =
       vain = λ tells first. tt;
       ends = tt;
       back = λ uncut. absurd (uncut tt);
+      manned = λ least tells first sure manned all few limited most. tt;
+      calm = λ tells first sure all few. tt;
     }
 
 pub run_all-done-requires-clause-on : goal.run_all-done-requires-clause-on
@@ -96,6 +106,8 @@ returns-then-has_lost g c =
       vain = λ tells first. tt;
       ends = tt;
       back = λ uncut. absurd (uncut tt);
+      manned = λ least tells first sure manned all few limited most. tt;
+      calm = λ tells first sure all few. tt;
     }
 
 pub returns : goal.returns
@@ -141,6 +153,36 @@ returns g c =
           let b = are_back (g.H.Hall.count c.listen.new.self) (g.H.Hall.count c.disband.new.hall) (g.H.Hall.got c.listen.new.self) (g.H.Hall.got c.disband.new.hall) (g.H.Hall.given c.listen.new.self) (g.H.Hall.given c.disband.new.hall) (g.H.Hall.idle_count c.listen.new.self) (g.H.Hall.idle_count c.disband.new.hall)
           company c.disband.new.company c.disband.ensures.seats c.disband.ensures.guests none empty (search rules) met in
           record { more = b.more; are = b.are ∙ ap (λ l. l ++ b.more) c.listen.ensures.got; many = (let all = b.many in let given = c.listen.ensures.given in omega (arith, all, given)); apart = b.apart };
+      calm = λ tells first sure all few.
+          let company : CompanyState g.row.H-Way.Denot = c.new-company.result in
+          let none : company.seats ≡ [] = ap (λ (x : CompanyState g.row.H-Way.Denot). x.seats) c.new-company.ensures in
+          let kept : c.disband.new.company.lost ≡ false = search rules in
+          let asked : Option Asked = None in
+          let began : IsSureCompany g.F.Commands.gives g.F.Commands.may_fail g.H.Way.Link.history g.H.Way.Link.idle_count (IsSureOf g.H.Way.Link.sure g.H.Way.Link.offers asked) (IsComing g.H.Hall.sure g.H.Hall.staffed asked c.listen.new.self) (IsUnmet g.H.Hall.manned g.H.Hall.idle_count asked c.listen.new.self) c.args.desk.now.moves company =
+          company_begins g.F.Commands.gives g.F.Commands.may_fail g.H.Way.Link.history g.H.Way.Link.idle_count (IsSureOf g.H.Way.Link.sure g.H.Way.Link.offers asked) c.args.desk.now.moves company c.new-company.ensures first
+          (record { surely = c.listen.ensures.sure sure; offering = λ a so. absurd (none_asked a so) }) (record { still = λ a so. absurd (none_asked a so) }) in
+          let room = few_whole g.F.Commands.gives g.F.Commands.may_fail g.H.Way.Link.history g.H.Way.Link.count g.H.Way.Link.idle_count g.H.Way.Link.is_closed c.args.workers.limit c.args.desk.now.moves c.run_all-done.new.desk.moves company c.run_all-done.new.company c.disband.new.company (g.H.Hall.got c.listen.new.self) (g.H.Hall.got c.run_all-done.new.hall) (g.H.Hall.got c.disband.new.hall) c.run_all-done.result first none (ok_step c.run_all-done.result _ _ (λ keeps. keeps.due) (c.run_all-done.ensures.due tells)) c.run_all-done.ensures.sound (c.disband.ensures.due c.args.workers.limit c.run_all-done.new.desk.moves tells) c.disband.ensures.failed kept c.disband.ensures.seats
+          (subst (λ (xs : List (Option LinkNo × g.row.H-Way.Denot)). ComeFew g.H.Way.Link.history g.H.Way.Link.count g.H.Way.Link.idle_count g.H.Way.Link.is_closed xs (g.H.Hall.got c.disband.new.hall)) (sym c.listen.ensures.got) few) in
+          calm_whole (IsSureCompany g.F.Commands.gives g.F.Commands.may_fail g.H.Way.Link.history g.H.Way.Link.idle_count (IsSureOf g.H.Way.Link.sure g.H.Way.Link.offers asked) (IsComing g.H.Hall.sure g.H.Hall.staffed asked c.run_all-done.new.hall) (IsUnmet g.H.Hall.manned g.H.Hall.idle_count asked c.run_all-done.new.hall) c.run_all-done.new.desk.moves c.run_all-done.new.company) c.args.desk.now.moves c.run_all-done.new.desk.moves company c.run_all-done.new.company c.run_all-done.result (c.run_all-done.ensures.calm asked tells all) c.run_all-done.ensures.sound began room;
+      manned = λ least tells first sure manned all few limited most.
+          let company : CompanyState g.row.H-Way.Denot = c.new-company.result in
+          let none : company.seats ≡ [] = ap (λ (x : CompanyState g.row.H-Way.Denot). x.seats) c.new-company.ensures in
+          let kept : c.disband.new.company.lost ≡ false = search rules in
+          let asked : Asked = record { least = least; idles = g.H.Hall.idle_count c.listen.new.self } in
+          let staffed = (c.manned_halls_are_staffed.ensures c.args.hall.now least manned).0 in
+          let began : IsSureCompany g.F.Commands.gives g.F.Commands.may_fail g.H.Way.Link.history g.H.Way.Link.idle_count (IsSureOf g.H.Way.Link.sure g.H.Way.Link.offers (Some asked)) (IsComing g.H.Hall.sure g.H.Hall.staffed (Some asked) c.listen.new.self) (IsUnmet g.H.Hall.manned g.H.Hall.idle_count (Some asked) c.listen.new.self) c.args.desk.now.moves company =
+          company_begins g.F.Commands.gives g.F.Commands.may_fail g.H.Way.Link.history g.H.Way.Link.idle_count (IsSureOf g.H.Way.Link.sure g.H.Way.Link.offers (Some asked)) c.args.desk.now.moves company c.new-company.ensures first
+          (record { surely = c.listen.ensures.sure sure; offering = λ a so. subst (λ (x : Asked). g.H.Hall.staffed c.listen.new.self x.least) (same_asked asked a so) (c.listen.ensures.staffed least staffed) })
+          (record { still = λ a so. subst (λ (x : Asked). g.H.Hall.manned c.listen.new.self x.least × (g.H.Hall.idle_count c.listen.new.self ≡ x.idles)) (same_asked asked a so) (c.listen.ensures.manned least manned, refl) }) in
+          let room = few_whole g.F.Commands.gives g.F.Commands.may_fail g.H.Way.Link.history g.H.Way.Link.count g.H.Way.Link.idle_count g.H.Way.Link.is_closed c.args.workers.limit c.args.desk.now.moves c.run_all-done.new.desk.moves company c.run_all-done.new.company c.disband.new.company (g.H.Hall.got c.listen.new.self) (g.H.Hall.got c.run_all-done.new.hall) (g.H.Hall.got c.disband.new.hall) c.run_all-done.result first none (ok_step c.run_all-done.result _ _ (λ keeps. keeps.due) (c.run_all-done.ensures.due tells)) c.run_all-done.ensures.sound (c.disband.ensures.due c.args.workers.limit c.run_all-done.new.desk.moves tells) c.disband.ensures.failed kept c.disband.ensures.seats
+          (subst (λ (xs : List (Option LinkNo × g.row.H-Way.Denot)). ComeFew g.H.Way.Link.history g.H.Way.Link.count g.H.Way.Link.idle_count g.H.Way.Link.is_closed xs (g.H.Hall.got c.disband.new.hall)) (sym c.listen.ensures.got) few) in
+          let ended = calm_ended (IsSureCompany g.F.Commands.gives g.F.Commands.may_fail g.H.Way.Link.history g.H.Way.Link.idle_count (IsSureOf g.H.Way.Link.sure g.H.Way.Link.offers (Some asked)) (IsComing g.H.Hall.sure g.H.Hall.staffed (Some asked) c.run_all-done.new.hall) (IsUnmet g.H.Hall.manned g.H.Hall.idle_count (Some asked) c.run_all-done.new.hall) c.run_all-done.new.desk.moves c.run_all-done.new.company) c.args.desk.now.moves c.run_all-done.new.desk.moves company c.run_all-done.new.company c.run_all-done.result (c.run_all-done.ensures.calm (Some asked) tells all) c.run_all-done.ensures.sound began room in
+          let stated = stated_ended g.F.Commands.gives g.F.Commands.may_fail g.H.Way.Link.history g.H.Way.Link.count g.H.Way.Link.idle_count g.H.Way.Link.is_closed c.args.workers.limit (IsIllLink g.F.Commands.gives g.F.Commands.may_fail g.H.Way.Link.history g.H.Way.Link.count g.H.Way.Link.idle_count g.H.Way.Link.is_closed c.args.workers.limit) c.args.desk.now.moves c.run_all-done.new.desk.moves company c.run_all-done.new.company (g.H.Hall.got c.listen.new.self) (g.H.Hall.got c.run_all-done.new.hall) c.run_all-done.result none (c.run_all-done.ensures.due tells) c.run_all-done.ensures.sound in
+          let needs = subst (λ (P : Plan). NeedsAtMost P c.run_all-done.new.desk.options least) (sym w.goes.plan) (subst (λ (O : Options). NeedsAtMost c.args.desk.now.plan O least) (sym w.goes.options) most) in
+          manned_whole g.F.Commands.gives g.F.Commands.may_fail g.H.Way.Link.history g.H.Way.Link.count g.H.Way.Link.idle_count g.H.Way.Link.is_closed c.args.workers.limit g.H.Way.Link.sure g.H.Way.Link.offers asked (λ way. c.offers_were_stated.ensures way least) c.run_all-done.new.desk.plan c.run_all-done.new.desk.options needs (g.H.Hall.idle_count c.run_all-done.new.hall - g.H.Hall.idle_count c.listen.new.self) c.run_all-done.new.desk.moves c.run_all-done.new.company
+          (IsComing g.H.Hall.sure g.H.Hall.staffed (Some asked) c.run_all-done.new.hall) (IsUnmet g.H.Hall.manned g.H.Hall.idle_count (Some asked) c.run_all-done.new.hall) limited
+          (λ unmet. let same : g.H.Hall.idle_count c.run_all-done.new.hall ≡ g.H.Hall.idle_count c.listen.new.self = (unmet.still asked refl).1 in omega (arith, same)) c.run_all-done.ensures.seats c.run_all-done.result ended stated c.run_all-done.ensures.alone
+          (ends_by_waiting g.S.Site.tells g.T.Terms.kept (AllSure g.R.Runner.sure c.args.runners.now) g.S.Site.files c.args.workers.limit c.run_all-done.new.desk (sum_by g.R.Runner.count c.args.runners.now) (sum_by g.R.Runner.count c.run_all-done.new.runners) (g.H.Hall.count c.listen.new.self) (g.H.Hall.count c.run_all-done.new.hall) (g.H.Hall.idle_count c.listen.new.self) (g.H.Hall.idle_count c.run_all-done.new.hall) (g.H.Hall.idle_count c.listen.new.self) (g.H.Hall.idle_count c.run_all-done.new.hall) c.run_all-done.result (omega arith) (omega arith) w.ended);
     }
 
 pub run_all-done-requires-clause-going : goal.run_all-done-requires-clause-going

@@ -2,9 +2,11 @@ use Rattle.std.proofs.Common.{◌∙◌, ap, rules, subst, sym}
 use Rattle.flow_types.specs.Plans.{IsValid}
 use Rattle.local_run.specs.Underway.{IsSurePool}
 use Rattle.wq_run.specs.Seats.{gathered}
+use Rattle.wq_run.specs.Calm.{IsSureOf}
 use Rattle.wq_run.proofs.Services.{finished_by, manned_want, met_none, wanting_halts}
 use Rattle.wq_run.proofs.Fares.{halted_never}
 use Rattle.wq_run.proofs.Duties.{due_halted, due_settled, due_then}
+use Rattle.wq_run.proofs.Calmly.{calm_never, calm_settled, company_moved, due_unstopped}
 use Rattle.wq_run.proofs.finishing.finish.Goals as goal
 
 pub settle-requires-clause-underway : goal.settle-requires-clause-underway
@@ -47,3 +49,12 @@ returns-clause-due g c limit tells =
     let h = wanting_halts c.args.held c.stop_wanting.new.held c.stop_wanting.ensures.wants c.stop_wanting.ensures.stays in
     due_then _ _ (due_halted _ _ {c_now = c.args.company.now} h.0 h.1) (due_then _ _ (c.dismiss.ensures.due limit tells (λ none fine kept. halted_never h.0 c.stop_wanting.new.held.halt h.1 none))
     (due_settled _ _ c.dismiss.new.desk c.settle-2.new.desk c.dismiss.new.held.halt c.settle-2.result c.settle-2.ensures.rests))
+
+pub returns-then-is_idle-clause-calm : goal.returns-then-is_idle-clause-calm
+returns-then-is_idle-clause-calm g c asked tells = calm_settled c.args.desk.now c.settle.new.desk c.args.held.halt c.settle.result c.settle.ensures.rests (λ same was. company_moved g.F.Commands.gives g.F.Commands.may_fail g.H.Way.Link.history g.H.Way.Link.idle_count (IsSureOf g.H.Way.Link.sure g.H.Way.Link.offers asked) same was)
+
+pub returns-clause-calm : goal.returns-clause-calm
+returns-clause-calm g c asked tells =
+    let h = wanting_halts c.args.held c.stop_wanting.new.held c.stop_wanting.ensures.wants c.stop_wanting.ensures.stays in
+    calm_never (λ now. halted_never h.0 c.stop_wanting.new.held.halt h.1 (due_unstopped _ _ (due_then _ _ (c.dismiss.ensures.due 0 tells (λ none fine kept. halted_never h.0 c.stop_wanting.new.held.halt h.1 none))
+    (due_settled _ _ c.dismiss.new.desk c.settle-2.new.desk c.dismiss.new.held.halt c.settle-2.result c.settle-2.ensures.rests)).due now).0)

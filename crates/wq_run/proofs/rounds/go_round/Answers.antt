@@ -13,6 +13,7 @@ use Rattle.wq_run.specs.Seats.{AreSeats}
 use Rattle.run_history.specs.declared.answers.Check.{Check}
 use Rattle.wq_run.specs.Works.{EndsNow, IsOn}
 use Rattle.wq_run.specs.Trusted.{IsOf}
+use Rattle.wq_run.proofs.Earned.{joins_still}
 use Rattle.wq_run.proofs.Ending.{memory_halt, none_same}
 use Rattle.wq_run.proofs.Services.{met_then}
 use Rattle.wq_run.proofs.Working.{hall_rose, is_on, round_by, round_halted, round_over, round_unended, round_waits, seats_goes}
@@ -23,6 +24,8 @@ use Rattle.wq_run.proofs.Vain.{unwaited}
 use Rattle.wq_run.proofs.Heards.{ok_step}
 use Rattle.wq_run.specs.Dues.{IsIllLink}
 use Rattle.wq_run.specs.Keeping.{KeepsOn}
+use Rattle.wq_run.specs.Calm.{IsComing, IsSureOf, IsSureCompany, IsUnmet, KeepsCalm}
+use Rattle.wq_run.proofs.Calmly.{calm_then, calm_well, company_moved}
 use Rattle.wq_run.proofs.rounds.go_round.Goals as goal
 
 pub returns-in-Err : goal.returns-in-Err
@@ -37,6 +40,7 @@ returns-in-Err g c = record {
   due = λ tells. tt;
   sound = tt;
   alone = tt;
+  calm = λ asked tells is. tt;
 }
 
 pub returns-then-has_lost : goal.returns-then-has_lost
@@ -52,6 +56,7 @@ returns-then-has_lost g c = record {
   due = λ tells. tt;
   sound = tt;
   alone = tt;
+  calm = λ asked tells is. tt;
 }
 
 pub returns-then-has_failed : goal.returns-then-has_failed
@@ -67,6 +72,7 @@ returns-then-has_failed g c = record {
   due = λ tells. tt;
   sound = tt;
   alone = tt;
+  calm = λ asked tells is. tt;
 }
 
 pub end-requires-clause-fine : goal.end-requires-clause-fine
@@ -96,6 +102,7 @@ returns-in-Ok-Some g c = record {
       let ended = subst (λ (o : Option Check). EndsNow g.T.Terms.trust g.F.Commands.gives g.F.Commands.may_fail g.T.Terms.sources g.S.Site.tells g.T.Terms.kept g.S.Site.files g.S.Site.may_leave g.S.Site.moment g.S.Site.images_since c.serve_all.new.desk c.end.new.desk (Ok o)) c.in-Ok-Some.field-0-is c.in-Ok-Some.ensures.ended in
       unwaited c.end.new.desk.plan c.end.new.desk.options (before_end (records_of c.end.new.desk.moves)) c.serve_all.new.desk.stop c.in-Ok-Some.check (c.in-Ok.ensures.came.closed.1 ∙ c.requires.on.unset) ended.ends.2.answer
       );
+  calm = λ asked tells is. (let ended = subst (λ (o : Option Check). EndsNow g.T.Terms.trust g.F.Commands.gives g.F.Commands.may_fail g.T.Terms.sources g.S.Site.tells g.T.Terms.kept g.S.Site.files g.S.Site.may_leave g.S.Site.moment g.S.Site.images_since c.serve_all.new.desk c.end.new.desk (Ok o)) c.in-Ok-Some.field-0-is c.in-Ok-Some.ensures.ended in calm_then (c.in-Ok.ensures.calm asked tells is) (calm_well ended.ends.2.well (λ was. company_moved g.F.Commands.gives g.F.Commands.may_fail g.H.Way.Link.history g.H.Way.Link.idle_count (IsSureOf g.H.Way.Link.sure g.H.Way.Link.offers asked) (joins_still c.serve_all.new.desk.moves c.end.new.desk.moves (ends_unlinked c.serve_all.new.desk.moves c.end.new.desk c.serve_all.new.desk.stop c.in-Ok-Some.check ended.ends.2)) was)));
 }
 
 pub returns-in-Err-end : goal.returns-in-Err-end
@@ -110,6 +117,7 @@ returns-in-Err-end g c = record {
   due = λ tells. tt;
   sound = tt;
   alone = tt;
+  calm = λ asked tells is. tt;
 }
 
 pub wait_round-requires-clause-valid : goal.wait_round-requires-clause-valid
@@ -144,4 +152,7 @@ returns g c = record {
       ok_step c.wait_round.result _ _ (λ two. due_then _ _ (subst (λ (d : DeskState g.row.S.Denot). let none : Option Halt = None in KeepsOn (IsIllLink g.F.Commands.gives g.F.Commands.may_fail g.H.Way.Link.history g.H.Way.Link.count g.H.Way.Link.idle_count g.H.Way.Link.is_closed c.args.limit) g.H.Way.Link.history c.args.desk.now.moves d.moves none none c.args.company.now c.serve_all.new.company (g.H.Hall.got c.args.hall.now) (g.H.Hall.got c.serve_all.new.hall)) (sym same) (c.in-Ok.ensures.due tells)) two) (c.wait_round.ensures.due tells);
   sound = c.wait_round.ensures.sound;
   alone = c.wait_round.ensures.alone;
+  calm = λ asked tells is.
+      let same = none_same g.S.Site.tells g.T.Terms.kept g.S.Site.files c.serve_all.new.desk c.end.new.desk c.in-Ok-None.field-0 c.in-Ok-None.field-0-is c.in-Ok-None.ensures.ended.ends in
+      ok_step c.wait_round.result _ _ (λ two. calm_then (subst (λ (d : DeskState g.row.S.Denot). let none : Option Halt = None in KeepsCalm (IsSureCompany g.F.Commands.gives g.F.Commands.may_fail g.H.Way.Link.history g.H.Way.Link.idle_count (IsSureOf g.H.Way.Link.sure g.H.Way.Link.offers asked) (IsComing g.H.Hall.sure g.H.Hall.staffed asked c.args.hall.now) (IsUnmet g.H.Hall.manned g.H.Hall.idle_count asked c.args.hall.now) c.args.desk.now.moves c.args.company.now) (IsSureCompany g.F.Commands.gives g.F.Commands.may_fail g.H.Way.Link.history g.H.Way.Link.idle_count (IsSureOf g.H.Way.Link.sure g.H.Way.Link.offers asked) (IsComing g.H.Hall.sure g.H.Hall.staffed asked c.serve_all.new.hall) (IsUnmet g.H.Hall.manned g.H.Hall.idle_count asked c.serve_all.new.hall) d.moves c.serve_all.new.company) c.args.desk.now.moves d.moves none none c.args.company.now c.serve_all.new.company) (sym same) (c.in-Ok.ensures.calm asked tells is)) two) (c.wait_round.ensures.calm asked tells);
 }

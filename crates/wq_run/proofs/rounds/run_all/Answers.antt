@@ -20,6 +20,8 @@ use Rattle.wq_run.specs.Keeping.{KeepsOn}
 use Rattle.wq_run.proofs.Duties.{due_none, due_spared, due_then, waiting_rests}
 use Rattle.wq_run.proofs.Vain.{never_waits, ok_waits}
 use Rattle.wq_run.specs.Vain.{IsAlone}
+use Rattle.wq_run.specs.Calm.{IsComing, IsSureOf, IsSureCompany, IsUnmet, KeepsCalm}
+use Rattle.wq_run.proofs.Calmly.{calm_none, calm_then, calm_well, company_moved, waiting_well}
 use Rattle.wq_run.proofs.Heards.{ok_step, ok_with}
 use Rattle.wq_run.proofs.rounds.run_all.Goals as goal
 
@@ -34,6 +36,7 @@ loop-init g c = record {
   none = c.requires.none;
   met = met_none;
   due = λ tells. due_none _ _;
+  calm = λ asked tells is. calm_none;
 }
 
 pub go_round-requires-clause-valid : goal.go_round-requires-clause-valid
@@ -58,6 +61,7 @@ returns-in-Ok-Over g c = record {
   due = λ tells. due_then _ _ (c.loop.invariant.due tells) (c.in-Ok-Over.ensures.due tells);
   sound = c.in-Ok-Over.ensures.sound (subst IsLast (sym c.in-Ok-Over.field-0-is) tt);
   alone = never_waits c.in-Ok-Over.check _ (subst (IsAlone c.go_round.new.company.guests) c.in-Ok-Over.field-0-is c.in-Ok-Over.ensures.alone);
+  calm = λ asked tells is. calm_then (c.loop.invariant.calm asked tells is) (c.in-Ok-Over.ensures.calm asked tells (c.loop.invariant.sure is));
 }
 
 pub returns-in-Err : goal.returns-in-Err
@@ -70,6 +74,7 @@ returns-in-Err g c = record {
   due = λ tells. tt;
   sound = tt;
   alone = tt;
+  calm = λ asked tells is. tt;
 }
 
 pub loop-preserved : goal.loop-preserved
@@ -86,6 +91,7 @@ loop-preserved g c =
       none = c.go_round.ensures.none;
       met = met_then c.loop.invariant.met c.go_round.ensures.met;
       due = λ tells. due_then _ _ (c.loop.invariant.due tells) (c.in-Ok-Again.ensures.due tells);
+      calm = λ asked tells is. calm_then (c.loop.invariant.calm asked tells is) (c.in-Ok-Again.ensures.calm asked tells (c.loop.invariant.sure is));
     }
 
 pub loop-preserved-else-stop : goal.loop-preserved-else-stop
@@ -106,6 +112,7 @@ loop-preserved-else-stop g c =
       none = c.go_round.ensures.none;
       met = met_then c.loop.invariant.met c.go_round.ensures.met;
       due = λ tells. subst (λ (x : DeskState g.row.S.Denot). let none : Option Halt = None in KeepsOn (IsIllLink g.F.Commands.gives g.F.Commands.may_fail g.H.Way.Link.history g.H.Way.Link.count g.H.Way.Link.idle_count g.H.Way.Link.is_closed c.args.limit) g.H.Way.Link.history c.args.desk.now.moves x.moves none none c.args.company.now c.go_round.new.company (g.H.Hall.got c.args.hall.now) (g.H.Hall.got c.go_round.new.hall)) (sym same) (due_then _ _ (c.loop.invariant.due tells) (c.in-Ok-Vain.ensures.due tells));
+      calm = λ asked tells is. subst (λ (x : DeskState g.row.S.Denot). let none : Option Halt = None in KeepsCalm (IsSureCompany g.F.Commands.gives g.F.Commands.may_fail g.H.Way.Link.history g.H.Way.Link.idle_count (IsSureOf g.H.Way.Link.sure g.H.Way.Link.offers asked) (IsComing g.H.Hall.sure g.H.Hall.staffed asked c.args.hall.now) (IsUnmet g.H.Hall.manned g.H.Hall.idle_count asked c.args.hall.now) c.args.desk.now.moves c.args.company.now) (IsSureCompany g.F.Commands.gives g.F.Commands.may_fail g.H.Way.Link.history g.H.Way.Link.idle_count (IsSureOf g.H.Way.Link.sure g.H.Way.Link.offers asked) (IsComing g.H.Hall.sure g.H.Hall.staffed asked c.go_round.new.hall) (IsUnmet g.H.Hall.manned g.H.Hall.idle_count asked c.go_round.new.hall) x.moves c.go_round.new.company) c.args.desk.now.moves x.moves none none c.args.company.now c.go_round.new.company) (sym same) (calm_then (c.loop.invariant.calm asked tells is) (c.in-Ok-Vain.ensures.calm asked tells (c.loop.invariant.sure is)));
     }
 
 pub end_waiting-requires-clause-fine : goal.end_waiting-requires-clause-fine
@@ -163,4 +170,7 @@ returns-then-stop g c =
           ok_step c.end_waiting.result _ _ (λ both. due_then _ _ rounds (due_spared _ _ (λ none. (none, both.0)) both.1)) (waiting_rests g.S.Site.tells g.T.Terms.kept g.S.Site.files c.stop.new.self c.end_waiting.new.desk c.end_waiting.result c.end_waiting.ensures.ended.ends);
       sound = ok_with c.end_waiting.result _ (c.in-Ok-Vain.ensures.sound (subst IsLast (sym c.in-Ok-Vain.field-0-is) tt));
       alone = ok_waits c.end_waiting.result _ (subst (IsAlone c.go_round.new.company.guests) c.in-Ok-Vain.field-0-is c.in-Ok-Vain.ensures.alone);
+      calm = λ asked tells sure.
+          let rounds = subst (λ (x : DeskState g.row.S.Denot). let none : Option Halt = None in KeepsCalm (IsSureCompany g.F.Commands.gives g.F.Commands.may_fail g.H.Way.Link.history g.H.Way.Link.idle_count (IsSureOf g.H.Way.Link.sure g.H.Way.Link.offers asked) (IsComing g.H.Hall.sure g.H.Hall.staffed asked c.args.hall.now) (IsUnmet g.H.Hall.manned g.H.Hall.idle_count asked c.args.hall.now) c.args.desk.now.moves c.args.company.now) (IsSureCompany g.F.Commands.gives g.F.Commands.may_fail g.H.Way.Link.history g.H.Way.Link.idle_count (IsSureOf g.H.Way.Link.sure g.H.Way.Link.offers asked) (IsComing g.H.Hall.sure g.H.Hall.staffed asked c.go_round.new.hall) (IsUnmet g.H.Hall.manned g.H.Hall.idle_count asked c.go_round.new.hall) x.moves c.go_round.new.company) c.args.desk.now.moves x.moves none none c.args.company.now c.go_round.new.company) (sym c.stop.ensures.stop) (calm_then (c.loop.invariant.calm asked tells sure) (c.in-Ok-Vain.ensures.calm asked tells (c.loop.invariant.sure sure))) in
+          ok_step c.end_waiting.result _ _ (λ both. calm_then rounds (calm_well both.0 (λ was. company_moved g.F.Commands.gives g.F.Commands.may_fail g.H.Way.Link.history g.H.Way.Link.idle_count (IsSureOf g.H.Way.Link.sure g.H.Way.Link.offers asked) both.1 was))) (waiting_well g.S.Site.tells g.T.Terms.kept g.S.Site.files c.stop.new.self c.end_waiting.new.desk c.end_waiting.result c.end_waiting.ensures.ended.ends);
     }

@@ -8,6 +8,7 @@ use Rattle.wq_run.specs.Keeping.{KeepsOn}
 use Rattle.wq_run.specs.Seats.{AreSeats, Meets, gathered, inside_of}
 use Rattle.wq_run.specs.Trusted.{IsOpen}
 use Rattle.wq_run.proofs.Working.{Stands}
+use Rattle.wq_run.specs.Calm.{Asked, IsComing, IsSureOf, IsSureCompany, IsUnmet, KeepsCalm}
 use Rattle.wq_run.proofs.rounds.run_all.Given as goal
 
 abbrev pub invariant-loop : goal.invariant-loop
@@ -20,5 +21,6 @@ invariant-loop g l = record {
   seats : AreSeats l.desk.plan l.desk.options l.desk.moves l.company.seats;
   none : gathered l.company.seats ≡ [];
   due : g.H.Way.Link.tells → (let none : Option Halt = None in KeepsOn (IsIllLink g.F.Commands.gives g.F.Commands.may_fail g.H.Way.Link.history g.H.Way.Link.count g.H.Way.Link.idle_count g.H.Way.Link.is_closed l.fn.limit) g.H.Way.Link.history l.fn.desk.moves l.desk.moves none none l.fn.company l.company (g.H.Hall.got l.fn.hall) (g.H.Hall.got l.hall));
+  calm : (asked : Option Asked) → g.H.Way.Link.tells → AllSure g.R.Runner.sure l.fn.runners → (let none : Option Halt = None in KeepsCalm (IsSureCompany g.F.Commands.gives g.F.Commands.may_fail g.H.Way.Link.history g.H.Way.Link.idle_count (IsSureOf g.H.Way.Link.sure g.H.Way.Link.offers asked) (IsComing g.H.Hall.sure g.H.Hall.staffed asked l.fn.hall) (IsUnmet g.H.Hall.manned g.H.Hall.idle_count asked l.fn.hall) l.fn.desk.moves l.fn.company) (IsSureCompany g.F.Commands.gives g.F.Commands.may_fail g.H.Way.Link.history g.H.Way.Link.idle_count (IsSureOf g.H.Way.Link.sure g.H.Way.Link.offers asked) (IsComing g.H.Hall.sure g.H.Hall.staffed asked l.hall) (IsUnmet g.H.Hall.manned g.H.Hall.idle_count asked l.hall) l.desk.moves l.company) l.fn.desk.moves l.desk.moves none none l.fn.company l.company);
   met : Meets (g.H.Hall.count l.fn.hall) (g.H.Hall.count l.hall) (g.H.Hall.got l.fn.hall) (g.H.Hall.got l.hall) (g.H.Hall.given l.fn.hall) (g.H.Hall.given l.hall) (g.H.Hall.idle_count l.fn.hall) (g.H.Hall.idle_count l.hall) (inside_of l.fn.company) (inside_of l.company) l.fn.company.failed l.company.failed l.fn.company.lost l.company.lost;
 }

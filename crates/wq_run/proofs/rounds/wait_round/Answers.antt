@@ -16,6 +16,7 @@ returns-in-Err g c = record {
   due = λ tells. tt;
   sound = tt;
   alone = tt;
+  calm = λ asked tells. tt;
 }
 
 pub returns-then-idles-from-clause-rounds : goal.returns-then-idles-from-clause-rounds
@@ -41,6 +42,7 @@ returns g c = record {
   due = c.in-Ok.ensures.due;
   sound = λ last. absurd last;
   alone = tt;
+  calm = c.in-Ok.ensures.calm;
 }
 
 pub returns-then-idles-from-clause-due : goal.returns-then-idles-from-clause-due
@@ -51,3 +53,6 @@ returns-then-idles-from-clause-sound g c last = c.is_going.ensures.fine (search 
 
 pub returns-then-idles-from-clause-alone : goal.returns-then-idles-from-clause-alone
 returns-then-idles-from-clause-alone g c = c.has_guests.ensures (search rules)
+
+pub returns-then-idles-from-clause-calm : goal.returns-then-idles-from-clause-calm
+returns-then-idles-from-clause-calm g c asked tells = c.in-Ok.ensures.calm asked tells

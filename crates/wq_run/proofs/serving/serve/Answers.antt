@@ -1,18 +1,25 @@
-use Rattle.std.proofs.Common.{true, is_none, ◌≡◌, ◌∙◌, None, ap, refl, rules, subst, sym}
+use Rattle.std.proofs.Common.{true, false, is_none, ◌≡◌, ◌∙◌, None, ap, refl, rules, subst, sym}
 use Rattle.flow_types.specs.Plans.{IsValid}
-use Rattle.local_run.specs.Underway.{IsSurePool}
-use Rattle.local_run.specs.Underway.{HeldState}
+use Rattle.local_run.specs.Underway.{IsSurePool, HeldState}
 use Rattle.local_run.proofs.StandsBegun.{Under, wants_on}
 use Rattle.wq_run.proofs.Services.{met_none, met_then}
 use Rattle.wq_run.proofs.Shares.{manned_on}
 use Rattle.wq_run.proofs.Trusts.{of_goes}
 use Rattle.local_run.specs.declared.halt.Halt.TheVariants as halts
 use Rattle.wq_run.proofs.Duties.{due_halted, due_none, due_then}
+use Rattle.wq_run.proofs.Calmly.{calm_halted, calm_none, calm_stopped, calm_then}
 use Rattle.wq_run.proofs.serving.serve.Goals as goal
 use Rattle.wq_run.proofs.serving.serve.Goals.{then-not-is_going-via-then-not-is_going, then-not-is_going-via-else-not-is_going+then-not-is_going-2}
 
 pub loop-init : goal.loop-init
-loop-init g c = record { served = λ first m. m; line = refl; listens = c.requires.listens; met = met_none; due = λ tells. due_none _ _ }
+loop-init g c = record {
+  served = λ first m. m;
+  line = refl;
+  listens = c.requires.listens;
+  met = met_none;
+  due = λ tells. due_none _ _;
+  calm = λ asked tells is. calm_none;
+}
 
 pub returns-in_default-clause-served : goal.returns-in_default-clause-served
 returns-in_default-clause-served g c first m =
@@ -64,6 +71,7 @@ loop-preserved-then-turn g c = record {
   listens = c.turn.ensures.listens;
   met = met_then c.loop.invariant.met c.turn.ensures.met;
   due = λ tells. due_then _ _ (c.loop.invariant.due tells) (c.turn.ensures.due tells);
+  calm = λ asked tells is. calm_then (c.loop.invariant.calm asked tells is) (c.turn.ensures.calm asked tells is);
 }
 
 pub loop-preserved-then-not-is_going : goal.loop-preserved-then-not-is_going
@@ -77,6 +85,13 @@ loop-preserved-then-not-is_going g c = record {
         (let going : c.is_going.result ≡ true = c.is_going.ensures ∙ ap is_none none in search rules)
     | then-not-is_going-via-else-not-is_going+then-not-is_going-2 w ↦ w.is_going-else-not-is_going.ensures.stands (search rules) fine kept
   ]));
+  calm = λ asked tells is.
+      let stops : c.loop.held.halt ≡ None → c.loop.company.failed ≡ false → c.loop.company.lost ≡ false → ⊥ = λ none fine kept. elim c.then-not-is_going.branch [
+        | then-not-is_going-via-then-not-is_going w ↦
+            (let going : c.is_going.result ≡ true = c.is_going.ensures ∙ ap is_none none in search rules)
+        | then-not-is_going-via-else-not-is_going+then-not-is_going-2 w ↦ w.is_going-else-not-is_going.ensures.stands (search rules) fine kept
+      ] in
+      calm_then (c.loop.invariant.calm asked tells is) (calm_stopped _ _ (c.wind_down.ensures.due c.args.limit tells stops).due stops);
 }
 
 pub returns-then-wind_down : goal.returns-then-wind_down
@@ -91,6 +106,13 @@ returns-then-wind_down g c = record {
         (let going : c.is_going.result ≡ true = c.is_going.ensures ∙ ap is_none none in search rules)
     | then-not-is_going-via-else-not-is_going+then-not-is_going-2 w ↦ w.is_going-else-not-is_going.ensures.stands (search rules) fine kept
   ]));
+  calm = λ asked tells is.
+      let stops : c.loop.held.halt ≡ None → c.loop.company.failed ≡ false → c.loop.company.lost ≡ false → ⊥ = λ none fine kept. elim c.then-not-is_going.branch [
+        | then-not-is_going-via-then-not-is_going w ↦
+            (let going : c.is_going.result ≡ true = c.is_going.ensures ∙ ap is_none none in search rules)
+        | then-not-is_going-via-else-not-is_going+then-not-is_going-2 w ↦ w.is_going-else-not-is_going.ensures.stands (search rules) fine kept
+      ] in
+      calm_then (c.loop.invariant.calm asked tells is) (calm_stopped _ _ (c.wind_down.ensures.due c.args.limit tells stops).due stops);
 }
 
 pub loop-preserved : goal.loop-preserved
@@ -100,6 +122,7 @@ loop-preserved g c = record {
   listens = c.turn.ensures.listens;
   met = met_then c.loop.invariant.met c.turn.ensures.met;
   due = λ tells. due_then _ _ (c.loop.invariant.due tells) (c.turn.ensures.due tells);
+  calm = λ asked tells is. calm_then (c.loop.invariant.calm asked tells is) (c.turn.ensures.calm asked tells is);
 }
 
 pub returns-then-is_idle-clause-served : goal.returns-then-is_idle-clause-served
@@ -113,3 +136,9 @@ returns-then-is_idle-clause-due g c tells = due_then _ _ (c.loop.invariant.due t
 
 pub returns-in_default-clause-due : goal.returns-in_default-clause-due
 returns-in_default-clause-due g c tells = due_then _ _ (c.loop.invariant.due tells) (due_halted _ _ halts.Memory (ap (λ (h : HeldState). h.halt) c.stop.ensures))
+
+pub returns-then-is_idle-clause-calm : goal.returns-then-is_idle-clause-calm
+returns-then-is_idle-clause-calm g c asked tells is = calm_then (c.loop.invariant.calm asked tells is) (c.turn.ensures.calm asked tells is)
+
+pub returns-in_default-clause-calm : goal.returns-in_default-clause-calm
+returns-in_default-clause-calm g c asked tells is = calm_then (c.loop.invariant.calm asked tells is) (calm_halted halts.Memory (ap (λ (h : HeldState). h.halt) c.stop.ensures))

@@ -7,6 +7,7 @@ use Rattle.local_run.specs.Underway.{IsSurePool}
 use Rattle.wq_run.proofs.Services.{met_none, on_less, on_want}
 use Rattle.local_run.specs.declared.halt.Halt.TheVariants as halts
 use Rattle.wq_run.proofs.Duties.{due_halted}
+use Rattle.wq_run.proofs.Calmly.{calm_halted}
 use Rattle.wq_run.proofs.serving.serve_all.Goals as goal
 
 pub serve_in-requires-clause-runners : goal.serve_in-requires-clause-runners
@@ -29,6 +30,7 @@ returns-in_default g c = record {
   listens = c.requires.listens;
   met = met_none;
   due = λ tells. due_halted _ _ halts.Memory refl;
+  calm = λ asked tells is. calm_halted halts.Memory refl;
 }
 
 pub returns : goal.returns
@@ -42,4 +44,5 @@ returns g c = record {
   listens = c.serve_in.ensures.listens;
   met = c.serve_in.ensures.met;
   due = c.serve_in.ensures.due;
+  calm = λ asked tells is. c.serve_in.ensures.calm asked tells (λ job outcome fits. fits.1 is);
 }

@@ -8,6 +8,7 @@ returns g c = record {
     line = search rules;
     coming = c.serve.ensures.listens;
     due = c.serve.ensures.due;
+    calm = c.serve.ensures.calm;
     met = c.serve.ensures.met;
     heard = search rules;
   };

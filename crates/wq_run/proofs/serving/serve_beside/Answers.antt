@@ -1,11 +1,14 @@
-use Rattle.std.proofs.Common.{ap, refl, rules, sym}
+use Rattle.std.proofs.Common.{List, ap, refl, rules, sym}
 use Rattle.worker_pool.specs.Pools.{PoolState}
 use Rattle.local_run.specs.Underway.{HeldState, IsSurePool}
 use Rattle.wq_run.specs.Seats.{CompanyState}
+use Rattle.run_history.specs.declared.moves.Move.{Move}
 use Rattle.wq_run.proofs.Services.{manned_at, manned_left}
 use Rattle.wq_run.proofs.Turns.{heard_at, line_at, may_serve_at, met_at, open_at, silent}
 use Rattle.wq_run.specs.Dues.{IsIllLink}
 use Rattle.wq_run.proofs.Duties.{due_at}
+use Rattle.wq_run.specs.Calm.{IsComing, IsSureOf, IsSureCompany, IsUnmet}
+use Rattle.wq_run.proofs.Calmly.{calm_at}
 use Rattle.wq_run.proofs.serving.serve_beside.Goals as goal
 
 pub call_with_beside-back-requires-clause-takes : goal.call_with_beside-back-requires-clause-takes
@@ -77,3 +80,10 @@ returns-clause-due g c tells =
     let held = c.call_with_beside-back.new.call.2.now in
     due_at (IsIllLink g.F.Commands.gives g.F.Commands.may_fail g.H.Way.Link.history g.H.Way.Link.count g.H.Way.Link.idle_count g.H.Way.Link.is_closed c.args.limit) g.H.Way.Link.history g.H.Hall.got call.shown.now c.args.desk.now call.left.now c.call_with_beside-back.new.desk c.args.held.now.halt held.halt _ c.args.hall.now c.call_with_beside-back.new.call.4.now _ c.replace-taken.result c.args.company.now c.call_with_beside-back.result c.replace.new.dest
     call.shows call.leaves (ap (λ (x : HeldState). x.halt) (sym (c.held-1.given.1 (sym call.called.met.0.2)))) (sym (c.hall-1.given.1 (sym call.called.met.0.4))) c.replace-taken.ensures.value (sym c.replace.ensures.after) (call.called.met.1.due tells)
+
+pub returns-clause-calm : goal.returns-clause-calm
+returns-clause-calm g c asked tells is =
+    let call = c.call_with_beside-back.ensures.called in
+    let held = c.call_with_beside-back.new.call.2.now in
+    calm_at (λ (x : g.row.H.Denot) (m : List Move) (y : CompanyState g.row.H-Way.Denot). IsSureCompany g.F.Commands.gives g.F.Commands.may_fail g.H.Way.Link.history g.H.Way.Link.idle_count (IsSureOf g.H.Way.Link.sure g.H.Way.Link.offers asked) (IsComing g.H.Hall.sure g.H.Hall.staffed asked x) (IsUnmet g.H.Hall.manned g.H.Hall.idle_count asked x) m y) call.shown.now c.args.desk.now call.left.now c.call_with_beside-back.new.desk c.args.held.now.halt held.halt _ c.args.hall.now c.call_with_beside-back.new.call.4.now _ c.replace-taken.result c.args.company.now c.call_with_beside-back.result c.replace.new.dest
+    call.shows call.leaves (ap (λ (x : HeldState). x.halt) (sym (c.held-1.given.1 (sym call.called.met.0.2)))) (sym (c.hall-1.given.1 (sym call.called.met.0.4))) c.replace-taken.ensures.value (sym c.replace.ensures.after) (call.called.met.1.calm asked tells is)

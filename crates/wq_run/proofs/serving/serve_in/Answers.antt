@@ -12,6 +12,8 @@ use Rattle.local_run.specs.declared.halt.Halt.TheVariants as halts
 use Rattle.wq_run.specs.Dues.{IsIllLink}
 use Rattle.wq_run.specs.Keeping.{KeepsOn}
 use Rattle.wq_run.proofs.Duties.{due_halted, due_then}
+use Rattle.wq_run.specs.Calm.{IsComing, IsSureOf, IsSureCompany, IsUnmet, KeepsCalm}
+use Rattle.wq_run.proofs.Calmly.{calm_halted, calm_then}
 use Rattle.wq_run.proofs.serving.serve_in.Goals as goal
 
 pub returns-in_default : goal.returns-in_default
@@ -24,6 +26,7 @@ returns-in_default g c = record {
   listens = c.requires.listens;
   met = met_none;
   due = λ tells. due_halted _ _ halts.Memory refl;
+  calm = λ asked tells is. calm_halted halts.Memory refl;
 }
 
 pub serve_beside-requires-clause-served : goal.serve_beside-requires-clause-served
@@ -59,4 +62,5 @@ returns g c =
       listens = c.finish.ensures.listens c.serve_beside.ensures.listens;
       met = met_then c.serve_beside.ensures.met c.finish.ensures.met;
       due = λ tells. due_then _ _ (subst (λ (h : Option Halt). KeepsOn (IsIllLink g.F.Commands.gives g.F.Commands.may_fail g.H.Way.Link.history g.H.Way.Link.count g.H.Way.Link.idle_count g.H.Way.Link.is_closed c.args.limit) g.H.Way.Link.history c.args.desk.now.moves c.serve_beside.new.desk.moves h c.serve_beside.new.held.halt c.args.company.now c.serve_beside.new.company (g.H.Hall.got c.args.hall.now) (g.H.Hall.got c.serve_beside.new.hall)) c.new-held.ensures.halt (c.serve_beside.ensures.due tells)) (c.finish.ensures.due c.args.limit tells);
+      calm = λ asked tells is. calm_then (subst (λ (h : Option Halt). KeepsCalm (IsSureCompany g.F.Commands.gives g.F.Commands.may_fail g.H.Way.Link.history g.H.Way.Link.idle_count (IsSureOf g.H.Way.Link.sure g.H.Way.Link.offers asked) (IsComing g.H.Hall.sure g.H.Hall.staffed asked c.args.hall.now) (IsUnmet g.H.Hall.manned g.H.Hall.idle_count asked c.args.hall.now) c.args.desk.now.moves c.args.company.now) (IsSureCompany g.F.Commands.gives g.F.Commands.may_fail g.H.Way.Link.history g.H.Way.Link.idle_count (IsSureOf g.H.Way.Link.sure g.H.Way.Link.offers asked) (IsComing g.H.Hall.sure g.H.Hall.staffed asked c.serve_beside.new.hall) (IsUnmet g.H.Hall.manned g.H.Hall.idle_count asked c.serve_beside.new.hall) c.serve_beside.new.desk.moves c.serve_beside.new.company) c.args.desk.now.moves c.serve_beside.new.desk.moves h c.serve_beside.new.held.halt c.args.company.now c.serve_beside.new.company) c.new-held.ensures.halt (c.serve_beside.ensures.calm asked tells is)) (c.finish.ensures.calm asked tells);
     }

@@ -6,6 +6,8 @@ use Rattle.wq_run.proofs.Shares.{manned_on}
 use Rattle.wq_run.proofs.Trusts.{of_goes}
 use Rattle.wq_run.proofs.Earned.{unlinked_by}
 use Rattle.wq_run.proofs.Duties.{due_as, due_none, due_spared, due_then}
+use Rattle.wq_run.specs.Calm.{IsComing, IsSureOf, IsSureCompany, IsUnmet}
+use Rattle.wq_run.proofs.Calmly.{calm_here, calm_none, calm_then, calm_to, company_moved}
 use Rattle.wq_run.proofs.serving.start_more.Goals as goal
 
 pub go_on-requires-clause-base : goal.go_on-requires-clause-base
@@ -33,7 +35,14 @@ ask_all-requires-clause-manned g c κs within =
     record { first = c.requires.served.first; waiting = c.go_on.new.pool.waiting; heard = c.go_on.new.pool.heard; manned = n }
 
 pub returns-then-not-has_news : goal.returns-then-not-has_news
-returns-then-not-has_news g c = record { served = λ first m. m; line = refl; listens = c.requires.listens; met = met_none; due = λ limit tells. due_none _ _ }
+returns-then-not-has_news g c = record {
+  served = λ first m. m;
+  line = refl;
+  listens = c.requires.listens;
+  met = met_none;
+  due = λ limit tells. due_none _ _;
+  calm = λ asked tells is. calm_none;
+}
 
 pub returns-then-go_on : goal.returns-then-go_on
 returns-then-go_on g c = record {
@@ -42,6 +51,7 @@ returns-then-go_on g c = record {
   listens = c.requires.listens;
   met = met_none;
   due = λ limit tells. due_spared _ _ c.go_on.ensures.spares (unlinked_by g.T.Terms.trust g.F.Commands.gives g.F.Commands.may_fail g.T.Terms.sources g.S.Site.tells g.S.Site.files g.S.Site.may_leave g.S.Site.moment g.S.Site.images_since c.requires.served.manned.away.links c.requires.served.first c.args.desk.now c.go_on.new.desk c.requires.served.manned.under.goes (c.go_on.ensures.underway c.requires.served.manned.away c.requires.served.first c.requires.served.manned.under).goes);
+  calm = λ asked tells is. (calm_here c.go_on.new.held c.args.company.now is c.requires.served.manned (c.go_on.ensures.underway c.requires.served.manned.away c.requires.served.first c.requires.served.manned.under) c.go_on.ensures.spares (λ same was. company_moved g.F.Commands.gives g.F.Commands.may_fail g.H.Way.Link.history g.H.Way.Link.idle_count (IsSureOf g.H.Way.Link.sure g.H.Way.Link.offers asked) same was));
 }
 
 pub returns-then-ask_all : goal.returns-then-ask_all
@@ -51,6 +61,7 @@ returns-then-ask_all g c = record {
   listens = c.ask_all.ensures.listens c.requires.listens;
   met = c.ask_all.ensures.met;
   due = λ limit tells. due_then _ _ (due_spared _ _ c.go_on.ensures.spares (unlinked_by g.T.Terms.trust g.F.Commands.gives g.F.Commands.may_fail g.T.Terms.sources g.S.Site.tells g.S.Site.files g.S.Site.may_leave g.S.Site.moment g.S.Site.images_since c.requires.served.manned.away.links c.requires.served.first c.args.desk.now c.go_on.new.desk c.requires.served.manned.under.goes (c.go_on.ensures.underway c.requires.served.manned.away c.requires.served.first c.requires.served.manned.under).goes)) (c.ask_all.ensures.due limit tells);
+  calm = λ asked tells is. calm_then (calm_here c.go_on.new.held c.args.company.now is c.requires.served.manned (c.go_on.ensures.underway c.requires.served.manned.away c.requires.served.first c.requires.served.manned.under) c.go_on.ensures.spares (λ same was. company_moved g.F.Commands.gives g.F.Commands.may_fail g.H.Way.Link.history g.H.Way.Link.idle_count (IsSureOf g.H.Way.Link.sure g.H.Way.Link.offers asked) same was)) (c.ask_all.ensures.calm asked tells);
 }
 
 pub returns : goal.returns
@@ -60,4 +71,5 @@ returns g c = record {
   listens = c.ask_all.ensures.listens c.requires.listens;
   met = met_same c.ask_all.new.company c.rest_at.new.self c.rest_at.ensures c.ask_all.ensures.met;
   due = λ limit tells. due_as _ _ (sym c.rest_at.ensures) (due_then _ _ (due_spared _ _ c.go_on.ensures.spares (unlinked_by g.T.Terms.trust g.F.Commands.gives g.F.Commands.may_fail g.T.Terms.sources g.S.Site.tells g.S.Site.files g.S.Site.may_leave g.S.Site.moment g.S.Site.images_since c.requires.served.manned.away.links c.requires.served.first c.args.desk.now c.go_on.new.desk c.requires.served.manned.under.goes (c.go_on.ensures.underway c.requires.served.manned.away c.requires.served.first c.requires.served.manned.under).goes)) (c.ask_all.ensures.due limit tells));
+  calm = λ asked tells is. calm_to (λ x. IsSureCompany g.F.Commands.gives g.F.Commands.may_fail g.H.Way.Link.history g.H.Way.Link.idle_count (IsSureOf g.H.Way.Link.sure g.H.Way.Link.offers asked) (IsComing g.H.Hall.sure g.H.Hall.staffed asked c.ask_all.new.hall) (IsUnmet g.H.Hall.manned g.H.Hall.idle_count asked c.ask_all.new.hall) c.ask_all.new.desk.moves x) (sym c.rest_at.ensures) (calm_then (calm_here c.go_on.new.held c.args.company.now is c.requires.served.manned (c.go_on.ensures.underway c.requires.served.manned.away c.requires.served.first c.requires.served.manned.under) c.go_on.ensures.spares (λ same was. company_moved g.F.Commands.gives g.F.Commands.may_fail g.H.Way.Link.history g.H.Way.Link.idle_count (IsSureOf g.H.Way.Link.sure g.H.Way.Link.offers asked) same was)) (c.ask_all.ensures.calm asked tells));
 }

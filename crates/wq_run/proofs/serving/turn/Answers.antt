@@ -2,11 +2,13 @@ use Rattle.std.proofs.Common.{◌∙◌, subst, sym}
 use Rattle.flow_types.specs.Plans.{IsValid}
 use Rattle.run_history.specs.Links.{records_of}
 use Rattle.local_run.specs.Underway.{IsSurePool, ToldOf}
+use Rattle.wq_run.specs.Calm.{IsSureOf}
 use Rattle.wq_run.proofs.Services.{met_then}
 use Rattle.wq_run.proofs.Shares.{manned_on}
 use Rattle.wq_run.proofs.Trusts.{of_goes, told_by}
 use Rattle.wq_run.proofs.Earned.{unlinked_by}
 use Rattle.wq_run.proofs.Duties.{due_spared, due_then}
+use Rattle.wq_run.proofs.Calmly.{calm_here, calm_then, company_moved}
 use Rattle.wq_run.proofs.serving.turn.Goals as goal
 
 pub hear-requires-clause-valid : goal.hear-requires-clause-valid
@@ -49,7 +51,14 @@ round-requires-clause-manned g c κs within =
     record { first = c.requires.served.first; waiting = c.hear.new.pool.waiting; heard = c.hear.new.pool.heard; manned = n }
 
 pub returns-then-start_more : goal.returns-then-start_more
-returns-then-start_more g c = record { served = c.start_more.ensures.served; line = c.start_more.ensures.line; listens = c.start_more.ensures.listens; met = c.start_more.ensures.met; due = c.start_more.ensures.due c.args.limit }
+returns-then-start_more g c = record {
+  served = c.start_more.ensures.served;
+  line = c.start_more.ensures.line;
+  listens = c.start_more.ensures.listens;
+  met = c.start_more.ensures.met;
+  due = c.start_more.ensures.due c.args.limit;
+  calm = c.start_more.ensures.calm;
+}
 
 pub returns-then-hear : goal.returns-then-hear
 returns-then-hear g c = record {
@@ -58,6 +67,7 @@ returns-then-hear g c = record {
   listens = c.start_more.ensures.listens;
   met = c.start_more.ensures.met;
   due = λ tells. due_then _ _ (c.start_more.ensures.due c.args.limit tells) (due_spared _ _ c.hear.ensures.spares (let s = c.start_more.ensures.served c.requires.served.first c.requires.served.manned in unlinked_by g.T.Terms.trust g.F.Commands.gives g.F.Commands.may_fail g.T.Terms.sources g.S.Site.tells g.S.Site.files g.S.Site.may_leave g.S.Site.moment g.S.Site.images_since s.away.links c.requires.served.first c.start_more.new.desk c.hear.new.desk s.under.goes (c.hear.ensures.underway s.away c.requires.served.first s.under).goes));
+  calm = λ asked tells is. calm_then (c.start_more.ensures.calm asked tells is) (let s = c.start_more.ensures.served c.requires.served.first c.requires.served.manned in calm_here c.hear.new.held c.start_more.new.company is s (c.hear.ensures.underway s.away c.requires.served.first s.under) c.hear.ensures.spares (λ same was. company_moved g.F.Commands.gives g.F.Commands.may_fail g.H.Way.Link.history g.H.Way.Link.idle_count (IsSureOf g.H.Way.Link.sure g.H.Way.Link.offers asked) same was));
 }
 
 pub returns : goal.returns
@@ -67,4 +77,5 @@ returns g c = record {
   listens = c.round.ensures.listens;
   met = met_then c.start_more.ensures.met c.round.ensures.met;
   due = λ tells. due_then _ _ (due_then _ _ (c.start_more.ensures.due c.args.limit tells) (due_spared _ _ c.hear.ensures.spares (let s = c.start_more.ensures.served c.requires.served.first c.requires.served.manned in unlinked_by g.T.Terms.trust g.F.Commands.gives g.F.Commands.may_fail g.T.Terms.sources g.S.Site.tells g.S.Site.files g.S.Site.may_leave g.S.Site.moment g.S.Site.images_since s.away.links c.requires.served.first c.start_more.new.desk c.hear.new.desk s.under.goes (c.hear.ensures.underway s.away c.requires.served.first s.under).goes))) (c.round.ensures.due tells);
+  calm = λ asked tells is. calm_then (calm_then (c.start_more.ensures.calm asked tells is) (let s = c.start_more.ensures.served c.requires.served.first c.requires.served.manned in calm_here c.hear.new.held c.start_more.new.company is s (c.hear.ensures.underway s.away c.requires.served.first s.under) c.hear.ensures.spares (λ same was. company_moved g.F.Commands.gives g.F.Commands.may_fail g.H.Way.Link.history g.H.Way.Link.idle_count (IsSureOf g.H.Way.Link.sure g.H.Way.Link.offers asked) same was))) (c.round.ensures.calm asked tells);
 }

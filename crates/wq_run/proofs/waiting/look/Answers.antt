@@ -4,10 +4,17 @@ use Rattle.local_run.specs.Underway.{IsSurePool}
 use Rattle.wq_run.proofs.Services.{met_none, met_then}
 use Rattle.wq_run.proofs.Trusts.{of_goes}
 use Rattle.wq_run.proofs.Duties.{due_none, due_then}
+use Rattle.wq_run.proofs.Calmly.{calm_none, calm_then}
 use Rattle.wq_run.proofs.waiting.look.Goals as goal
 
 pub loop-init : goal.loop-init
-loop-init g c = record { manned = λ first waiting heard m. m; listens = c.requires.listens; met = met_none; due = λ tells. due_none _ _ }
+loop-init g c = record {
+  manned = λ first waiting heard m. m;
+  listens = c.requires.listens;
+  met = met_none;
+  due = λ tells. due_none _ _;
+  calm = λ asked tells. calm_none;
+}
 
 pub round-requires-clause-valid : goal.round-requires-clause-valid
 round-requires-clause-valid g c κs within =
@@ -33,6 +40,7 @@ loop-preserved g c = record {
   listens = c.round.ensures.listens;
   met = met_then c.loop.invariant.met c.round.ensures.met;
   due = λ tells. due_then _ _ (c.loop.invariant.due tells) (c.round.ensures.due tells);
+  calm = λ asked tells. calm_then (c.loop.invariant.calm asked tells) (c.round.ensures.calm asked tells);
 }
 
 pub returns-then-not-is_going : goal.returns-then-not-is_going
@@ -41,6 +49,7 @@ returns-then-not-is_going g c = record {
   listens = c.round.ensures.listens;
   met = met_then c.loop.invariant.met c.round.ensures.met;
   due = λ tells. due_then _ _ (c.loop.invariant.due tells) (c.round.ensures.due tells);
+  calm = λ asked tells. calm_then (c.loop.invariant.calm asked tells) (c.round.ensures.calm asked tells);
 }
 
 pub returns-then-saturating_sub-from : goal.returns-then-saturating_sub-from
@@ -49,4 +58,5 @@ returns-then-saturating_sub-from g c = record {
   listens = c.round.ensures.listens;
   met = met_then c.loop.invariant.met c.round.ensures.met;
   due = λ tells. due_then _ _ (c.loop.invariant.due tells) (c.round.ensures.due tells);
+  calm = λ asked tells. calm_then (c.loop.invariant.calm asked tells) (c.round.ensures.calm asked tells);
 }

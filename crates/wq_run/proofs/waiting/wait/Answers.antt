@@ -7,6 +7,8 @@ use Rattle.local_run.specs.declared.halt.Halt.{Halt}
 use Rattle.wq_run.specs.Dues.{IsIllLink}
 use Rattle.wq_run.specs.Keeping.{KeepsOn}
 use Rattle.wq_run.proofs.Duties.{due_then}
+use Rattle.wq_run.specs.Calm.{IsComing, IsSureOf, IsSureCompany, IsUnmet, KeepsCalm}
+use Rattle.wq_run.proofs.Calmly.{calm_then}
 use Rattle.wq_run.proofs.waiting.wait.Goals as goal
 
 pub look-requires-clause-manned : goal.look-requires-clause-manned
@@ -37,4 +39,5 @@ returns g c =
       listens = c.finish.ensures.listens c.look.ensures.listens;
       met = met_then c.look.ensures.met c.finish.ensures.met;
       due = λ tells. due_then _ _ (subst (λ (h : Option Halt). KeepsOn (IsIllLink g.F.Commands.gives g.F.Commands.may_fail g.H.Way.Link.history g.H.Way.Link.count g.H.Way.Link.idle_count g.H.Way.Link.is_closed c.args.limit) g.H.Way.Link.history c.args.desk.now.moves c.look.new.desk.moves h c.look.new.held.halt c.args.company.now c.look.new.company (g.H.Hall.got c.args.hall.now) (g.H.Hall.got c.look.new.hall)) c.new-held.ensures.halt (c.look.ensures.due tells)) (c.finish.ensures.due c.args.limit tells);
+      calm = λ asked tells. calm_then (subst (λ (h : Option Halt). KeepsCalm (IsSureCompany g.F.Commands.gives g.F.Commands.may_fail g.H.Way.Link.history g.H.Way.Link.idle_count (IsSureOf g.H.Way.Link.sure g.H.Way.Link.offers asked) (IsComing g.H.Hall.sure g.H.Hall.staffed asked c.args.hall.now) (IsUnmet g.H.Hall.manned g.H.Hall.idle_count asked c.args.hall.now) c.args.desk.now.moves c.args.company.now) (IsSureCompany g.F.Commands.gives g.F.Commands.may_fail g.H.Way.Link.history g.H.Way.Link.idle_count (IsSureOf g.H.Way.Link.sure g.H.Way.Link.offers asked) (IsComing g.H.Hall.sure g.H.Hall.staffed asked c.look.new.hall) (IsUnmet g.H.Hall.manned g.H.Hall.idle_count asked c.look.new.hall) c.look.new.desk.moves c.look.new.company) c.args.desk.now.moves c.look.new.desk.moves h c.look.new.held.halt c.args.company.now c.look.new.company) c.new-held.ensures.halt (c.look.ensures.calm asked tells)) (c.finish.ensures.calm asked tells);
     }

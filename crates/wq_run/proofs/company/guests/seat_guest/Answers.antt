@@ -1,22 +1,26 @@
-use Rattle.std.proofs.Common.{Err, List, None, [], ap, subst, sym, ◌++◌, ◌∙◌, ◌∷◌}
-use Rattle.flow_types.specs.declared.messages.Message.TheVariants as messages
+use Rattle.std.proofs.Common.{Err, List, None, [], ap, subst, sym, ◌++◌, ◌∙◌, ◌∷◌, Ok}
 use Rattle.flow_types.specs.declared.numbers.LinkNo.{LinkNo}
 use Rattle.run_history.specs.declared.moves.Move.{Move}
-use Rattle.run_history.specs.declared.moves.Move.TheVariants as moves
 use Rattle.links.specs.Passings.{received_in}
 use Rattle.message_forms.specs.Streams.{Carries}
 use Rattle.desk.specs.State.{DeskState}
 use Rattle.local_run.specs.Links.{link_moves}
+use Rattle.flow_types.specs.declared.messages.Message.TheVariants as messages
+use Rattle.run_history.specs.declared.moves.Move.TheVariants as moves
 use Rattle.local_run.specs.Underway.{IsSurePool}
 use Rattle.wq_run.specs.Earned.{HasEarned, refused_lost}
 use Rattle.wq_run.specs.Seats.{CompanyState, IsGuest, SeatState}
+use Rattle.wq_run.proofs.Earned.{joins_more}
 use Rattle.wq_run.proofs.Companies.{man_as, marked_hand, met_then, seated}
 use Rattle.wq_run.proofs.Visits.{joins_none}
 use Rattle.wq_run.proofs.Fares.{joins_none_spare, joins_one, joins_so}
 use Rattle.wq_run.proofs.Duties.{due_guest, due_marked, due_seated, due_then}
-use Rattle.wq_run.proofs.Leaving.{refused_earned, refused_kept, refused_still}
+use Rattle.wq_run.proofs.Leaving.{refused_earned, refused_kept, refused_links, refused_still}
+use Rattle.wq_run.specs.Calm.{IsSureOf, IsSureGuest}
+use Rattle.wq_run.proofs.Calm.{joins_well, sure_new}
+use Rattle.wq_run.proofs.Calmly.{calm_moved, links_seated}
 use Rattle.peers.specs.States.{PeerState}
-use Rattle.wq_run.specs.Dues.{HasHeard, IsIllLink}
+use Rattle.wq_run.specs.Dues.{HasHeard, IsFull, IsIllLink}
 use Rattle.wq_run.proofs.company.guests.seat_guest.Goals as goal
 
 pub new-requires-clause-meant : goal.new-requires-clause-meant
@@ -59,3 +63,23 @@ returns-in-Err-clause-due g c limit halt tells =
     let ill = IsIllLink g.F.Commands.gives g.F.Commands.may_fail g.H.Way.Link.history g.H.Way.Link.count g.H.Way.Link.idle_count g.H.Way.Link.is_closed limit in
     subst (λ (M : List Move). HasEarned ill M None c.into_way.result) (sym still)
     (refused_earned ill c.args.desk.now c.join.new.desk c.args.offer.total c.args.offer.largest c.args.offer.cache c.in-Err.why c.into_way.result c.args.company.now.lost c.in-Err.ensures.reply (sym marked ∙ (c.hand_back.ensures.met.counted kept).0))) c.hand_back.ensures.met)
+
+pub returns-in-Ok-clause-calm : goal.returns-in-Ok-clause-calm
+returns-in-Ok-clause-calm g c asked halt tells =
+    let are = ap (λ (b : DeskState g.row.S.Denot). b.moves) c.in-Ok.ensures.reply.2 in
+    calm_moved (joins_well c.args.desk.now c.join.new.desk c.args.offer.total c.args.offer.largest c.args.offer.cache (Ok c.in-Ok.link) c.in-Ok.ensures.reply) c.take_seat.ensures.met
+    (λ now both. c.take_seat.ensures.calm asked c.args.desk.now.moves c.join.new.desk.moves (joins_more c.args.desk.now.moves c.in-Ok.link c.args.offer.total c.args.offer.largest c.args.offer.cache c.join.new.desk.moves are) now.kept
+    (sure_new g.F.Commands.gives g.F.Commands.may_fail g.H.Way.Link.history (IsSureOf g.H.Way.Link.sure g.H.Way.Link.offers asked) c.new.result (subst (IsSureGuest g.F.Commands.gives g.F.Commands.may_fail g.H.Way.Link.history g.H.Way.Link.idle_count (IsSureOf g.H.Way.Link.sure g.H.Way.Link.offers asked)) (sym (ap (λ s. s.peer) c.new.ensures)) both.0)) both.1)
+
+pub returns-in-Err-clause-calm : goal.returns-in-Err-clause-calm
+returns-in-Err-clause-calm g c asked halt tells =
+    let marked = ap (λ (x : CompanyState g.row.H-Way.Denot). x.lost) c.refuses.ensures.refused in
+    let still = refused_still c.args.desk.now c.join.new.desk c.args.offer.total c.args.offer.largest c.args.offer.cache c.in-Err.why c.in-Err.ensures.reply in
+    calm_moved (joins_well c.args.desk.now c.join.new.desk c.args.offer.total c.args.offer.largest c.args.offer.cache (Err c.in-Err.why) c.in-Err.ensures.reply)
+    (met_then (marked_hand None c.args.company.now c.refuses.new.self (refused_lost c.in-Err.why c.args.company.now.lost) (refused_kept c.in-Err.why c.args.company.now.lost) c.refuses.ensures.refused) c.hand_back.ensures.met)
+    (λ now both. links_seated g.F.Commands.gives g.F.Commands.may_fail g.H.Way.Link.history g.H.Way.Link.idle_count (IsSureOf g.H.Way.Link.sure g.H.Way.Link.offers asked) c.args.company.now c.hand_back.new.company
+    (λ is. record { surely = c.hand_back.ensures.sure is.surely; offering = λ a so. c.hand_back.ensures.staffed a.least (is.offering a so) })
+    (c.hand_back.ensures.seats ∙ ap (λ (x : CompanyState g.row.H-Way.Denot). x.seats) c.refuses.ensures.refused) (c.hand_back.ensures.guests ∙ ap (λ (x : CompanyState g.row.H-Way.Denot). x.guests) c.refuses.ensures.refused) still
+    (refused_links c.args.desk.now.moves c.into_way.result
+    (refused_earned (λ (link : LinkNo) (x : g.row.H-Way.Denot). ⊥) c.args.desk.now c.join.new.desk c.args.offer.total c.args.offer.largest c.args.offer.cache c.in-Err.why c.into_way.result c.args.company.now.lost c.in-Err.ensures.reply (sym marked ∙ (c.hand_back.ensures.met.counted now.kept).0))
+    (λ full. now.room (subst IsFull (sym still) full))) both.1)

@@ -2,8 +2,10 @@ use Rattle.std.proofs.Common.{rules, ◌≡◌, ◌<◌, inr, ◌++◌, ◌∷�
 use Rattle.std.proofs.lemmas.List.{append-nil}
 use Rattle.flow_types.specs.declared.numbers.LinkNo.{LinkNo}
 use Rattle.wq_run.specs.Seats.{IsUnseated, inside_of, one_under, seats_under, with_hand}
+use Rattle.wq_run.specs.Calm.{IsSureOf}
 use Rattle.wq_run.proofs.Companies.{lost_met, seat_met}
 use Rattle.wq_run.proofs.Counting.{numbers_as, numbers_more, numbers_then, seated_split}
+use Rattle.wq_run.proofs.Calmly.{company_seated}
 use Rattle.wq_run.proofs.company.guests.take_seat.Goals as goal
 
 pub returns-then-not-takes-clause-met : goal.returns-then-not-takes-clause-met
@@ -58,3 +60,15 @@ pub returns-in_default-clause-seated : goal.returns-in_default-clause-seated
 returns-in_default-clause-seated g c kept =
     let items : c.push.new.self.items ≡ c.args.company.now.seats ++ (c.args.seat ∷ []) = search rules in
     (refl, subst (λ (l : LinkNo). IsUnseated l.0 c.args.company.now.seats) c.link-link.ensures (c.takes.ensures.unseated (search rules)), items)
+
+pub returns-then-not-takes-clause-calm : goal.returns-then-not-takes-clause-calm
+returns-then-not-takes-clause-calm g c asked before moves joins kept seat was = absurd (true≢false kept)
+
+pub returns-in-Err-clause-calm : goal.returns-in-Err-clause-calm
+returns-in-Err-clause-calm g c asked before moves joins kept seat was = absurd (true≢false kept)
+
+pub returns-in_default-clause-calm : goal.returns-in_default-clause-calm
+returns-in_default-clause-calm g c asked before moves joins kept seat was =
+    let items : c.push.new.self.items ≡ c.args.company.now.seats ++ (c.args.seat ∷ []) = search rules in
+    let others : c.company.inside.guests.items ≡ c.args.company.now.guests = search rules in
+    company_seated g.F.Commands.gives g.F.Commands.may_fail g.H.Way.Link.history g.H.Way.Link.idle_count (IsSureOf g.H.Way.Link.sure g.H.Way.Link.offers asked) c.args.company.now _ c.args.seat (λ is. is) joins items others seat was

@@ -1,7 +1,9 @@
 use Rattle.std.proofs.Common.{rules, ◌≡◌, ◌++◌, ◌∷◌, [], ap, arith, length, length-append, refl, true≢false}
 use Rattle.wq_run.specs.Seats.{inside_of, seats_under}
+use Rattle.wq_run.specs.Calm.{IsSureOf}
 use Rattle.wq_run.proofs.Companies.{lost_met, met_then, still_met}
 use Rattle.wq_run.proofs.Counting.{numbers_as, numbers_then}
+use Rattle.wq_run.proofs.Calmly.{company_more}
 use Rattle.wq_run.proofs.company.hall.let_in.Goals as goal
 
 pub returns-in_default-clause-met : goal.returns-in_default-clause-met
@@ -48,3 +50,15 @@ returns-in-Err-clause-met g c =
 
 pub returns-in-Err-clause-kept : goal.returns-in-Err-clause-kept
 returns-in-Err-clause-kept g c kept = absurd (true≢false kept)
+
+pub returns-in_default-clause-calm : goal.returns-in_default-clause-calm
+returns-in_default-clause-calm g c asked moves tells on kept was =
+    let items : c.push.new.self.items ≡ c.args.company.now.guests ++ (c.in-Ok.peer ∷ []) = search rules in
+    let same : c.company.inside.seats.items ≡ c.args.company.now.seats = search rules in
+    company_more g.F.Commands.gives g.F.Commands.may_fail g.H.Way.Link.history g.H.Way.Link.idle_count (IsSureOf g.H.Way.Link.sure g.H.Way.Link.offers asked) c.args.company.now _ c.in-Ok.peer (λ is. is) same items (c.in-Ok.ensures.sure asked tells on) was
+
+pub returns-in-Err-push-clause-calm : goal.returns-in-Err-push-clause-calm
+returns-in-Err-push-clause-calm g c asked moves tells on kept was = absurd (true≢false kept)
+
+pub returns-in-Err-clause-calm : goal.returns-in-Err-clause-calm
+returns-in-Err-clause-calm g c asked moves tells on kept was = absurd (true≢false kept)

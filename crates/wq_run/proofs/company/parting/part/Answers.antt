@@ -1,4 +1,4 @@
-use Rattle.std.proofs.Common.{None, Some, [], ap, inl, inr, refl, subst, sym, ◌++◌, ◌∙◌, ◌∷◌, ◌≡◌, ◌⊎◌}
+use Rattle.std.proofs.Common.{None, Some, [], ap, inl, inr, refl, subst, sym, ◌++◌, ◌∙◌, ◌∷◌, ◌≡◌, ◌⊎◌, append_assoc, List}
 use Rattle.flow_types.specs.declared.numbers.LinkNo.{LinkNo}
 use Rattle.desk.specs.State.{DeskState}
 use Rattle.local_run.specs.Underway.{IsSurePool}
@@ -11,6 +11,7 @@ use Rattle.local_run.specs.Losses.{SparesAll}
 use Rattle.wq_run.proofs.Fares.{leaves_linked, leaves_spare, spares_same}
 use Rattle.wq_run.proofs.Duly.{fine_before}
 use Rattle.wq_run.proofs.Duties.{due_part}
+use Rattle.run_history.specs.declared.moves.Move.{Move}
 use Rattle.wq_run.proofs.company.parting.part.Goals as goal
 use Rattle.wq_run.proofs.company.parting.part.Goals.{then-works, else-works}
 
@@ -56,3 +57,13 @@ returns-clause-due g c limit tells before behind are cause =
           (subst (λ (x : g.row.H-Way.Denot). g.H.Hall.got c.hand_back.new.hall ≡ g.H.Hall.got c.args.hall.now ++ ((Some c.link-link.result, x) ∷ [])) way (c.hand_back.ensures.back kept)),
     ))
     cause
+
+pub returns-clause-grows : goal.returns-clause-grows
+returns-clause-grows g c none =
+    let left : SparesAll c.abandon.new.desk.moves c.if-works.desk.moves = elim c.if-works.branch [
+      | then-works w ↦ subst (λ (d : DeskState g.row.S.Denot). SparesAll c.abandon.new.desk.moves d.moves) (sym w.desk-is) (leaves_spare c.abandon.new.desk w.leave.new.desk c.link-link.result w.leave.ensures.reply)
+      | else-works w ↦ subst (λ (d : DeskState g.row.S.Denot). SparesAll c.abandon.new.desk.moves d.moves) (sym w.desk-is) (spares_same _ _ refl)
+    ] in
+    let gives = c.abandon.ensures.gives_up in
+    let adds = gives.loses none in
+    (gives.going none, (adds.more ++ left.more, left.are ∙ ap (λ (N : List Move). N ++ left.more) adds.are ∙ append_assoc c.args.desk.now.moves adds.more left.more))

@@ -61,3 +61,6 @@ returns-clause-due g c limit tells cause =
     let may = cause none (sym failed ∙ fine) (sym lost ∙ kept) in
     let it : c.remove-seat.result ≡ may.1 = taken_at c.args.company.now.seats c.args.at c.remove-seat.result may.0 may.1 may.2 may.3 may.4 is in
     subst (λ (s : SeatState g.row.H-Way.Denot). (IsIllLink g.F.Commands.gives g.F.Commands.may_fail g.H.Way.Link.history g.H.Way.Link.count g.H.Way.Link.idle_count g.H.Way.Link.is_closed limit) s.link s.peer.way ⊎ IsFull c.args.desk.now.moves) (sym it) may.5)))
+
+pub returns-clause-grows : goal.returns-clause-grows
+returns-clause-grows g c none = c.part.ensures.grows none

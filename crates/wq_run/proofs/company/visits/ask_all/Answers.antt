@@ -2,6 +2,7 @@ use Rattle.local_run.specs.Underway.{IsSurePool}
 use Rattle.wq_run.proofs.Companies.{is_then, met_then, same_met, valid_then}
 use Rattle.wq_run.proofs.Trusts.{of_manned}
 use Rattle.wq_run.proofs.Duties.{due_none, due_then}
+use Rattle.wq_run.proofs.Calmly.{calm_none, calm_then}
 use Rattle.wq_run.proofs.company.visits.ask_all.Goals as goal
 
 pub loop-at-init : goal.loop-at-init
@@ -10,6 +11,7 @@ loop-at-init g c = record {
   listens = λ is. is;
   met = same_met;
   due = λ limit tells. due_none _ _;
+  calm = λ asked tells. calm_none;
 }
 
 pub ask-requires-clause-valid : goal.ask-requires-clause-valid
@@ -27,4 +29,5 @@ loop-at-preserved g c = record {
   listens = λ is. c.ask.ensures.listens (c.loop-at.invariant.listens is);
   met = met_then c.loop-at.invariant.met c.ask.ensures.met;
   due = λ limit tells. due_then _ _ (c.loop-at.invariant.due limit tells) (c.ask.ensures.due limit tells);
+  calm = λ asked tells. calm_then (c.loop-at.invariant.calm asked tells) (c.ask.ensures.calm asked tells);
 }

@@ -2,11 +2,13 @@ use Rattle.std.proofs.Common.{List, None, Option, Some, ap, length, refl, rules,
 use Rattle.std.specs.Prelude.{is_none, slice_get, slice_set}
 use Rattle.local_run.specs.Underway.{IsSurePool}
 use Rattle.wq_run.specs.Seats.{SeatState, seats_under}
+use Rattle.wq_run.specs.Calm.{IsSureOf}
 use Rattle.wq_run.proofs.Companies.{got_at, link_stays, set_many, set_seated, visited}
 use Rattle.wq_run.proofs.Splits.{split_at}
 use Rattle.wq_run.proofs.Visits.{visit_at}
 use Rattle.wq_run.proofs.Shares.{apart_at}
 use Rattle.wq_run.proofs.Duties.{at_none, dues_at}
+use Rattle.wq_run.proofs.Calmly.{calm_at_seat, calm_no_seat}
 use Rattle.wq_run.proofs.company.visits.claim_at.Goals as goal
 
 none_of : {X : Type 0} (o : Option X) → is_none o ≡ true → o ≡ None
@@ -72,3 +74,18 @@ returns-in_default-clause-due g c limit tells = at_none _ _ c.args.at _ (sym c.c
 
 pub returns-then-not-is_going-clause-due : goal.returns-then-not-is_going-clause-due
 returns-then-not-is_going-clause-due g c limit tells = at_none _ _ c.args.at _ refl
+
+pub returns-clause-calm : goal.returns-clause-calm
+returns-clause-calm g c asked tells =
+    let are : c.company.inside.seats.items ≡ c.args.company.now.seats = search rules in
+    let there : slice_get c.args.company.now.seats c.args.at ≡ Some c.in-Some.seat.now =
+    ap (λ (xs : List (SeatState g.row.H-Way.Denot)). slice_get xs c.args.at) (sym are) ∙ got_at c.company.inside.seats.items c.args.at c.in-Some.seat.now c.in-Some.ensures.item.0 c.in-Some.ensures.item.1 in
+    let split = split_at c.args.company.now.seats c.args.at c.in-Some.seat.now there in
+    calm_at_seat g.F.Commands.gives g.F.Commands.may_fail g.H.Way.Link.history g.H.Way.Link.idle_count (IsSureOf g.H.Way.Link.sure g.H.Way.Link.offers asked) c.args.company.now.seats (slice_set c.company.inside.seats.items c.args.at c.claim.new.self) split.before c.in-Some.seat.now c.claim.new.self split.behind c.claim.result split.are
+    (ap (λ (xs : List (SeatState g.row.H-Way.Denot)). slice_set xs c.args.at c.claim.new.self) are ∙ split.set c.claim.new.self) (c.claim.ensures.fares 0 tells) (c.claim.ensures.calm asked tells)
+
+pub returns-in_default-clause-calm : goal.returns-in_default-clause-calm
+returns-in_default-clause-calm g c asked tells = (let are : c.company.inside.seats.items ≡ c.args.company.now.seats = search rules in calm_no_seat g.F.Commands.gives g.F.Commands.may_fail g.H.Way.Link.history g.H.Way.Link.idle_count (IsSureOf g.H.Way.Link.sure g.H.Way.Link.offers asked) c.args.company.now.seats c.company.inside.seats.items are)
+
+pub returns-then-not-is_going-clause-calm : goal.returns-then-not-is_going-clause-calm
+returns-then-not-is_going-clause-calm g c asked tells = calm_no_seat g.F.Commands.gives g.F.Commands.may_fail g.H.Way.Link.history g.H.Way.Link.idle_count (IsSureOf g.H.Way.Link.sure g.H.Way.Link.offers asked) c.args.company.now.seats c.args.company.now.seats refl

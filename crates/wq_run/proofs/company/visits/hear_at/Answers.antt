@@ -2,11 +2,13 @@ use Rattle.std.proofs.Common.{List, Some, ap, length, rules, sym, ◌∙◌, ◌
 use Rattle.std.specs.Prelude.{slice_get, slice_set}
 use Rattle.local_run.specs.Underway.{IsSurePool}
 use Rattle.wq_run.specs.Seats.{SeatState, seats_under}
+use Rattle.wq_run.specs.Calm.{IsSureOf}
 use Rattle.wq_run.proofs.Companies.{got_at, link_stays, set_many, set_seated, visited}
 use Rattle.wq_run.proofs.Splits.{split_at}
 use Rattle.wq_run.proofs.Visits.{visit_at}
 use Rattle.wq_run.proofs.Shares.{apart_at}
 use Rattle.wq_run.proofs.Duties.{at_none, dues_at}
+use Rattle.wq_run.proofs.Calmly.{calm_at_seat, calm_no_seat}
 use Rattle.wq_run.proofs.company.visits.hear_at.Goals as goal
 
 pub serve-requires-clause-at : goal.serve-requires-clause-at
@@ -60,3 +62,15 @@ returns-clause-due g c tells =
 
 pub returns-in_default-clause-due : goal.returns-in_default-clause-due
 returns-in_default-clause-due g c tells = at_none _ _ c.args.at _ (sym c.company.view_is)
+
+pub returns-clause-calm : goal.returns-clause-calm
+returns-clause-calm g c asked tells =
+    let are : c.company.inside.seats.items ≡ c.args.company.now.seats = search rules in
+    let there : slice_get c.args.company.now.seats c.args.at ≡ Some c.in-Some.seat.now =
+    ap (λ (xs : List (SeatState g.row.H-Way.Denot)). slice_get xs c.args.at) (sym are) ∙ got_at c.company.inside.seats.items c.args.at c.in-Some.seat.now c.in-Some.ensures.item.0 c.in-Some.ensures.item.1 in
+    let split = split_at c.args.company.now.seats c.args.at c.in-Some.seat.now there in
+    calm_at_seat g.F.Commands.gives g.F.Commands.may_fail g.H.Way.Link.history g.H.Way.Link.idle_count (IsSureOf g.H.Way.Link.sure g.H.Way.Link.offers asked) c.args.company.now.seats (slice_set c.company.inside.seats.items c.args.at c.serve.new.self) split.before c.in-Some.seat.now c.serve.new.self split.behind c.serve.result split.are
+    (ap (λ (xs : List (SeatState g.row.H-Way.Denot)). slice_set xs c.args.at c.serve.new.self) are ∙ split.set c.serve.new.self) (c.serve.ensures.fares tells) (c.serve.ensures.calm asked tells)
+
+pub returns-in_default-clause-calm : goal.returns-in_default-clause-calm
+returns-in_default-clause-calm g c asked tells = (let are : c.company.inside.seats.items ≡ c.args.company.now.seats = search rules in calm_no_seat g.F.Commands.gives g.F.Commands.may_fail g.H.Way.Link.history g.H.Way.Link.idle_count (IsSureOf g.H.Way.Link.sure g.H.Way.Link.offers asked) c.args.company.now.seats c.company.inside.seats.items are)

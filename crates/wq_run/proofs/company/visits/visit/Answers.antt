@@ -1,4 +1,5 @@
 use Rattle.std.proofs.Common.{List, ap, arith, length, subst, sym, ◌<◌, ◌∙◌}
+use Rattle.wq_run.specs.Calm.{IsSureOf}
 use Rattle.wq_run.proofs.Companies.{inside_parts, met_then, still_met, valid_parts}
 use Rattle.local_run.specs.Underway.{IsSurePool}
 use Rattle.wq_run.specs.Dues.{IsIllLink, MayLeaveAt}
@@ -6,6 +7,7 @@ use Rattle.wq_run.specs.Seats.{CompanyState, IsPartingAt, PartsAt, SeatState}
 use Rattle.wq_run.proofs.Duly.{but_left, left_met_as, may_leave}
 use Rattle.wq_run.proofs.Duties.{at_ok, due_left, due_then_left, earns_then}
 use Rattle.wq_run.proofs.Leaving.{left_kept}
+use Rattle.wq_run.proofs.Calmly.{calm_leaves, calm_stays}
 use Rattle.wq_run.proofs.company.visits.visit.Goals as goal
 
 pub part_at-requires-clause-valid : goal.part_at-requires-clause-valid
@@ -55,3 +57,10 @@ returns-in-Err-clause-due g c tells =
     (c.part_at.ensures.due c.args.limit tells (λ none fine kept.
     subst (MayLeaveAt (IsIllLink g.F.Commands.gives g.F.Commands.may_fail g.H.Way.Link.history g.H.Way.Link.count g.H.Way.Link.idle_count g.H.Way.Link.is_closed c.args.limit) c.hear_at.new.desk.moves c.args.at) (sym (ap (λ (x : CompanyState g.row.H-Way.Denot). x.seats) c.leaves.ensures.left))
     (may_leave _ g.H.Way.Link.history c.hear_at.new.desk.moves c.args.at was.seats c.in-Err.leave was.lost (dues.leaves none) (sym (ap (λ (x : CompanyState g.row.H-Way.Denot). x.lost) left) ∙ kept))))
+
+pub returns-in-Ok-clause-calm : goal.returns-in-Ok-clause-calm
+returns-in-Ok-clause-calm g c asked tells = calm_stays g.F.Commands.gives g.F.Commands.may_fail g.H.Way.Link.history g.H.Way.Link.idle_count (IsSureOf g.H.Way.Link.sure g.H.Way.Link.offers asked) c.args.company.now c.hear_at.new.company (c.in-Ok.ensures.calm asked tells) c.hear_at.ensures.many c.hear_at.ensures.guests c.hear_at.ensures.failed c.hear_at.ensures.lost
+
+pub returns-in-Err-clause-calm : goal.returns-in-Err-clause-calm
+returns-in-Err-clause-calm g c asked tells =
+    calm_leaves g.F.Commands.gives g.F.Commands.may_fail g.H.Way.Link.history g.H.Way.Link.idle_count (IsSureOf g.H.Way.Link.sure g.H.Way.Link.offers asked) c.args.company.now c.hear_at.new.company c.leaves.new.self c.part_at.new.company c.in-Err.leave (c.in-Err.ensures.calm asked tells) c.hear_at.ensures.failed c.hear_at.ensures.lost c.leaves.ensures.left c.part_at.ensures.met c.part_at.ensures.grows

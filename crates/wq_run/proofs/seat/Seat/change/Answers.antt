@@ -3,6 +3,7 @@ use Rattle.run_history.specs.declared.links.JoinRefused.TheVariants as refused
 use Rattle.local_run.specs.Underway.{IsSurePool}
 use Rattle.wq_run.proofs.Steps.{changes_keep}
 use Rattle.wq_run.proofs.Fares.{changes_full, fares_changed}
+use Rattle.wq_run.proofs.Calm.{changes_well, stays_ok, stays_left}
 use Rattle.wq_run.proofs.seat.Seat.change.Goals as goal
 
 pub returns-in-Ok : goal.returns-in-Ok
@@ -12,6 +13,7 @@ returns-in-Ok g c = record {
       (λ away first waiting heard u. c.change.ensures.underway away first held.attempts waiting None heard held.halt u));
   did = refl;
   fares = λ limit halt before tells offers. fares_changed c.args.self.now c.args.self.now c.args.desk.now c.change.new.desk c.link.result c.args.total c.args.largest c.args.cache c.change.result _ refl c.change.ensures.reply offers c.link.ensures (c.requires.came tells) tt;
+  calm = λ asked was. (changes_well c.args.desk.now c.change.new.desk c.link.result c.args.total c.args.largest c.args.cache c.change.result c.change.ensures.reply, stays_ok (was, refl));
 }
 
 pub returns-in-Err-Memory-clause-fares : goal.returns-in-Err-Memory-clause-fares
@@ -22,3 +24,11 @@ returns-in-Err-clause-fares g c limit halt before tells offers =
     let other : c.in-Err.field-0 ≢ refused.Memory = search rules in
     fares_changed c.args.self.now c.args.self.now c.args.desk.now c.change.new.desk c.link.result c.args.total c.args.largest c.args.cache c.change.result _ refl c.change.ensures.reply offers c.link.ensures (c.requires.came tells)
     (inr (changes_full c.args.desk.now c.change.new.desk c.link.result c.args.total c.args.largest c.args.cache c.in-Err.field-0 c.in-Err.ensures.reply other))
+
+pub returns-in-Err-Memory-clause-calm : goal.returns-in-Err-Memory-clause-calm
+returns-in-Err-Memory-clause-calm g c asked was = (changes_well c.args.desk.now c.change.new.desk c.link.result c.args.total c.args.largest c.args.cache c.change.result c.change.ensures.reply, stays_left tt)
+
+pub returns-in-Err-clause-calm : goal.returns-in-Err-clause-calm
+returns-in-Err-clause-calm g c asked was =
+    let other : c.in-Err.field-0 ≢ refused.Memory = search rules in
+    (changes_well c.args.desk.now c.change.new.desk c.link.result c.args.total c.args.largest c.args.cache c.change.result c.change.ensures.reply, stays_left (changes_full c.args.desk.now c.change.new.desk c.link.result c.args.total c.args.largest c.args.cache c.in-Err.field-0 c.in-Err.ensures.reply other))

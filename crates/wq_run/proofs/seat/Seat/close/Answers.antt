@@ -1,13 +1,13 @@
-use Rattle.std.proofs.Common.{Result, ap, refl, subst, sym, ℕ, ◌∙◌, ◌≡◌}
+use Rattle.std.proofs.Common.{List, Option, Result, ap, refl, subst, sym, ℕ, ◌∙◌, ◌≡◌, None, ◌++◌, ◌∷◌}
 use Rattle.std.specs.List.{AllByRecursion}
 use Rattle.flow_types.specs.Serial.{serial}
 use Rattle.desk.specs.declared.attempt.Attempt.{Attempt}
 use Rattle.local_run.specs.declared.halt.Halt.{Halt}
-use Rattle.local_run.specs.Underway.{HeldState, IsSurePool, halt_after}
+use Rattle.local_run.specs.Underway.{HeldState, IsSurePool, halt_after, Underway}
 use Rattle.wq_run.specs.Seats.{AreOn, MayEndAs, SeatState}
 use Rattle.wq_run.specs.Trusted.{EndsDue}
 use Rattle.wq_run.proofs.Closes.{away_from, close_keeps, close_unlinked, placed, runs}
-use Rattle.wq_run.proofs.Places.{all_at, on_at}
+use Rattle.wq_run.proofs.Places.{all_at, on_at, split_in}
 use Rattle.std.specs.Prelude.{OnOk}
 use Rattle.flow_types.specs.declared.numbers.AttemptNo.{AttemptNo}
 use Rattle.links.specs.Passings.{received_in}
@@ -15,6 +15,8 @@ use Rattle.peers.specs.States.{PeerState}
 use Rattle.wq_run.specs.Dues.{AddsSo, EndsWith, GaveBackIf, IsGivenBack}
 use Rattle.wq_run.proofs.Earned.{states_none}
 use Rattle.wq_run.proofs.Fares.{ends_heard, ends_so, fares_stopped, same_way}
+use Rattle.wq_run.specs.Calm.{AddsWell, IsSureOf}
+use Rattle.wq_run.proofs.Calm.{fares_halted, stays_ok, sure_as}
 use Rattle.wq_run.proofs.seat.Seat.close.Goals as goal
 
 pub end_away-requires-clause-runs : goal.end_away-requires-clause-runs
@@ -90,3 +92,17 @@ returns-in-Err-clause-peer g c = ap (λ (s : SeatState g.row.L.Denot). s.peer) c
 
 pub returns-in_default-clause-peer : goal.returns-in_default-clause-peer
 returns-in_default-clause-peer g c = ap (λ (s : SeatState g.row.L.Denot). s.peer) c.take-attempt.ensures.split.3
+
+pub returns-in-Err-clause-calm : goal.returns-in-Err-clause-calm
+returns-in-Err-clause-calm g c asked outs is was = fares_halted c.in-Err.why (ap (λ (h : HeldState). h.halt) c.stop.ensures)
+
+pub returns-in_default-clause-calm : goal.returns-in_default-clause-calm
+returns-in_default-clause-calm g c asked outs success was none =
+    let is = c.requires.at in
+    let split = c.take-attempt.ensures.split in
+    let a = c.take-attempt.result in
+    let are : is.at.away.attempts ≡ (is.front ++ split.0) ++ (a ∷ (split.1 ++ is.back)) = is.at.are ∙ ap (λ (xs : List Attempt). is.front ++ (xs ++ is.back)) split.2 ∙ split_in is.front split.0 a split.1 is.back in
+    let under = subst (λ (h : Option Halt). Underway g.T.Terms.trust g.F.Commands.gives g.F.Commands.may_fail g.T.Terms.sources g.S.Site.tells g.T.Terms.kept (IsSurePool g.B.Terms.fits) g.S.Site.files g.S.Site.may_leave g.S.Site.moment g.S.Site.images_since is.at.away is.first c.args.desk.now c.args.held.now.attempts is.waiting None is.heard h) none is.at.under in (
+      subst (λ (r : Result (Unit {0}) Halt). OnOk r (AddsWell c.args.desk.now.moves c.end_away.new.desk.moves)) c.in_default.is (c.end_away.ensures.calm outs is.at.away (is.front ++ split.0) (split.1 ++ is.back) is.first c.args.held.now.attempts is.waiting is.heard success are under),
+      stays_ok (sure_as g.F.Commands.gives g.F.Commands.may_fail g.L.Link.history (IsSureOf g.L.Link.sure g.L.Link.offers asked) c.args.self.now c.take-attempt.new.self (ap (λ (s : SeatState g.row.L.Denot). s.peer) split.3) (ap (λ (s : SeatState g.row.L.Denot). s.newest) split.3) was),
+    )

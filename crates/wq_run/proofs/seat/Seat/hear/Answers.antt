@@ -21,6 +21,8 @@ use Rattle.wq_frames.specs.Frames.{front}
 use Rattle.wq_frames.specs.Streams.{Stream}
 use Rattle.wq_run.specs.Dues.{HearsOffer, Shows}
 use Rattle.wq_run.proofs.Fares.{fares_behind, fares_err, fares_ok, fares_still, fares_stopped, fares_stopped_same, halted_never, misspeaks_leaves, never_false, same_way, spares_same}
+use Rattle.peers.specs.States.{PeerState}
+use Rattle.wq_run.proofs.Calm.{IsCalmTold, calm_leave, fares_halted, stays_as, stays_ok, well_same}
 use Rattle.wq_run.proofs.seat.Seat.hear.Goals as goal
 
 pub close-requires-clause-at : goal.close-requires-clause-at
@@ -44,6 +46,7 @@ returns-in-Ok-Finish g c = record {
   keeps = keeps_then g.T.Terms.trust g.F.Commands.gives g.F.Commands.may_fail g.T.Terms.sources g.S.Site.tells g.T.Terms.kept (IsSurePool g.B.Terms.fits) g.S.Site.files g.S.Site.may_leave g.S.Site.moment g.S.Site.images_since c.args.desk.now c.args.desk.now c.close.new.desk c.args.held.now c.args.held.now c.close.new.held c.args.self.now c.next.new.self c.close.new.self (heard_keeps g.T.Terms.trust g.F.Commands.gives g.F.Commands.may_fail g.T.Terms.sources g.S.Site.tells g.T.Terms.kept (IsSurePool g.B.Terms.fits) g.S.Site.files g.S.Site.may_leave g.S.Site.moment g.S.Site.images_since c.args.desk.now c.args.held.now c.args.self.now c.next.new.self (tell.Finish c.in-Ok-Finish.attempt c.in-Ok-Finish.outs) c.next.ensures.link c.next.ensures.attempts (subst (λ (x : Told). let r : Result Told Leave = Ok x in c.args.self.now.peer.feed.stop ≡ None → Hears c.args.self.now.peer.feed c.args.self.now.peer.session r c.next.new.self.peer.feed c.next.new.self.peer.session) c.in-Ok-Finish.field-0-is c.in-Ok-Finish.ensures.hears)) c.close.ensures.keeps;
   fares = λ limit tells. fares_ok (fares_behind c.next.ensures.link (same_way g.L.Link.history c.args.self.now c.next.new.self c.next.ensures.way) (spares_same c.args.desk.now.moves c.args.desk.now.moves refl) refl (c.in-Ok-Finish.ensures.heard tells) (c.close.ensures.fares limit tells));
   rests = λ not. absurd (true≢false not);
+  calm = λ asked tells was none. (let now = c.close.ensures.calm asked c.in-Ok-Finish.outs refl (c.in-Ok-Finish.ensures.calm asked tells was).1 none in (now.0, stays_ok (now.1.stays, ap (λ (p : PeerState g.row.L.Denot). p.way) c.close.ensures.peer ∙ c.next.ensures.way)));
 }
 
 pub close-requires-in-Ok-Fail-clause-at : goal.close-requires-in-Ok-Fail-clause-at
@@ -67,6 +70,7 @@ returns-in-Ok-Fail g c = record {
   keeps = keeps_then g.T.Terms.trust g.F.Commands.gives g.F.Commands.may_fail g.T.Terms.sources g.S.Site.tells g.T.Terms.kept (IsSurePool g.B.Terms.fits) g.S.Site.files g.S.Site.may_leave g.S.Site.moment g.S.Site.images_since c.args.desk.now c.args.desk.now c.close-in-Ok-Fail.new.desk c.args.held.now c.args.held.now c.close-in-Ok-Fail.new.held c.args.self.now c.next.new.self c.close-in-Ok-Fail.new.self (heard_keeps g.T.Terms.trust g.F.Commands.gives g.F.Commands.may_fail g.T.Terms.sources g.S.Site.tells g.T.Terms.kept (IsSurePool g.B.Terms.fits) g.S.Site.files g.S.Site.may_leave g.S.Site.moment g.S.Site.images_since c.args.desk.now c.args.held.now c.args.self.now c.next.new.self (tell.Fail c.in-Ok-Fail.attempt c.in-Ok-Fail.why) c.next.ensures.link c.next.ensures.attempts (subst (λ (x : Told). let r : Result Told Leave = Ok x in c.args.self.now.peer.feed.stop ≡ None → Hears c.args.self.now.peer.feed c.args.self.now.peer.session r c.next.new.self.peer.feed c.next.new.self.peer.session) c.in-Ok-Fail.field-0-is c.in-Ok-Fail.ensures.hears)) c.close-in-Ok-Fail.ensures.keeps;
   fares = λ limit tells. fares_ok (fares_behind c.next.ensures.link (same_way g.L.Link.history c.args.self.now c.next.new.self c.next.ensures.way) (spares_same c.args.desk.now.moves c.args.desk.now.moves refl) refl (c.in-Ok-Fail.ensures.heard tells) (c.close-in-Ok-Fail.ensures.fares limit tells));
   rests = λ not. absurd (true≢false not);
+  calm = λ asked tells was none. absurd (subst IsCalmTold c.in-Ok-Fail.field-0-is (c.in-Ok-Fail.ensures.calm asked tells was).0);
 }
 
 pub close-requires-in-Ok-Lose-clause-at : goal.close-requires-in-Ok-Lose-clause-at
@@ -90,6 +94,7 @@ returns-in-Ok-Lose g c = record {
   keeps = keeps_then g.T.Terms.trust g.F.Commands.gives g.F.Commands.may_fail g.T.Terms.sources g.S.Site.tells g.T.Terms.kept (IsSurePool g.B.Terms.fits) g.S.Site.files g.S.Site.may_leave g.S.Site.moment g.S.Site.images_since c.args.desk.now c.args.desk.now c.close-in-Ok-Lose.new.desk c.args.held.now c.args.held.now c.close-in-Ok-Lose.new.held c.args.self.now c.next.new.self c.close-in-Ok-Lose.new.self (heard_keeps g.T.Terms.trust g.F.Commands.gives g.F.Commands.may_fail g.T.Terms.sources g.S.Site.tells g.T.Terms.kept (IsSurePool g.B.Terms.fits) g.S.Site.files g.S.Site.may_leave g.S.Site.moment g.S.Site.images_since c.args.desk.now c.args.held.now c.args.self.now c.next.new.self (tell.Lose c.in-Ok-Lose.attempt) c.next.ensures.link c.next.ensures.attempts (subst (λ (x : Told). let r : Result Told Leave = Ok x in c.args.self.now.peer.feed.stop ≡ None → Hears c.args.self.now.peer.feed c.args.self.now.peer.session r c.next.new.self.peer.feed c.next.new.self.peer.session) c.in-Ok-Lose.field-0-is c.in-Ok-Lose.ensures.hears)) c.close-in-Ok-Lose.ensures.keeps;
   fares = λ limit tells. fares_ok (fares_behind c.next.ensures.link (same_way g.L.Link.history c.args.self.now c.next.new.self c.next.ensures.way) (spares_same c.args.desk.now.moves c.args.desk.now.moves refl) refl (c.in-Ok-Lose.ensures.heard tells) (c.close-in-Ok-Lose.ensures.fares limit tells));
   rests = λ not. absurd (true≢false not);
+  calm = λ asked tells was none. absurd (subst IsCalmTold c.in-Ok-Lose.field-0-is (c.in-Ok-Lose.ensures.calm asked tells was).0);
 }
 
 pub returns-in-Ok-Nothing : goal.returns-in-Ok-Nothing
@@ -99,6 +104,7 @@ returns-in-Ok-Nothing g c = record {
   rests = λ not none.
       let hears : Hears c.args.self.now.peer.feed c.args.self.now.peer.session (Ok tell.Nothing) c.next.new.self.peer.feed c.next.new.self.peer.session = subst (λ (x : Told). let r : Result Told Leave = Ok x in Hears c.args.self.now.peer.feed c.args.self.now.peer.session r c.next.new.self.peer.feed c.next.new.self.peer.session) c.in-Ok-Nothing.field-0-is (c.in-Ok-Nothing.ensures.hears c.requires.at.at.seat.going) in
       (ap (λ (x : Stream). front x.rest) hears.1 ∙ hears.0, λ heard. c.in-Ok-Nothing.ensures.spoken heard);
+  calm = λ asked tells was none. (well_same _ _ refl, stays_ok ((c.in-Ok-Nothing.ensures.calm asked tells was).1, c.next.ensures.way));
 }
 
 pub returns-in-Ok-Stale : goal.returns-in-Ok-Stale
@@ -106,6 +112,7 @@ returns-in-Ok-Stale g c = record {
   keeps = heard_keeps g.T.Terms.trust g.F.Commands.gives g.F.Commands.may_fail g.T.Terms.sources g.S.Site.tells g.T.Terms.kept (IsSurePool g.B.Terms.fits) g.S.Site.files g.S.Site.may_leave g.S.Site.moment g.S.Site.images_since c.args.desk.now c.args.held.now c.args.self.now c.next.new.self (tell.Stale c.in-Ok-Stale.field-0-0) c.next.ensures.link c.next.ensures.attempts (subst (λ (x : Told). let r : Result Told Leave = Ok x in c.args.self.now.peer.feed.stop ≡ None → Hears c.args.self.now.peer.feed c.args.self.now.peer.session r c.next.new.self.peer.feed c.next.new.self.peer.session) c.in-Ok-Stale.field-0-is c.in-Ok-Stale.ensures.hears);
   fares = λ limit tells. fares_still c.next.ensures.link (same_way g.L.Link.history c.args.self.now c.next.new.self c.next.ensures.way) refl refl tt (c.in-Ok-Stale.ensures.heard tells);
   rests = λ not. absurd (true≢false not);
+  calm = λ asked tells was none. (well_same _ _ refl, stays_ok ((c.in-Ok-Stale.ensures.calm asked tells was).1, c.next.ensures.way));
 }
 
 pub returns-in-Ok-Joined : goal.returns-in-Ok-Joined
@@ -117,6 +124,7 @@ returns-in-Ok-Joined g c =
           (at_then g.T.Terms.trust g.F.Commands.gives g.F.Commands.may_fail g.T.Terms.sources g.S.Site.tells g.T.Terms.kept (IsSurePool g.B.Terms.fits) g.S.Site.files g.S.Site.may_leave g.S.Site.moment g.S.Site.images_since c.args.desk.now c.args.desk.now c.args.held.now c.args.held.now c.args.self.now c.next.new.self c.requires.at keeps));
       fares = λ limit tells. fares_stopped halts.Memory c.next.ensures.link (same_way g.L.Link.history c.args.self.now c.next.new.self c.next.ensures.way) (ap (λ (h : HeldState). h.halt) c.stop-in-Ok-Joined.ensures);
       rests = λ not. absurd (true≢false not);
+      calm = λ asked tells was. fares_halted halts.Memory (ap (λ (h : HeldState). h.halt) c.stop-in-Ok-Joined.ensures);
     }
 
 pub change-requires-clause-lives : goal.change-requires-clause-lives
@@ -131,6 +139,7 @@ returns-in-Ok-Changed g c = record {
     more = subst (λ (x : Told). HearsOffer g.L.Link.history c.args.self.now.peer c.next.new.self.peer x) c.in-Ok-Changed.field-0-is (c.in-Ok-Changed.ensures.offers tells);
   });
   rests = never_false c.change.result _ c.change.ensures.did;
+  calm = λ asked tells was none. (let now = c.change.ensures.calm asked (c.in-Ok-Changed.ensures.calm asked tells was).1 in (now.0, stays_as c.change.result (λ is. (is.0, is.1 ∙ c.next.ensures.way)) now.1));
 }
 
 pub returns-in-Ok : goal.returns-in-Ok
@@ -138,6 +147,7 @@ returns-in-Ok g c = record {
   keeps = keeps_then g.T.Terms.trust g.F.Commands.gives g.F.Commands.may_fail g.T.Terms.sources g.S.Site.tells g.T.Terms.kept (IsSurePool g.B.Terms.fits) g.S.Site.files g.S.Site.may_leave g.S.Site.moment g.S.Site.images_since c.args.desk.now c.args.desk.now c.put_again.new.desk c.args.held.now c.args.held.now c.put_again.new.held c.args.self.now c.next.new.self c.put_again.new.self (heard_keeps g.T.Terms.trust g.F.Commands.gives g.F.Commands.may_fail g.T.Terms.sources g.S.Site.tells g.T.Terms.kept (IsSurePool g.B.Terms.fits) g.S.Site.files g.S.Site.may_leave g.S.Site.moment g.S.Site.images_since c.args.desk.now c.args.held.now c.args.self.now c.next.new.self (tell.PutAgain c.in-Ok-PutAgain.attempt c.in-Ok-PutAgain.files) c.next.ensures.link c.next.ensures.attempts (subst (λ (x : Told). let r : Result Told Leave = Ok x in c.args.self.now.peer.feed.stop ≡ None → Hears c.args.self.now.peer.feed c.args.self.now.peer.session r c.next.new.self.peer.feed c.next.new.self.peer.session) c.in-Ok-PutAgain.field-0-is c.in-Ok-PutAgain.ensures.hears)) c.in-Ok.ensures.keeps;
   fares = λ limit tells. fares_ok (fares_behind c.next.ensures.link (same_way g.L.Link.history c.args.self.now c.next.new.self c.next.ensures.way) (spares_same c.args.desk.now.moves c.args.desk.now.moves refl) refl (c.in-Ok-PutAgain.ensures.heard tells) (c.in-Ok.ensures.fares limit tells));
   rests = λ not. absurd (true≢false not);
+  calm = λ asked tells was none. absurd (subst IsCalmTold c.in-Ok-PutAgain.field-0-is (c.in-Ok-PutAgain.ensures.calm asked tells was).0);
 }
 
 pub returns-in-Ok-PutAgain : goal.returns-in-Ok-PutAgain
@@ -145,6 +155,7 @@ returns-in-Ok-PutAgain g c = record {
   keeps = leaves_then g.T.Terms.trust g.F.Commands.gives g.F.Commands.may_fail g.T.Terms.sources g.S.Site.tells g.T.Terms.kept (IsSurePool g.B.Terms.fits) g.S.Site.files g.S.Site.may_leave g.S.Site.moment g.S.Site.images_since c.args.desk.now c.args.desk.now c.put_again.new.desk c.args.held.now c.args.held.now c.put_again.new.held c.args.self.now c.next.new.self c.put_again.new.self (heard_keeps g.T.Terms.trust g.F.Commands.gives g.F.Commands.may_fail g.T.Terms.sources g.S.Site.tells g.T.Terms.kept (IsSurePool g.B.Terms.fits) g.S.Site.files g.S.Site.may_leave g.S.Site.moment g.S.Site.images_since c.args.desk.now c.args.held.now c.args.self.now c.next.new.self (tell.PutAgain c.in-Ok-PutAgain.attempt c.in-Ok-PutAgain.files) c.next.ensures.link c.next.ensures.attempts (subst (λ (x : Told). let r : Result Told Leave = Ok x in c.args.self.now.peer.feed.stop ≡ None → Hears c.args.self.now.peer.feed c.args.self.now.peer.session r c.next.new.self.peer.feed c.next.new.self.peer.session) c.in-Ok-PutAgain.field-0-is c.in-Ok-PutAgain.ensures.hears)) c.in-Err-put_again.ensures.keeps;
   fares = λ limit tells. fares_err (fares_behind c.next.ensures.link (same_way g.L.Link.history c.args.self.now c.next.new.self c.next.ensures.way) (spares_same c.args.desk.now.moves c.args.desk.now.moves refl) refl (c.in-Ok-PutAgain.ensures.heard tells) (c.in-Err-put_again.ensures.fares limit tells));
   rests = tt;
+  calm = λ asked tells was none. absurd (subst IsCalmTold c.in-Ok-PutAgain.field-0-is (c.in-Ok-PutAgain.ensures.calm asked tells was).0);
 }
 
 pub put_again-requires-clause-at : goal.put_again-requires-clause-at
@@ -171,6 +182,7 @@ returns-then-not-is_ready g c = record {
   keeps = keeps_want g.T.Terms.trust g.F.Commands.gives g.F.Commands.may_fail g.T.Terms.sources g.S.Site.tells g.T.Terms.kept (IsSurePool g.B.Terms.fits) g.S.Site.files g.S.Site.may_leave g.S.Site.moment g.S.Site.images_since c.args.desk.now c.args.held.now c.stop.new.self c.args.self.now c.stop.ensures c.requires.at;
   fares = λ limit tells. fares_stopped_same halts.Memory (ap (λ (h : HeldState). h.halt) c.stop.ensures);
   rests = λ not none. absurd (halted_never halts.Memory c.stop.new.self.halt (ap (λ (h : HeldState). h.halt) c.stop.ensures) none);
+  calm = λ asked tells was. fares_halted halts.Memory (ap (λ (h : HeldState). h.halt) c.stop.ensures);
 }
 
 pub returns-clause-fares : goal.returns-clause-fares
@@ -183,3 +195,6 @@ close-requires-in-Ok-Lose-clause-back g c κs within tells =
 pub change-requires-clause-came : goal.change-requires-clause-came
 change-requires-clause-came g c κs within tells =
     subst (λ (x : Told). let r : Result Told Leave = Ok x in Shows (g.L.Link.history c.next.new.self.peer.way) r) c.in-Ok-Changed.field-0-is (c.in-Ok-Changed.ensures.shows tells)
+
+pub returns-clause-calm : goal.returns-clause-calm
+returns-clause-calm g c asked tells was none = (well_same _ _ refl, calm_leave c.in-Err.leave (c.in-Err.ensures.calm asked tells was).0)

@@ -1,7 +1,10 @@
-use Rattle.std.proofs.Common.{None, ap, subst, sym, ◌≡◌, ◌∙◌}
+use Rattle.std.proofs.Common.{◌≡◌, ap, subst, sym, None, ◌∙◌}
 use Rattle.peers.specs.States.{PeerState}
 use Rattle.wq_run.specs.Trusted.{IsFair, IsTrusted}
+use Rattle.wq_run.specs.Calm.{IsSureOf, IsSureSeat}
+use Rattle.wq_run.specs.Seats.{SeatState}
 use Rattle.wq_run.proofs.Trusts.{come_trusted}
+use Rattle.wq_run.proofs.Calm.{sure_of_on, stays_ok, sure_come, wants_memory}
 use Rattle.peers.specs.Serves.{Serves}
 use Rattle.wq_run.specs.Dues.{StaysHeard}
 use Rattle.wq_run.specs.Seats.{SeatState}
@@ -33,3 +36,17 @@ returns-in-Ok-Idle-clause-heard g c tells trusted =
     let serves = subst (λ (p : PeerState g.row.L.Denot). Serves g.F.Commands.gives g.F.Commands.may_fail (g.L.Link.history p.way) p.feed p.session trusted.said trusted.heard None) (sym same) was in
     subst (λ (p : PeerState g.row.L.Denot). StaysHeard g.L.Link.history p c.listen.new.self) same
     (heard_served g.L.Link.history g.F.Commands.gives g.F.Commands.may_fail c.ready.new.self c.listen.new.self trusted.said trusted.heard None (c.listen.ensures.kept tells) serves (c.in-Ok-Idle.ensures.serves trusted.said trusted.heard None tells serves))
+
+pub returns-in-Ok-Piece-clause-calm : goal.returns-in-Ok-Piece-clause-calm
+returns-in-Ok-Piece-clause-calm g c asked tells was =
+    stays_ok (sure_come g.F.Commands.gives g.F.Commands.may_fail g.L.Link.history (IsSureOf g.L.Link.sure g.L.Link.offers asked) (record { peer = c.ready.new.self; link = c.self.inside.link; attempts = c.self.inside.attempts.items; newest = c.self.inside.newest }) c.listen.new.self c.listen.ensures.session (λ said heard waiting serves. c.in-Ok-Piece.ensures.serves said heard waiting tells serves) (sure_of_on c.listen.ensures.on)
+    (subst (λ (p : PeerState g.row.L.Denot). IsSureSeat g.F.Commands.gives g.F.Commands.may_fail g.L.Link.history (IsSureOf g.L.Link.sure g.L.Link.offers asked) (record { peer = p; link = c.self.inside.link; attempts = c.self.inside.attempts.items; newest = c.self.inside.newest })) (sym c.ready.ensures) (subst (IsSureSeat g.F.Commands.gives g.F.Commands.may_fail g.L.Link.history (IsSureOf g.L.Link.sure g.L.Link.offers asked)) (sym c.self.view_is) was)))
+
+pub returns-in-Ok-Idle-clause-calm : goal.returns-in-Ok-Idle-clause-calm
+returns-in-Ok-Idle-clause-calm g c asked tells was =
+    stays_ok (sure_come g.F.Commands.gives g.F.Commands.may_fail g.L.Link.history (IsSureOf g.L.Link.sure g.L.Link.offers asked) (record { peer = c.ready.new.self; link = c.self.inside.link; attempts = c.self.inside.attempts.items; newest = c.self.inside.newest }) c.listen.new.self c.listen.ensures.session (λ said heard waiting serves. c.in-Ok-Idle.ensures.serves said heard waiting tells serves) (sure_of_on c.listen.ensures.on)
+    (subst (λ (p : PeerState g.row.L.Denot). IsSureSeat g.F.Commands.gives g.F.Commands.may_fail g.L.Link.history (IsSureOf g.L.Link.sure g.L.Link.offers asked) (record { peer = p; link = c.self.inside.link; attempts = c.self.inside.attempts.items; newest = c.self.inside.newest })) (sym c.ready.ensures) (subst (IsSureSeat g.F.Commands.gives g.F.Commands.may_fail g.L.Link.history (IsSureOf g.L.Link.sure g.L.Link.offers asked)) (sym c.self.view_is) was)))
+
+pub returns-in-Err-clause-calm : goal.returns-in-Err-clause-calm
+returns-in-Err-clause-calm g c asked tells was =
+    wants_memory c.in-Err.leave (c.in-Err.ensures.sure (subst (λ (p : PeerState g.row.L.Denot). g.L.Link.sure p.way) (sym c.ready.ensures) (subst (IsSureSeat g.F.Commands.gives g.F.Commands.may_fail g.L.Link.history (IsSureOf g.L.Link.sure g.L.Link.offers asked)) (sym c.self.view_is) was).tended.surely.surely))

@@ -2,7 +2,9 @@ use Rattle.std.proofs.Common.{Err, Ok, ap, inl, subst, sym, ◌∙◌}
 use Rattle.wq_run.specs.Seats.{SeatState}
 use Rattle.wq_run.specs.Trusted.{IsFair, IsTrusted}
 use Rattle.wq_run.proofs.Trusts.{heard_due, heard_trusted}
+use Rattle.wq_run.specs.Calm.{IsSureOf, IsSureSeat}
 use Rattle.wq_run.proofs.Fares.{shows_by}
+use Rattle.wq_run.proofs.Calm.{sure_heard}
 use Rattle.wq_run.specs.Dues.{HearsOffer, StaysHeard}
 use Rattle.wq_run.proofs.Heards.{heard_still, hears_less, hears_offer}
 use Rattle.wq_run.proofs.seat.Seat.next.Goals as goal
@@ -44,3 +46,15 @@ returns-in-Ok-clause-offers g c tells =
     let was = subst (IsTrusted g.T.Trust.holds g.F.Commands.gives g.F.Commands.may_fail g.L.Link.history (IsFair g.T.Trust.holds g.L.Link.tells g.L.Link.honest) g.T.Trust.plan g.T.Trust.run g.T.Trust.due) (sym c.self.view_is) (c.requires.trusted (inl tells)) in
     subst (λ (s : SeatState g.row.L.Denot). HearsOffer g.L.Link.history s.peer c.hear.new.self c.in-Ok.told) c.self.view_is
     (hears_offer g.F.Commands.gives g.F.Commands.may_fail g.L.Link.history c.self.inside.peer c.hear.new.self was.said was.heard c.in-Ok.told was.spoken.serves c.hear.ensures.way (c.in-Ok.ensures.hears was.spoken.serves.going))
+
+pub returns-in-Ok-clause-calm : goal.returns-in-Ok-clause-calm
+returns-in-Ok-clause-calm g c asked tells was =
+    let is = subst (IsSureSeat g.F.Commands.gives g.F.Commands.may_fail g.L.Link.history (IsSureOf g.L.Link.sure g.L.Link.offers asked)) (sym c.self.view_is) was in (
+      c.in-Ok.ensures.sure is.said is.heard tells is.tended.serves (c.sure_links_are_orderly.ensures c.self.inside.peer.way is.tended.surely.surely).1,
+      sure_heard g.F.Commands.gives g.F.Commands.may_fail g.L.Link.history (IsSureOf g.L.Link.sure g.L.Link.offers asked) (record { peer = c.self.inside.peer; link = c.self.inside.link; attempts = c.self.inside.attempts.items; newest = c.self.inside.newest }) c.hear.new.self c.in-Ok.told c.tasks_come_behind_their_inputs.ensures.heard c.hear.ensures.way c.in-Ok.ensures.hears (λ said heard serves. c.in-Ok.ensures.serves said heard tells serves) is,
+    )
+
+pub returns-in-Err-clause-calm : goal.returns-in-Err-clause-calm
+returns-in-Err-clause-calm g c asked tells was =
+    let is = subst (IsSureSeat g.F.Commands.gives g.F.Commands.may_fail g.L.Link.history (IsSureOf g.L.Link.sure g.L.Link.offers asked)) (sym c.self.view_is) was in
+    (c.in-Err.ensures.sure is.said is.heard tells is.tended.serves (c.sure_links_are_orderly.ensures c.self.inside.peer.way is.tended.surely.surely).1, tt)

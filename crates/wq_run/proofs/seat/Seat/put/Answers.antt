@@ -10,7 +10,8 @@ use Rattle.wq_run.proofs.Steps.{after_kept, at_then, goes_by, none_of}
 use Rattle.wq_run.proofs.Trusts.{read_due}
 use Rattle.desk.specs.State.{DeskState}
 use Rattle.wq_run.proofs.Shares.{keeps_then}
-use Rattle.wq_run.proofs.Fares.{fares_same, fares_still, fares_stopped_same, send_leaves}
+use Rattle.wq_run.proofs.Fares.{fares_same, fares_still, fares_stopped_same, send_leaves, halted_never}
+use Rattle.wq_run.proofs.Calm.{fares_halted, fares_quiet, not_going, stays_wide, well_same}
 use Rattle.wq_run.proofs.Heards.{heard_fed, ok_with}
 use Rattle.wq_run.proofs.seat.Seat.put.Goals as goal
 
@@ -65,3 +66,34 @@ returns-else-as_slice-gt-MOST_BYTES-clause-fares g c limit tells =
 
 pub returns-in-Err-clause-fares : goal.returns-in-Err-clause-fares
 returns-in-Err-clause-fares g c limit tells = fares_stopped_same c.in-Err.why (ap (λ (h : HeldState). h.halt) c.stop-in-Err.ensures)
+
+pub returns-then-not-is_going-clause-calm : goal.returns-then-not-is_going-clause-calm
+returns-then-not-is_going-clause-calm g c asked task left tells was none = absurd (not_going c.args.held.now.halt (sym c.if-not-is_going.ensures) none)
+
+pub returns-then-not-present-clause-calm : goal.returns-then-not-present-clause-calm
+returns-then-not-present-clause-calm g c asked task left tells was = fares_halted halts.Memory (ap (λ (h : HeldState). h.halt) c.stop.ensures)
+
+pub returns-then-as_slice-gt-MOST_BYTES-clause-calm : goal.returns-then-as_slice-gt-MOST_BYTES-clause-calm
+returns-then-as_slice-gt-MOST_BYTES-clause-calm g c asked task left tells was = fares_halted halts.Memory (ap (λ (h : HeldState). h.halt) c.stop-then-as_slice-gt-MOST_BYTES.ensures)
+
+pub returns-else-as_slice-gt-MOST_BYTES-clause-calm : goal.returns-else-as_slice-gt-MOST_BYTES-clause-calm
+returns-else-as_slice-gt-MOST_BYTES-clause-calm g c asked task left tells was =
+    fares_quiet (ap (λ (b : DeskState g.row.S.Denot). b.moves) c.in-Ok.ensures.same) (stays_wide c.send.result (c.send.ensures.calm asked task left tells was))
+
+pub returns-in-Err-clause-calm : goal.returns-in-Err-clause-calm
+returns-in-Err-clause-calm g c asked task left tells was = fares_halted c.in-Err.why (ap (λ (h : HeldState). h.halt) c.stop-in-Err.ensures)
+
+pub returns-then-not-is_going-clause-wants : goal.returns-then-not-is_going-clause-wants
+returns-then-not-is_going-clause-wants g c on none = absurd (not_going c.args.held.now.halt (sym c.if-not-is_going.ensures) none)
+
+pub returns-then-not-present-clause-wants : goal.returns-then-not-present-clause-wants
+returns-then-not-present-clause-wants g c on none = absurd (halted_never halts.Memory c.stop.new.self.halt (ap (λ (h : HeldState). h.halt) c.stop.ensures) none)
+
+pub returns-then-as_slice-gt-MOST_BYTES-clause-wants : goal.returns-then-as_slice-gt-MOST_BYTES-clause-wants
+returns-then-as_slice-gt-MOST_BYTES-clause-wants g c on none = absurd (halted_never halts.Memory c.stop-then-as_slice-gt-MOST_BYTES.new.self.halt (ap (λ (h : HeldState). h.halt) c.stop-then-as_slice-gt-MOST_BYTES.ensures) none)
+
+pub returns-else-as_slice-gt-MOST_BYTES-clause-wants : goal.returns-else-as_slice-gt-MOST_BYTES-clause-wants
+returns-else-as_slice-gt-MOST_BYTES-clause-wants g c on none = (well_same _ _ (ap (λ (b : DeskState g.row.S.Denot). b.moves) c.in-Ok.ensures.same), c.send.ensures.wants on)
+
+pub returns-in-Err-clause-wants : goal.returns-in-Err-clause-wants
+returns-in-Err-clause-wants g c on none = absurd (halted_never c.in-Err.why c.stop-in-Err.new.self.halt (ap (λ (h : HeldState). h.halt) c.stop-in-Err.ensures) none)
