@@ -3,3 +3,6 @@ pub mod Losses
 pub mod Dues
 pub mod Placed
 mod Reliance
+pub mod Calms
+mod Enough
+pub mod Reaching

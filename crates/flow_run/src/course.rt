@@ -1,11 +1,12 @@
 //! A run over a desk, here or with workers.
 ghost use Rattle.std.specs.Prelude.{◌≡◌, ◌≤◌, ◌<◌, ◌+◌, ◌-◌, ℕ, List, length, sum_by, IfOk, OnOk};
 ghost use Rattle.std.specs.Prelude.{None, true, false};
+ghost use Rattle.flow_types.specs.declared.numbers.Amounts.{Amounts as AmountsValue};
 ghost use Rattle.flow_types.specs.declared.records.Record.{Record as RecordValue};
 ghost use Rattle.flow_types.specs.Plans.{IsValid};
 ghost use Rattle.flow_types.specs.Serial.{serial};
 ghost use Rattle.run_history.specs.declared.moves.Move.{Move};
-ghost use Rattle.run_history.specs.Answers.{before_end, end_over};
+ghost use Rattle.run_history.specs.Answers.{before_end, end_over, passes_inputs};
 ghost use Rattle.run_history.specs.Legal.{most_records};
 ghost use Rattle.run_history.specs.Links.{records_of};
 ghost use Rattle.run_history.specs.Moves.{joins_and_changes};
@@ -18,10 +19,11 @@ ghost use Rattle.local_run.specs.Ends.{BeganOver, FitsHere, HasFailed, IsApart, 
 ghost use Rattle.local_run.specs.Ends.{IsFresh, IsRunEnd, IsSureEnd, IsWholeRun, LogsFailures};
 ghost use Rattle.local_run.specs.Ends.{RunDamage, records_due};
 ghost use Rattle.local_run.specs.Runs.{IsClosedRun, IsCutRun, IsHallEnd, LosesNone, ended_by};
+ghost use Rattle.wq_run.specs.Calm.{ComeFew, GoesWell};
 ghost use Rattle.wq_run.specs.Losses.{AreDueLosses};
 ghost use Rattle.wq_run.specs.Trusted.{IsOf};
 ghost use Rattle.wq_run.specs.Ends.{AreBack, EndsHere, IsSparedRunners, LosesOnLinks, StopsBy};
-ghost use Rattle.wq_run.specs.Vain.{AreVain, IfWaited};
+ghost use Rattle.wq_run.specs.Vain.{AreVain, IfWaited, NeedsAtMost};
 
 use desk::{Desk, Terms};
 use links::Hall;
@@ -103,6 +105,18 @@ pub fn work<
         F.may_fail H.Way.history H.Way.count H.Way.idle_count H.Way.is_closed workers.limit
         (H.got hall.old) (H.got hall.new)
         (records_of desk.old.moves) (records_of desk.new.moves)) }
+    ensures calm { desk.old.options.wq ≡ true → H.Way.tells
+        → joins_and_changes desk.old.moves ≡ 0 → H.sure hall.old
+        → AllSure R.sure runners.old → ComeFew H.Way.history H.Way.count
+        H.Way.idle_count H.Way.is_closed (H.got hall.old) (H.got hall.new)
+        → OnOk result (GoesWell (records_of desk.old.moves) (records_of desk.new.moves)) }
+    ensures manned { desk.old.options.wq ≡ true → (least : AmountsValue) → H.Way.tells
+        → joins_and_changes desk.old.moves ≡ 0 → H.sure hall.old → H.manned hall.old least
+        → AllSure R.sure runners.old → ComeFew H.Way.history H.Way.count
+        H.Way.idle_count H.Way.is_closed (H.got hall.old) (H.got hall.new) → 1 ≤ workers.limit
+        → NeedsAtMost desk.old.plan desk.old.options least
+        → IfOk result (λ check. IfWaited check (((r : ℕ) → passes_inputs desk.new.plan
+        (before_end (records_of desk.new.moves)) r ≡ false) → ⊥)) }
     ensures waited { desk.old.options.wq ≡ true → IfOk result (EndsHere desk.new.plan
         desk.new.options workers.limit (H.idle_count hall.new - H.idle_count hall.old)
         desk.new.moves) }

@@ -1,6 +1,7 @@
 //! A run that goes on where the log ends.
 ghost use Rattle.std.specs.Prelude.{◌≡◌, ◌≢◌, ◌≤◌, ◌⊎◌, ℕ, List, IfErr, IfOk, OnOk};
 ghost use Rattle.std.specs.Prelude.{◌<◌, ◌-◌, None, Option, length, sum_by, true, false};
+ghost use Rattle.flow_types.specs.declared.numbers.Amounts.{Amounts as AmountsValue};
 ghost use Rattle.flow_types.specs.declared.records.Record.{Record as RecordValue};
 ghost use Rattle.flow_types.specs.Plans.{IsValid};
 ghost use Rattle.flow_types.specs.Serial.{serial};
@@ -27,10 +28,12 @@ ghost use Rattle.local_run.specs.Runs.{Adds, IsEarlyRun, IsRefusedRun};
 ghost use Rattle.local_run.specs.Runs.{BeginsWith, HasCauses, Held, IsAdmitted, IsClosedRun};
 ghost use Rattle.local_run.specs.Runs.{IsCutRun, IsHallEnd, IsSparedName, LosesNone, SerialFits};
 ghost use Rattle.local_run.specs.Runs.{read_sources};
+ghost use Rattle.wq_run.specs.Calm.{ComeFew, GoesWell};
 ghost use Rattle.wq_run.specs.Ends.{AreBack, EndsWaiting, IsSparedRunners, LosesOnLinks};
 ghost use Rattle.wq_run.specs.Losses.{AreDueLosses};
-ghost use Rattle.wq_run.specs.Vain.{AreVain, IfWaited};
+ghost use Rattle.wq_run.specs.Vain.{AreVain, IfWaited, NeedsAtMost};
 ghost use Rattle.flow_run.specs.Places.{PlacedBy};
+ghost use Rattle.flow_run.specs.Reached.{IsDoneAway};
 
 use crate::runs::run;
 use flow_types::{Name, Plan};
@@ -119,6 +122,11 @@ pub fn resume<
         F.may_fail H.Way.history H.Way.count H.Way.idle_count H.Way.is_closed workers.limit
         (H.got hall.old) (H.got hall.new)
         G ended.records)) }
+    ensures calm { IfOk result (λ ended. options.wq ≡ true → H.Way.tells → H.sure hall.old
+        → AllSure R.sure runners.old → ComeFew H.Way.history H.Way.count
+        H.Way.idle_count H.Way.is_closed (H.got hall.old) (H.got hall.new)
+        → S.tells → (G : List RecordValue) → Spells G (S.files site «name»)
+        → OnOk ended.how (GoesWell G ended.records)) }
     ensures ends { IfOk result (λ ended. options.wq ≡ false → IfOk ended.how (λ check. check
         ≡ end_over plan options (before_end ended.records) None)) }
     ensures waited { IfOk result (λ ended. options.wq ≡ true → IfOk ended.how
@@ -211,6 +219,30 @@ pub fn resume<
         → FitsHere plan options → SerialInputsFit plan F.gives sources
         → HasRecordRoom plan H → run_fault plan options H (S.files site) ≡ None
         → AllSure R.sure runners.old → S.count ended.site ≤ S.count site
+        → IsDone options.limit ended.how) }
+    ensures reaches { IfOk result (λ ended. options.wq ≡ true → H.Way.tells → H.honest hall.old
+        → H.sure hall.old → AllSure R.sure runners.old → ComeFew H.Way.history H.Way.count
+        H.Way.idle_count H.Way.is_closed (H.got hall.old) (H.got hall.new)
+        → S.tells → (G : List RecordValue) → Spells G (S.files site «name»)
+        → let sources = read_sources plan (S.files site) in
+        IsResumable (SerialFits F.gives sources) plan «name» G (S.may_leave site)
+        → TellsJobs plan (AllTell R.tells runners.old) (serial plan F.gives sources)
+        → SerialInputsFit plan F.gives sources
+        → HasRecordRoom plan G → run_fault plan options G (S.files site) ≡ None
+        → S.count ended.site ≤ S.count site → H.count hall.new ≤ H.count hall.old
+        → IsDoneAway options.limit ended.how) }
+    ensures manned { IfOk result (λ ended. options.wq ≡ true → (least : AmountsValue)
+        → H.Way.tells → H.honest hall.old → H.sure hall.old → H.manned hall.old least
+        → AllSure R.sure runners.old → ComeFew H.Way.history H.Way.count
+        H.Way.idle_count H.Way.is_closed (H.got hall.old) (H.got hall.new) → 1 ≤ workers.limit
+        → NeedsAtMost plan options least
+        → S.tells → (G : List RecordValue) → Spells G (S.files site «name»)
+        → let sources = read_sources plan (S.files site) in
+        IsResumable (SerialFits F.gives sources) plan «name» G (S.may_leave site)
+        → TellsJobs plan (AllTell R.tells runners.old) (serial plan F.gives sources)
+        → SerialInputsFit plan F.gives sources
+        → HasRecordRoom plan G → run_fault plan options G (S.files site) ≡ None
+        → S.count ended.site ≤ S.count site → H.count hall.new ≤ H.count hall.old
         → IsDone options.limit ended.how) }
 {
     files_spell_one_list();

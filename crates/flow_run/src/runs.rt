@@ -1,6 +1,7 @@
 //! A run over a log, from its start to its end.
 ghost use Rattle.std.specs.Prelude.{◌≡◌, ◌≢◌, ◌≤◌, ◌+◌, ◌⊎◌, ℕ, List, length, IfOk, OnOk, None};
 ghost use Rattle.std.specs.Prelude.{◌<◌, ◌-◌, sum_by, true, false};
+ghost use Rattle.flow_types.specs.declared.numbers.Amounts.{Amounts as AmountsValue};
 ghost use Rattle.flow_types.specs.declared.records.Record.{Record as RecordValue};
 ghost use Rattle.flow_types.specs.Plans.{IsValid, is_empty, is_source};
 ghost use Rattle.flow_types.specs.Serial.{serial};
@@ -30,11 +31,13 @@ ghost use Rattle.local_run.specs.Runs.{Adds, BeginsWith, HasCauses, Held, IsAdmi
 ghost use Rattle.local_run.specs.Runs.{IsEarlyRun, IsRefusedRun};
 ghost use Rattle.local_run.specs.Runs.{IsCutRun, IsHallEnd, IsKeeping, IsSparedName, IsStanding};
 ghost use Rattle.local_run.specs.Runs.{LosesNone, SerialFits, read_sources};
+ghost use Rattle.wq_run.specs.Calm.{ComeFew, GoesWell};
 ghost use Rattle.wq_run.specs.Ends.{AreBack, EndsWaiting, IsSparedRunners, LosesOnLinks};
 ghost use Rattle.wq_run.specs.Losses.{AreDueLosses};
-ghost use Rattle.wq_run.specs.Vain.{AreVain, IfWaited};
+ghost use Rattle.wq_run.specs.Vain.{AreVain, IfWaited, NeedsAtMost};
 ghost use Rattle.wq_run.specs.Trusted.{IsOf};
 ghost use Rattle.flow_run.specs.Places.{PlacedBy};
+ghost use Rattle.flow_run.specs.Reached.{IsDoneAway, IsReached};
 ghost use Rattle.flow_run.specs.Relied.{IsRelied};
 
 use crate::course::work;
@@ -103,6 +106,11 @@ fn run_desk<
         F.may_fail H.Way.history H.Way.count H.Way.idle_count H.Way.is_closed workers.limit
         (H.got hall.old) (H.got hall.new)
         (records_of desk.moves) result.records) }
+    ensures calm { desk.options.wq ≡ true → H.Way.tells
+        → joins_and_changes desk.moves ≡ 0 → H.sure hall.old
+        → AllSure R.sure runners.old → ComeFew H.Way.history H.Way.count
+        H.Way.idle_count H.Way.is_closed (H.got hall.old) (H.got hall.new)
+        → OnOk result.how (GoesWell (records_of desk.moves) result.records) }
     ensures ends { desk.options.wq ≡ false → IfOk result.how (λ check. check
         ≡ end_over desk.plan desk.options (before_end result.records) None) }
     ensures waited { desk.options.wq ≡ true → IfOk result.how
@@ -155,6 +163,21 @@ fn run_desk<
         → AreBack (H.got hall.old) (H.got hall.new) (H.given hall.old) (H.given hall.new) }
     ensures completes { FitsHere desk.plan desk.options → S.tells → T.kept → T.trust
         → SerialInputsFit desk.plan F.gives T.sources → AllSure R.sure runners.old
+        → records_due desk.plan (records_of desk.moves) + 1 ≤ most_records
+        → IfOk result.how (IsCompleteEnd desk.options.limit) }
+    ensures reaches { desk.options.wq ≡ true → H.Way.tells
+        → joins_and_changes desk.moves ≡ 0 → H.sure hall.old
+        → AllSure R.sure runners.old → ComeFew H.Way.history H.Way.count
+        H.Way.idle_count H.Way.is_closed (H.got hall.old) (H.got hall.new)
+        → S.tells → T.kept → T.trust → SerialInputsFit desk.plan F.gives T.sources
+        → records_due desk.plan (records_of desk.moves) + 1 ≤ most_records
+        → IfOk result.how (IsReached desk.options.limit) }
+    ensures manned { desk.options.wq ≡ true → (least : AmountsValue) → H.Way.tells
+        → joins_and_changes desk.moves ≡ 0 → H.sure hall.old → H.manned hall.old least
+        → AllSure R.sure runners.old → ComeFew H.Way.history H.Way.count
+        H.Way.idle_count H.Way.is_closed (H.got hall.old) (H.got hall.new) → 1 ≤ workers.limit
+        → NeedsAtMost desk.plan desk.options least → S.tells → T.kept → T.trust
+        → SerialInputsFit desk.plan F.gives T.sources
         → records_due desk.plan (records_of desk.moves) + 1 ≤ most_records
         → IfOk result.how (IsCompleteEnd desk.options.limit) }
 {
@@ -220,6 +243,10 @@ fn run_by<
         F.may_fail H.Way.history H.Way.count H.Way.idle_count H.Way.is_closed workers.limit
         (H.got hall.old) (H.got hall.new)
         history result.records) }
+    ensures calm { options.wq ≡ true → H.Way.tells → H.sure hall.old
+        → AllSure R.sure runners.old → ComeFew H.Way.history H.Way.count
+        H.Way.idle_count H.Way.is_closed (H.got hall.old) (H.got hall.new)
+        → OnOk result.how (GoesWell history result.records) }
     ensures ends { options.wq ≡ false → IfOk result.how (λ check. check
         ≡ end_over plan options (before_end result.records) None) }
     ensures waited { options.wq ≡ true → IfOk result.how (EndsWaiting plan options workers.limit
@@ -273,6 +300,17 @@ fn run_by<
     ensures completes { FitsHere plan options → S.tells → T.kept → T.trust
         → SerialInputsFit plan F.gives T.sources → HasRecordRoom plan history
         → AllSure R.sure runners.old → IfOk result.how (IsCompleteEnd options.limit) }
+    ensures reaches { options.wq ≡ true → H.Way.tells → H.sure hall.old
+        → AllSure R.sure runners.old → ComeFew H.Way.history H.Way.count
+        H.Way.idle_count H.Way.is_closed (H.got hall.old) (H.got hall.new)
+        → S.tells → T.kept → T.trust → SerialInputsFit plan F.gives T.sources
+        → HasRecordRoom plan history → IfOk result.how (IsReached options.limit) }
+    ensures manned { options.wq ≡ true → (least : AmountsValue) → H.Way.tells → H.sure hall.old
+        → H.manned hall.old least → AllSure R.sure runners.old → ComeFew H.Way.history H.Way.count
+        H.Way.idle_count H.Way.is_closed (H.got hall.old) (H.got hall.new) → 1 ≤ workers.limit
+        → NeedsAtMost plan options least → S.tells → T.kept → T.trust
+        → SerialInputsFit plan F.gives T.sources → HasRecordRoom plan history
+        → IfOk result.how (IsCompleteEnd options.limit) }
 {
     match Desk::<F, S, T>::start(alloc, plan, site, log, history, options, clock.now()) {
         Ok(desk) => run_desk(
@@ -339,6 +377,10 @@ pub fn run<
         F.may_fail H.Way.history H.Way.count H.Way.idle_count H.Way.is_closed workers.limit
         (H.got hall.old) (H.got hall.new)
         history result.records) }
+    ensures calm { options.wq ≡ true → H.Way.tells → H.sure hall.old
+        → AllSure R.sure runners.old → ComeFew H.Way.history H.Way.count
+        H.Way.idle_count H.Way.is_closed (H.got hall.old) (H.got hall.new)
+        → OnOk result.how (GoesWell history result.records) }
     ensures ends { options.wq ≡ false → IfOk result.how (λ check. check
         ≡ end_over plan options (before_end result.records) None) }
     ensures waited { options.wq ≡ true → IfOk result.how (EndsWaiting plan options workers.limit
@@ -409,6 +451,28 @@ pub fn run<
         → FitsHere plan options → SerialInputsFit plan F.gives sources
         → HasRecordRoom plan history → run_fault plan options history (S.files site) ≡ None
         → AllSure R.sure runners.old → S.count result.site ≤ S.count site
+        → IsDone options.limit result.how }
+    ensures reaches { options.wq ≡ true → H.Way.tells → H.honest hall.old → H.sure hall.old
+        → AllSure R.sure runners.old → ComeFew H.Way.history H.Way.count
+        H.Way.idle_count H.Way.is_closed (H.got hall.old) (H.got hall.new) → S.tells
+        → let sources = read_sources plan (S.files site) in
+        IsStanding F.gives sources plan log.name history (S.may_leave site)
+        → TellsJobs plan (AllTell R.tells runners.old) (serial plan F.gives sources)
+        → SerialInputsFit plan F.gives sources
+        → HasRecordRoom plan history → run_fault plan options history (S.files site) ≡ None
+        → S.count result.site ≤ S.count site → H.count hall.new ≤ H.count hall.old
+        → IsDoneAway options.limit result.how }
+    ensures manned { options.wq ≡ true → (least : AmountsValue) → H.Way.tells
+        → H.honest hall.old → H.sure hall.old → H.manned hall.old least
+        → AllSure R.sure runners.old → ComeFew H.Way.history H.Way.count
+        H.Way.idle_count H.Way.is_closed (H.got hall.old) (H.got hall.new) → 1 ≤ workers.limit
+        → NeedsAtMost plan options least → S.tells
+        → let sources = read_sources plan (S.files site) in
+        IsStanding F.gives sources plan log.name history (S.may_leave site)
+        → TellsJobs plan (AllTell R.tells runners.old) (serial plan F.gives sources)
+        → SerialInputsFit plan F.gives sources
+        → HasRecordRoom plan history → run_fault plan options history (S.files site) ≡ None
+        → S.count result.site ≤ S.count site → H.count hall.new ≤ H.count hall.old
         → IsDone options.limit result.how }
 {
     run_by::<W, G, F, S, H, R, C, Brand>(

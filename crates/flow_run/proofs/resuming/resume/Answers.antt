@@ -18,6 +18,7 @@ use Rattle.local_run.proofs.Joining.{each_moment, goes_on_from, is_named, keepin
 use Rattle.log_recover.specs.Recovery.{IsDamage}
 use Rattle.local_run.proofs.Refused.{damage_told, early_over, reads_same}
 use Rattle.wq_run.specs.Ends.{LosesOnLinks}
+use Rattle.wq_run.specs.Calm.{GoesWell}
 use Rattle.wq_run.specs.Losses.{AreDueLosses}
 use Rattle.flow_run.specs.Places.{PlacedBy}
 use Rattle.flow_run.proofs.resuming.resume.Goals as goal
@@ -148,3 +149,30 @@ returns-in-Ok-clause-modes g c told H spelled =
 pub returns-in-Ok-clause-gone : goal.returns-in-Ok-clause-gone
 returns-in-Ok-clause-gone g c told whole H spelled =
     subst (λ (G : List Record). AreGone c.args.plan (g.S.Site.files c.run.result.site) G c.run.result.records) (c.in-Ok.ensures.exact told H spelled) (c.run.ensures.gone told whole)
+
+pub returns-in-Ok-clause-calm : goal.returns-in-Ok-clause-calm
+returns-in-Ok-clause-calm g c away tells sure all few told H spelled = subst (λ (G : List Record). OnOk c.run.result.how (GoesWell G c.run.result.records)) (c.in-Ok.ensures.exact told H spelled) (c.run.ensures.calm away tells sure all few)
+
+pub returns-in-Ok-clause-reaches : goal.returns-in-Ok-clause-reaches
+returns-in-Ok-clause-reaches g c away way honest surely sure few told H spelled resumable tells fit room free stood met =
+    let same : (read_sources c.args.plan (g.S.Site.files c.recover.new.site)) ≡ (read_sources c.args.plan (g.S.Site.files c.args.site)) = λ i f. (c.recover.ensures.others told (file_name c.args.plan f) (c.requires.apart f)) i in
+    let these : c.in-Ok.history ≡ H = c.in-Ok.ensures.exact told H spelled in
+    let later = c.recover.ensures.later in
+    c.run.ensures.reaches away way honest surely sure few told
+    (subst (λ (s : Contents). IsStanding g.F.Commands.gives s c.args.plan c.in-Ok.log.name c.in-Ok.history (g.S.Site.may_leave c.recover.new.site)) (sym same) (keeping g.S.Site.may_leave g.S.Site.moment g.S.Site.images_since c.args.plan c.args.name c.in-Ok.log.name c.in-Ok.ensures.named.same_name c.in-Ok.history H (c.in-Ok.ensures.exact told H spelled) (g.S.Site.files c.args.site) c.args.site c.recover.new.site (SerialFits g.F.Commands.gives (read_sources c.args.plan (g.S.Site.files c.args.site))) c.requires.apart c.files_spell_one_list.ensures.one ((g.met.S.Site g.world.𝓛 g.world.𝓜 g.world.𝓡 ((λ s x. x), (λ x. x), (λ x. x), λ x. x)).reads_image told c.args.site c.args.name) (c.in-Ok.ensures.answer told) (c.in-Ok.ensures.stands told).at.each (c.recover.ensures.crash told) resumable))
+    (subst (λ (s : Contents). TellsJobs c.args.plan (AllTell g.R.Runner.tells c.args.runners.now) (serial c.args.plan g.F.Commands.gives s)) (sym same) tells)
+    (subst (λ (s : Contents). SerialInputsFit c.args.plan g.F.Commands.gives s) (sym same) fit) (subst (HasRecordRoom c.args.plan) (sym these) room)
+    (fault_joined c.args.plan c.args.options c.in-Ok.history H (g.S.Site.files c.args.site) (g.S.Site.files c.recover.new.site) these
+    (λ f. c.recover.ensures.others told (file_name c.args.plan f) (c.requires.apart f)) ∙ free) (omega (arith, later, stood)) met
+
+pub returns-in-Ok-clause-manned : goal.returns-in-Ok-clause-manned
+returns-in-Ok-clause-manned g c away least way honest surely manned sure few once needs told H spelled resumable tells fit room free stood met =
+    let same : (read_sources c.args.plan (g.S.Site.files c.recover.new.site)) ≡ (read_sources c.args.plan (g.S.Site.files c.args.site)) = λ i f. (c.recover.ensures.others told (file_name c.args.plan f) (c.requires.apart f)) i in
+    let these : c.in-Ok.history ≡ H = c.in-Ok.ensures.exact told H spelled in
+    let later = c.recover.ensures.later in
+    c.run.ensures.manned away least way honest surely manned sure few once needs told
+    (subst (λ (s : Contents). IsStanding g.F.Commands.gives s c.args.plan c.in-Ok.log.name c.in-Ok.history (g.S.Site.may_leave c.recover.new.site)) (sym same) (keeping g.S.Site.may_leave g.S.Site.moment g.S.Site.images_since c.args.plan c.args.name c.in-Ok.log.name c.in-Ok.ensures.named.same_name c.in-Ok.history H (c.in-Ok.ensures.exact told H spelled) (g.S.Site.files c.args.site) c.args.site c.recover.new.site (SerialFits g.F.Commands.gives (read_sources c.args.plan (g.S.Site.files c.args.site))) c.requires.apart c.files_spell_one_list.ensures.one ((g.met.S.Site g.world.𝓛 g.world.𝓜 g.world.𝓡 ((λ s x. x), (λ x. x), (λ x. x), λ x. x)).reads_image told c.args.site c.args.name) (c.in-Ok.ensures.answer told) (c.in-Ok.ensures.stands told).at.each (c.recover.ensures.crash told) resumable))
+    (subst (λ (s : Contents). TellsJobs c.args.plan (AllTell g.R.Runner.tells c.args.runners.now) (serial c.args.plan g.F.Commands.gives s)) (sym same) tells)
+    (subst (λ (s : Contents). SerialInputsFit c.args.plan g.F.Commands.gives s) (sym same) fit) (subst (HasRecordRoom c.args.plan) (sym these) room)
+    (fault_joined c.args.plan c.args.options c.in-Ok.history H (g.S.Site.files c.args.site) (g.S.Site.files c.recover.new.site) these
+    (λ f. c.recover.ensures.others told (file_name c.args.plan f) (c.requires.apart f)) ∙ free) (omega (arith, later, stood)) met

@@ -9,6 +9,7 @@ use Rattle.local_run.specs.Ends.{run_fault}
 use Rattle.local_run.proofs.Done.{all_done}
 use Rattle.local_run.proofs.Results.{closed_admitted, idle_spent}
 use Rattle.local_run.proofs.Fitting.{adds_always, keeps_fits, standing_keeps, trusted_keeps, was_fits}
+use Rattle.flow_run.proofs.Reaching.{all_complete, all_reached}
 use Rattle.flow_run.proofs.runs.run.Goals as goal
 
 pub run_by-requires-clause-before : goal.run_by-requires-clause-before
@@ -92,3 +93,19 @@ returns-clause-completes g c told standing tells here fit room free sure stood =
     (sum_by g.R.Runner.count c.args.runners.now) (sum_by g.R.Runner.count c.run_by.new.runners) (c.run_by.ensures.starts told) free (c.run_by.ensures.whole told keeping) (c.run_by.ensures.sure here.here sure) c.run_by.ensures.causes stood
     (λ is. true≢false (sym (c.run_by.ensures.hall is).0 ∙ here.here))
     (c.run_by.ensures.completes here told keeping (told, keeping, standing, tells, (λ is. absurd (true≢false (sym is ∙ here.here)))) fit room sure)
+
+pub returns-clause-reaches : goal.returns-clause-reaches
+returns-clause-reaches g c away tells honest surely sure few told standing jobs fit room free stood met =
+    let keeping = (standing_keeps g.F.Commands.gives (read_sources c.args.plan (g.S.Site.files c.args.site)) c.args.plan c.args.log.name c.args.history (g.S.Site.may_leave c.args.site) standing) in
+    all_reached c.args.options.limit (run_fault c.args.plan c.args.options c.args.history (g.S.Site.files c.args.site)) c.run_by.result.how (g.S.Site.count c.args.site) (g.S.Site.count c.run_by.result.site)
+    (sum_by g.R.Runner.count c.args.runners.now) (sum_by g.R.Runner.count c.run_by.new.runners) (c.run_by.ensures.starts told) free (c.run_by.ensures.whole told keeping) (c.run_by.ensures.never sure) c.run_by.ensures.causes stood
+    (λ is. (let rose = (c.run_by.ensures.hall is).1 in let wrong : ⊥ = omega (arith, rose, met) in wrong))
+    (c.run_by.ensures.reaches away tells surely sure few told keeping (told, keeping, standing, jobs, (λ is. honest)) fit room)
+
+pub returns-clause-manned : goal.returns-clause-manned
+returns-clause-manned g c away least tells honest surely manned sure few once needs told standing jobs fit room free stood met =
+    let keeping = (standing_keeps g.F.Commands.gives (read_sources c.args.plan (g.S.Site.files c.args.site)) c.args.plan c.args.log.name c.args.history (g.S.Site.may_leave c.args.site) standing) in
+    all_complete c.args.options.limit (run_fault c.args.plan c.args.options c.args.history (g.S.Site.files c.args.site)) c.run_by.result.how (g.S.Site.count c.args.site) (g.S.Site.count c.run_by.result.site)
+    (sum_by g.R.Runner.count c.args.runners.now) (sum_by g.R.Runner.count c.run_by.new.runners) (c.run_by.ensures.starts told) free (c.run_by.ensures.whole told keeping) (c.run_by.ensures.never sure) c.run_by.ensures.causes stood
+    (λ is. (let rose = (c.run_by.ensures.hall is).1 in let wrong : ⊥ = omega (arith, rose, met) in wrong))
+    (c.run_by.ensures.manned away least tells surely manned sure few once needs told keeping (told, keeping, standing, jobs, (λ is. honest)) fit room)

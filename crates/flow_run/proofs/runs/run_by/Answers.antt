@@ -28,10 +28,13 @@ use Rattle.local_run.proofs.Started.{IsBegun, adds_more, adds_nothing, begun, be
 use Rattle.local_run.proofs.Openings.{opens_by}
 use Rattle.wq_run.specs.Ends.{EndsWaiting, LosesOnLinks}
 use Rattle.flow_run.specs.Places.{PlacedBy}
+use Rattle.flow_run.specs.Reached.{IsReached}
+use Rattle.wq_run.specs.Calm.{GoesWell}
 use Rattle.wq_run.specs.Losses.{AreDueLosses}
-use Rattle.wq_run.specs.Vain.{AreVain, IfWaited}
+use Rattle.wq_run.specs.Vain.{AreVain, IfWaited, NeedsAtMost}
 use Rattle.flow_run.proofs.Losses.{loses_begun}
 use Rattle.flow_run.proofs.Dues.{by_either, due_begun, due_none, joins_begun}
+use Rattle.flow_run.proofs.Calms.{well_begun}
 use Rattle.flow_run.proofs.Placed.{placed_none}
 use Rattle.flow_run.proofs.Reliance.{of_begun}
 use Rattle.flow_run.proofs.Stops.{back_same}
@@ -332,3 +335,32 @@ returns-in-Ok-clause-opened g c started =
 
 pub returns-in-Err-clause-opened : goal.returns-in-Err-clause-opened
 returns-in-Err-clause-opened g c started = absurd (started tt)
+
+pub returns-in-Ok-clause-calm : goal.returns-in-Ok-clause-calm
+returns-in-Ok-clause-calm g c away tells sure all few =
+    let b : IsBegun (g.S.Site.count c.args.site) c.args.plan c.args.options c.args.log.name c.args.history g.F.Commands.may_fail (serial c.args.plan g.F.Commands.gives g.T.Terms.sources) c.in-Ok.desk = (begun g.S.Site.count c.args.plan c.args.options c.args.log.name c.args.history c.now.result g.S.Site.tells (g.S.Site.files c.args.site) c.args.site g.F.Commands.may_fail (serial c.args.plan g.F.Commands.gives g.T.Terms.sources) c.in-Ok.desk c.in-Ok.ensures.reply) in
+    let records = c.run_desk.result.records in
+    let mid = records_of c.in-Ok.desk.moves in
+    let wq : c.in-Ok.desk.options.wq ≡ c.args.options.wq = ap (λ (O : Options). O.wq) b.options in
+    on_ok c.run_desk.result.how (GoesWell mid records) (GoesWell c.args.history records) (well_begun c.args.history mid records b.entry b.records b.failed b.kept) (c.run_desk.ensures.calm (wq ∙ away) tells (joins_begun c.in-Ok.desk c.args.history b.over) sure all few)
+
+pub returns-in-Ok-clause-reaches : goal.returns-in-Ok-clause-reaches
+returns-in-Ok-clause-reaches g c away tells sure all few told kept trusted fit room =
+    let b : IsBegun (g.S.Site.count c.args.site) c.args.plan c.args.options c.args.log.name c.args.history g.F.Commands.may_fail (serial c.args.plan g.F.Commands.gives g.T.Terms.sources) c.in-Ok.desk = (begun g.S.Site.count c.args.plan c.args.options c.args.log.name c.args.history c.now.result g.S.Site.tells (g.S.Site.files c.args.site) c.args.site g.F.Commands.may_fail (serial c.args.plan g.F.Commands.gives g.T.Terms.sources) c.in-Ok.desk c.in-Ok.ensures.reply) in
+    let due : records_due c.in-Ok.desk.plan (records_of c.in-Ok.desk.moves) ≤ records_due c.args.plan c.args.history + 1 =
+    subst (λ (P : Plan). records_due P (records_of c.in-Ok.desk.moves) ≤ records_due c.args.plan c.args.history + 1) (sym b.plan) b.due in
+    let wq : c.in-Ok.desk.options.wq ≡ c.args.options.wq = ap (λ (O : Options). O.wq) b.options in
+    subst (λ (O : Options). IfOk c.run_desk.result.how (IsReached O.limit)) b.options
+    (c.run_desk.ensures.reaches (wq ∙ away) tells (joins_begun c.in-Ok.desk c.args.history b.over) sure all few told kept trusted
+    (subst (λ (P : Plan). SerialInputsFit P g.F.Commands.gives g.T.Terms.sources) (sym b.plan) fit) (has_room_due c.args.plan c.args.history _ due room))
+
+pub returns-in-Ok-clause-manned : goal.returns-in-Ok-clause-manned
+returns-in-Ok-clause-manned g c away least tells sure manned all few once needs told kept trusted fit room =
+    let b : IsBegun (g.S.Site.count c.args.site) c.args.plan c.args.options c.args.log.name c.args.history g.F.Commands.may_fail (serial c.args.plan g.F.Commands.gives g.T.Terms.sources) c.in-Ok.desk = (begun g.S.Site.count c.args.plan c.args.options c.args.log.name c.args.history c.now.result g.S.Site.tells (g.S.Site.files c.args.site) c.args.site g.F.Commands.may_fail (serial c.args.plan g.F.Commands.gives g.T.Terms.sources) c.in-Ok.desk c.in-Ok.ensures.reply) in
+    let due : records_due c.in-Ok.desk.plan (records_of c.in-Ok.desk.moves) ≤ records_due c.args.plan c.args.history + 1 =
+    subst (λ (P : Plan). records_due P (records_of c.in-Ok.desk.moves) ≤ records_due c.args.plan c.args.history + 1) (sym b.plan) b.due in
+    let wq : c.in-Ok.desk.options.wq ≡ c.args.options.wq = ap (λ (O : Options). O.wq) b.options in
+    subst (λ (O : Options). IfOk c.run_desk.result.how (IsCompleteEnd O.limit)) b.options
+    (c.run_desk.ensures.manned (wq ∙ away) least tells (joins_begun c.in-Ok.desk c.args.history b.over) sure manned all few once
+    (subst (λ (P : Plan). NeedsAtMost P c.in-Ok.desk.options least) (sym b.plan) (subst (λ (O : Options). NeedsAtMost c.args.plan O least) (sym b.options) needs)) told kept trusted
+    (subst (λ (P : Plan). SerialInputsFit P g.F.Commands.gives g.T.Terms.sources) (sym b.plan) fit) (has_room_due c.args.plan c.args.history _ due room))

@@ -1,8 +1,8 @@
-use Rattle.std.proofs.Common.{◌≡◌, ◌≤◌, ◌∙◌, ◌-◌, ℕ, List, subst, sym}
+use Rattle.std.proofs.Common.{◌≡◌, ◌≤◌, ◌∙◌, ◌-◌, ℕ, false, List, ap, subst, sym}
 use Rattle.std.specs.Prelude.{sum_by, IfOk, None, OnOk, length}
 use Rattle.flow_types.specs.declared.records.Record.{Record}
 use Rattle.run_history.specs.declared.options.Options.{Options}
-use Rattle.run_history.specs.Answers.{before_end, end_over}
+use Rattle.run_history.specs.Answers.{before_end, end_over, passes_inputs}
 use Rattle.run_history.specs.Links.{records_of}
 use Rattle.outside.specs.Disk.{IsImage}
 use Rattle.flow_types.specs.declared.plan.Plan.{Plan}
@@ -15,14 +15,17 @@ use Rattle.local_run.specs.Ends.{IsApart, LogsFailures, RunDamage}
 use Rattle.local_run.specs.Runs.{HasCauses, LosesNone}
 use Rattle.local_run.proofs.Alone.{alone_less}
 use Rattle.local_run.proofs.Collecting.{unmade_untouched}
+use Rattle.local_run.proofs.Completed.{inputs_fit}
 use Rattle.local_run.proofs.Modes.{are_gone, collects_by, run_collects}
 use Rattle.local_run.proofs.Results.{adds_records, is_kept}
 use Rattle.local_run.proofs.Going.{goes_records}
 use Rattle.local_run.proofs.Openings.{opens_on}
-use Rattle.wq_run.specs.Ends.{EndsWaiting, LosesOnLinks}
+use Rattle.wq_run.specs.Ends.{EndsHere, EndsWaiting, LosesOnLinks}
+use Rattle.wq_run.specs.Calm.{GoesWell}
 use Rattle.wq_run.specs.Losses.{AreDueLosses}
 use Rattle.wq_run.specs.Vain.{AreVain, IfWaited}
 use Rattle.flow_run.proofs.Placed.{placed_by}
+use Rattle.flow_run.proofs.Reaching.{reached_whole}
 use Rattle.flow_run.proofs.Stops.{causes_stop, fine_stop, hall_stop, started_stop, starts_stop, stop_kept, waits_logged}
 use Rattle.flow_run.proofs.runs.run_desk.Goals as goal
 
@@ -146,3 +149,44 @@ pub returns-clause-opened : goal.returns-clause-opened
 returns-clause-opened g c O opens =
     opens_on O (records_of c.args.desk.moves) c.work-how.ensures.goes.1.more c.into_parts-site.result.1 opens
     (c.into_parts-site.ensures.records ∙ goes_records g.T.Terms.trust g.F.Commands.gives g.F.Commands.may_fail g.T.Terms.sources g.S.Site.tells g.S.Site.files g.S.Site.may_leave g.S.Site.moment g.S.Site.images_since c.work-how.ensures.goes.0 c.args.desk c.work-how.new.desk c.work-how.ensures.goes.1) c.work-how.ensures.goes.1.anew
+
+pub returns-clause-calm : goal.returns-clause-calm
+returns-clause-calm g c away tells unjoined sure all few = subst (λ (G : List Record). OnOk c.work-how.result (GoesWell (records_of c.args.desk.moves) G)) (sym c.into_parts-site.ensures.records) (c.work-how.ensures.calm away tells unjoined sure all few)
+
+pub returns-clause-reaches : goal.returns-clause-reaches
+returns-clause-reaches g c away tells quiet sure all few told kept trusted fit room =
+    let d = c.args.desk in
+    let new = c.work-how.new.desk in
+    let goes = c.work-how.ensures.goes.1 in
+    let how = c.work-how.result in
+    let records : c.into_parts-site.result.1 ≡ records_of new.moves = c.into_parts-site.ensures.records in
+    let legal : IsLegal d.plan (records_of new.moves) = subst (λ (P : Plan). IsLegal P (records_of new.moves)) goes.plan c.into_parts-site.ensures.legal in
+    let ends : IfOk how (EndsHere d.plan d.options c.args.workers.limit (g.H.Hall.idle_count c.work-how.new.hall - g.H.Hall.idle_count c.args.hall.now) new.moves) =
+    subst (λ (P : Plan). IfOk how (EndsHere P d.options c.args.workers.limit (g.H.Hall.idle_count c.work-how.new.hall - g.H.Hall.idle_count c.args.hall.now) new.moves)) goes.plan
+    (subst (λ (O : Options). IfOk how (EndsHere new.plan O c.args.workers.limit (g.H.Hall.idle_count c.work-how.new.hall - g.H.Hall.idle_count c.args.hall.now) new.moves)) goes.options (c.work-how.ensures.waited away)) in
+    (reached_whole d.plan d.options c.args.workers.limit (g.H.Hall.idle_count c.work-how.new.hall - g.H.Hall.idle_count c.args.hall.now) d.moves new.moves goes.more how
+    (goes_records g.T.Terms.trust g.F.Commands.gives g.F.Commands.may_fail g.T.Terms.sources g.S.Site.tells g.S.Site.files g.S.Site.may_leave g.S.Site.moment g.S.Site.images_since c.work-how.ensures.goes.0 d new goes) goes.anew c.requires.fresh legal ends
+    (c.work-how.ensures.calm away tells quiet sure all few)
+    (λ whole r. ap (λ (G : List Record). passes_inputs d.plan G r) (sym records)
+    ∙ inputs_fit g.T.Terms.trust d.plan g.F.Commands.gives g.T.Terms.sources d.log c.into_parts-site.result.1 (g.S.Site.files c.into_parts-site.result.0) trusted
+    (returns-clause-now g c told kept whole (g.S.Site.files c.into_parts-site.result.0) ((g.met.S.Site g.world.𝓛 g.world.𝓜 g.world.𝓡 ((λ s x. x), (λ x. x), (λ x. x), λ x. x)).reads_image told c.into_parts-site.result.0)) fit r) room).0
+
+pub returns-clause-manned : goal.returns-clause-manned
+returns-clause-manned g c away least tells quiet sure manned all few once needs told kept trusted fit room =
+    let d = c.args.desk in
+    let new = c.work-how.new.desk in
+    let goes = c.work-how.ensures.goes.1 in
+    let how = c.work-how.result in
+    let records : c.into_parts-site.result.1 ≡ records_of new.moves = c.into_parts-site.ensures.records in
+    let legal : IsLegal d.plan (records_of new.moves) = subst (λ (P : Plan). IsLegal P (records_of new.moves)) goes.plan c.into_parts-site.ensures.legal in
+    let ends : IfOk how (EndsHere d.plan d.options c.args.workers.limit (g.H.Hall.idle_count c.work-how.new.hall - g.H.Hall.idle_count c.args.hall.now) new.moves) =
+    subst (λ (P : Plan). IfOk how (EndsHere P d.options c.args.workers.limit (g.H.Hall.idle_count c.work-how.new.hall - g.H.Hall.idle_count c.args.hall.now) new.moves)) goes.plan
+    (subst (λ (O : Options). IfOk how (EndsHere new.plan O c.args.workers.limit (g.H.Hall.idle_count c.work-how.new.hall - g.H.Hall.idle_count c.args.hall.now) new.moves)) goes.options (c.work-how.ensures.waited away)) in
+    let never : IfOk how (λ check. IfWaited check (((r : ℕ) → passes_inputs d.plan (before_end (records_of new.moves)) r ≡ false) → ⊥)) =
+    subst (λ (P : Plan). IfOk how (λ check. IfWaited check (((r : ℕ) → passes_inputs P (before_end (records_of new.moves)) r ≡ false) → ⊥))) goes.plan (c.work-how.ensures.manned away least tells quiet sure manned all few once needs) in
+    (reached_whole d.plan d.options c.args.workers.limit (g.H.Hall.idle_count c.work-how.new.hall - g.H.Hall.idle_count c.args.hall.now) d.moves new.moves goes.more how
+    (goes_records g.T.Terms.trust g.F.Commands.gives g.F.Commands.may_fail g.T.Terms.sources g.S.Site.tells g.S.Site.files g.S.Site.may_leave g.S.Site.moment g.S.Site.images_since c.work-how.ensures.goes.0 d new goes) goes.anew c.requires.fresh legal ends
+    (c.work-how.ensures.calm away tells quiet sure all few)
+    (λ whole r. ap (λ (G : List Record). passes_inputs d.plan G r) (sym records)
+    ∙ inputs_fit g.T.Terms.trust d.plan g.F.Commands.gives g.T.Terms.sources d.log c.into_parts-site.result.1 (g.S.Site.files c.into_parts-site.result.0) trusted
+    (returns-clause-now g c told kept whole (g.S.Site.files c.into_parts-site.result.0) ((g.met.S.Site g.world.𝓛 g.world.𝓜 g.world.𝓡 ((λ s x. x), (λ x. x), (λ x. x), λ x. x)).reads_image told c.into_parts-site.result.0)) fit r) room).1 never
