@@ -6,12 +6,15 @@ use Rattle.std.proofs.lemmas.Bool.{le-leb, ltb-false}
 use Rattle.flow_types.specs.declared.numbers.Amounts.{Amounts}
 use Rattle.flow_types.specs.declared.numbers.Needs.{Needs}
 use Rattle.flow_types.specs.declared.numbers.Needs.TheVariants.{Whole, Stated}
+use Rattle.flow_types.specs.declared.plan.Plan.{Plan}
 use Rattle.flow_types.specs.declared.plan.Rule.{Rule}
 use Rattle.rule_graph.specs.Faults.{or_else}
 use Rattle.run_history.specs.declared.options.Options.{Options}
-use Rattle.run_history.specs.Links.{amounts_on, is_at_most}
+use Rattle.run_history.specs.Links.{amounts_on, is_at_most, is_local_rule}
+use Rattle.local_run.specs.Ends.{FitsHere}
+use Rattle.wq_run.specs.Vain.{NeedsAtMost}
 use Rattle.master_run.specs.declared.needs.Excess.{Excess}
-use Rattle.master_run.specs.Needs.{exceeds, excess_among, excess_of, here_excess, rule_excess, runs_here, taken_here}
+use Rattle.master_run.specs.Needs.{NeedsFit, StatesAtMost, exceeds, excess_among, excess_of, here_excess, rule_excess, runs_here, taken_here}
 
 taken_so : (total : Amounts) (needs : Needs) → amounts_on 0 total needs ≡ taken_here needs
 taken_so total Whole = refl
@@ -39,24 +42,33 @@ first_none : {A : Type 0} (first rest : Option A) → or_else first rest ≡ Non
 first_none None rest none = (refl, none)
 first_none (Some x) rest none = some_is_none x none
 
--- where all rules run here, each is asked
-here_none : (O : Options) (r : ℕ) (rule : Rule) → O.wq ≡ false → here_excess O r rule ≡ None → rule_excess r (taken_here rule.needs) O.local ≡ None
-here_none O r rule alone none = sym (ap (λ (b : Bool). if b then rule_excess r (taken_here rule.needs) O.local else None) runs) ∙ none
-  where
-    by_local : (b : Bool) → (b || not false) ≡ true
-    by_local true = refl
-    by_local false = refl
+-- a rule that runs here is asked
+here_none : (O : Options) (r : ℕ) (rule : Rule) → runs_here O rule ≡ true → here_excess O r rule ≡ None → rule_excess r (taken_here rule.needs) O.local ≡ None
+here_none O r rule runs none = sym (ap (λ (b : Bool). if b then rule_excess r (taken_here rule.needs) O.local else None) runs) ∙ none
 
-    runs : runs_here O rule ≡ true
-    runs = ap (λ (b : Bool). rule.local || not b) alone ∙ by_local rule.local
-
-pub all_fit : (O : Options) (rules : List Rule) (first : ℕ) → O.wq ≡ false → excess_among O first rules ≡ None → (r : ℕ) → r < length rules
+pub all_fit : (O : Options) (rules : List Rule) (first : ℕ) → excess_among O first rules ≡ None → (r : ℕ) → r < length rules
+    → (option_map_or (λ (rule : Rule). rule.local) (slice_get rules r) false || not O.wq) ≡ true
     → is_at_most (amounts_on 0 O.local (option_map_or (λ (rule : Rule). rule.needs) (slice_get rules r) Whole)) O.local ≡ true
-all_fit O [] first alone none r inside = absurd (let wrong : ⊥ = omega (arith, inside) in wrong)
-all_fit O (rule ∷ rules) first alone none zero inside =
+all_fit O [] first none r inside runs = absurd (let wrong : ⊥ = omega (arith, inside) in wrong)
+all_fit O (rule ∷ rules) first none zero inside runs =
     let parts = first_none (excess_of O first rule) _ none in
     let needs = first_none (here_excess O first rule) _ parts.0 in
-    ap (λ (a : Amounts). is_at_most a O.local) (taken_so O.local rule.needs) ∙ within first (taken_here rule.needs) O.local (here_none O first rule alone needs.0)
-all_fit O (rule ∷ rules) first alone none (suc r) inside =
+    ap (λ (a : Amounts). is_at_most a O.local) (taken_so O.local rule.needs) ∙ within first (taken_here rule.needs) O.local (here_none O first rule runs needs.0)
+all_fit O (rule ∷ rules) first none (suc r) inside runs =
     let parts = first_none (excess_of O first rule) _ none in
-    all_fit O rules (first + 1) alone parts.1 r (omega (arith, inside))
+    all_fit O rules (first + 1) parts.1 r (omega (arith, inside)) runs
+
+-- Where all rules run here none needs more than there is.
+pub fits_here : (P : Plan) (O : Options) → NeedsFit O P → O.wq ≡ false → FitsHere P O
+fits_here P O fit alone = record {
+  here = alone;
+  needs = λ r inside. fit r inside (ap (λ (b : Bool). is_local_rule P r || not b) alone ∙ either (is_local_rule P r));
+}
+  where
+    either : (b : Bool) → (b || not false) ≡ true
+    either true = refl
+    either false = refl
+
+-- Over a hall that is manned for what rules state that run at workers, none needs more than there is.
+pub at_most : (P : Plan) (O : Options) (least : Amounts) → NeedsFit O P → StatesAtMost O least P → NeedsAtMost P O least
+at_most P O least fit stated = record { here = fit; there = stated }

@@ -16,3 +16,4 @@ pub mod Unread
 pub mod Unneeded
 pub mod TableBytes
 pub mod Waits
+pub mod Reaching

@@ -402,7 +402,7 @@ spared_run s r h P (Err (stopped.Halted halts.Site)) is = refl
 spared_run s r h P (Err (stopped.Halted halts.Memory)) is = refl
 spared_run s r h P (Err stopped.Hall) is = refl
 
-done_run : (s r h : Rise) (P : Plan) (most : Option ℕ) (how : Result Check Stopped) → IsDone most how → Completes most (run_cause s r h P how)
+pub done_run : (s r h : Rise) (P : Plan) (most : Option ℕ) (how : Result Check Stopped) → IsDone most how → Completes most (run_cause s r h P how)
 done_run s r h P most (Ok (check.Complete collected)) done = refl
 done_run s r h P most (Ok (check.CommandFailed rule why)) done = absurd done
 done_run s r h P most (Ok (check.InputsTooLarge rule total)) done = absurd done
@@ -489,7 +489,7 @@ run_cleans s r h P H files (Err (stopped.Halted halts.Site)) = tt
 run_cleans s r h P H files (Err (stopped.Halted halts.Memory)) = tt
 run_cleans s r h P H files (Err stopped.Hall) = tt
 
-none_refused : (o : Option StartFault) → option_map start_cause o ≡ None → o ≡ None
+pub none_refused : (o : Option StartFault) → option_map start_cause o ≡ None → o ≡ None
 none_refused None is = refl
 none_refused (Some why) is = absurd (cc)
 

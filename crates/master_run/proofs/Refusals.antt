@@ -34,7 +34,7 @@ absent wrong = absurd (true≢false (sym wrong))
 pub same_ask : (x y : Ask) → (let one : Result Ask Cause = Ok x in one ≡ Ok y) → x ≡ y
 same_ask x y is = cc
 
-no_ask : {A : Type 0} (cause : Cause) (ask : Ask) → (let one : Result Ask Cause = Err cause in one ≡ Ok ask) → A
+pub no_ask : {A : Type 0} (cause : Cause) (ask : Ask) → (let one : Result Ask Cause = Err cause in one ≡ Ok ask) → A
 no_ask cause ask wrong = absurd (cc)
 
 -- where something is asked for, only what cuts a call short refuses it

@@ -222,7 +222,7 @@ end_whole kinds.SiteBroke ends cut = true≢false (sym ends)
 end_whole kinds.NoMemory ends cut = true≢false (sym ends)
 end_whole _ ends cut = true≢false (sym cut)
 
-end_loses : (kind : Kind) → is_end kind ≡ true → may_lose kind ≡ false
+pub end_loses : (kind : Kind) → is_end kind ≡ true → may_lose kind ≡ false
 end_loses kinds.WrongFile ends = absurd (true≢false (sym ends))
 end_loses kinds.SiteBroke ends = absurd (true≢false (sym ends))
 end_loses kinds.RunnerBroke ends = absurd (true≢false (sym ends))

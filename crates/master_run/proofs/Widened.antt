@@ -21,7 +21,7 @@ use Rattle.master_run.specs.Serves.{Serves}
 use Rattle.master_run.proofs.Counted.{stands_before}
 
 -- who tells of more jobs tells of these
-tells_less : (P : Plan) (told wide : Job → Type 0) (contents : Contents) → ((job : Job) → wide job → told job) → TellsJobs P wide contents → TellsJobs P told contents
+pub tells_less : (P : Plan) (told wide : Job → Type 0) (contents : Contents) → ((job : Job) → wide job → told job) → TellsJobs P wide contents → TellsJobs P told contents
 tells_less P told wide contents each jobs r row at = each (job_of P row contents) (jobs r row at)
 
 -- a fault of one of the first is one of one of all

@@ -10,3 +10,4 @@ pub mod Vain
 pub mod Serves
 pub mod Stages
 pub mod Runs
+pub mod Reaching

@@ -1,5 +1,5 @@
 -- What rules need, against what there is on this machine and in its storage.
-use Rattle.std.specs.Prelude.{◌≡◌, ◌<◌, ◌||◌, Bool, true, not, length, ℕ, List, nat_lt, Option, Some, None, Result, Ok, Err, if◌then◌else◌}
+use Rattle.std.specs.Prelude.{◌≡◌, ◌<◌, ◌||◌, Bool, true, false, not, length, ℕ, List, nat_lt, Option, Some, None, Result, Ok, Err, if◌then◌else◌}
 use Rattle.std.specs.List.{enumerate_from}
 use Rattle.flow_types.specs.declared.numbers.Amounts.{Amounts}
 use Rattle.flow_types.specs.declared.numbers.Needs.{Needs}
@@ -7,8 +7,9 @@ use Rattle.flow_types.specs.declared.numbers.Needs.TheVariants.{Whole, Stated}
 use Rattle.flow_types.specs.declared.plan.Plan.{Plan}
 use Rattle.flow_types.specs.declared.plan.Rule.{Rule}
 use Rattle.rule_graph.specs.Faults.{first_said, or_else}
+use Rattle.links.specs.Honesty.{IsAtLeast}
 use Rattle.run_history.specs.declared.options.Options.{Options}
-use Rattle.run_history.specs.Links.{amounts_on, is_at_most, needs_of}
+use Rattle.run_history.specs.Links.{amounts_on, is_at_most, may_run_on, needs_of}
 use Rattle.report.specs.declared.cause.Cause.{Cause}
 use Rattle.report.specs.declared.cause.Cause.TheVariants.{NeedsTooMuch}
 use Rattle.master_run.specs.declared.needs.Excess.{Excess}
@@ -60,6 +61,10 @@ needs_checked P (Some over) = Err (NeedsTooMuch over.rule over.need over.total)
 abbrev pub with_needs : Options → Plan → Result Plan Cause
 with_needs O P = needs_checked P (excess_among O 0 P.rules)
 
--- No rule needs more of this machine than there is.
-abbrev pub NeedsFit : Amounts → Plan → Type 0
-NeedsFit total P = (r : ℕ) → r < length P.rules → is_at_most (amounts_on 0 total (needs_of P r)) total ≡ true
+-- No rule that runs on this machine needs more of it than there is.
+abbrev pub NeedsFit : Options → Plan → Type 0
+NeedsFit O P = (r : ℕ) → r < length P.rules → may_run_on P O r 0 ≡ true → is_at_most (amounts_on 0 O.local (needs_of P r)) O.local ≡ true
+
+-- What each rule states that runs at a worker is at most these amounts.
+abbrev pub StatesAtMost : Options → Amounts → Plan → Type 0
+StatesAtMost O least P = (r : ℕ) (amounts : Amounts) → r < length P.rules → may_run_on P O r 0 ≡ false → needs_of P r ≡ Stated amounts → IsAtLeast amounts least

@@ -1,11 +1,10 @@
 //! From the words and the flow file to what is asked for.
-ghost use Rattle.std.specs.Prelude.{◌≡◌, ◌≢◌, ◌≤◌, ◌<◌, ℕ, List, IfOk, IsErrOf, Ok, false};
+ghost use Rattle.std.specs.Prelude.{◌≡◌, ◌≢◌, ◌≤◌, ◌<◌, ℕ, List, IfOk, IsErrOf, Ok};
 ghost use Rattle.command_words.specs.declared.options.Options.{Options as OptionsValue};
 ghost use Rattle.flow_types.specs.Plans.{IsValid};
 ghost use Rattle.mf_rules.specs.Flow.{given_pairs};
 ghost use Rattle.outside.specs.Disk.{IsImage, LeavesOnly, Within};
 ghost use Rattle.file_store.specs.Outputs.{file_name};
-ghost use Rattle.local_run.specs.Ends.{FitsHere};
 ghost use Rattle.master_run.specs.Asked.{checked, choice, file_plan, generated_plan, plan_by};
 ghost use Rattle.master_run.specs.Asked.{has_workers, request, run_mode, run_options, workers_of};
 ghost use Rattle.master_run.specs.Needs.{NeedsFit, with_needs};
@@ -43,6 +42,7 @@ pub fn chosen(alloc: Global, words: &[String]) -> Result<Options, Refusal>
     ensures kind { SaysRefusal result }
     ensures no_site { IsErrOf result Refusal.Site → ⊥ }
     ensures some { IfOk result (λ options. 0 < options.service.jobs) }
+    ensures patient { IfOk result (λ options. 0 < options.limits.idle) }
 {
     match read_words(alloc, words) {
         Ok(options) => Ok(options),
@@ -58,7 +58,7 @@ fn with_needs(plan: Plan, options: &RunOptions) -> Result<Plan, Refusal>
     ensures flow { (name : List ℕ) → OfFlow name result }
     ensures kind { SaysRefusal result }
     ensures same { IfOk result (λ p. p ≡ plan) }
-    ensures fits { options.now.wq ≡ false → IfOk result (NeedsFit options.now.local) }
+    ensures fits { IfOk result (NeedsFit options.now) }
     ensures no_site { IsErrOf result Refusal.Site → ⊥ }
 {
     match least_excess(options, plan.rules.as_slice()) {
@@ -83,7 +83,7 @@ fn checked(
     ensures kind { SaysRefusal result }
     ensures valid { IfOk result IsValid }
     ensures apart { IfOk result (λ plan. (f : ℕ) → file_name plan f ≢ log.now) }
-    ensures fits { options.now.wq ≡ false → IfOk result (NeedsFit options.now.local) }
+    ensures fits { IfOk result (NeedsFit options.now) }
     ensures no_site { IsErrOf result Refusal.Site → ⊥ }
 {
     match with_log_name(alloc, log, flow, plan) {
@@ -109,7 +109,7 @@ fn file_plan<S: Site>(
     ensures kind { SaysRefusal result }
     ensures valid { IfOk result IsValid }
     ensures apart { IfOk result (λ plan. (f : ℕ) → file_name plan f ≢ log.now) }
-    ensures fits { options.now.wq ≡ false → IfOk result (NeedsFit options.now.local) }
+    ensures fits { IfOk result (NeedsFit options.now) }
     ensures files { S.tells → S.files site.new ≡ S.files site.old }
     ensures crash { S.tells → Within (S.may_leave site.old) (S.may_leave site.new) }
     ensures any_moment { S.tells → LeavesOnly S.moment S.images_since site.old site.new
@@ -143,7 +143,7 @@ fn generated_plan(
     ensures kind { SaysRefusal result }
     ensures valid { IfOk result IsValid }
     ensures apart { IfOk result (λ plan. (f : ℕ) → file_name plan f ≢ log.now) }
-    ensures fits { options.now.wq ≡ false → IfOk result (NeedsFit options.now.local) }
+    ensures fits { IfOk result (NeedsFit options.now) }
     ensures no_site { IsErrOf result Refusal.Site → ⊥ }
 {
     match generated_rules(alloc, rules) {
@@ -167,7 +167,7 @@ fn plan_by<S: Site>(
     ensures kind { SaysRefusal result }
     ensures valid { IfOk result IsValid }
     ensures apart { IfOk result (λ plan. (f : ℕ) → file_name plan f ≢ log.now) }
-    ensures fits { options.now.wq ≡ false → IfOk result (NeedsFit options.now.local) }
+    ensures fits { IfOk result (NeedsFit options.now) }
     ensures files { S.tells → S.files site.new ≡ S.files site.old }
     ensures crash { S.tells → Within (S.may_leave site.old) (S.may_leave site.new) }
     ensures any_moment { S.tells → LeavesOnly S.moment S.images_since site.old site.new
@@ -235,8 +235,7 @@ pub fn read_ask<S: Site>(
     ensures kind { SaysRefusal result }
     ensures valid { IfOk result (λ ask. IsValid ask.plan) }
     ensures apart { IfOk result (λ ask. (f : ℕ) → file_name ask.plan f ≢ ask.log) }
-    ensures fits { IfOk result (λ ask. ask.options.wq ≡ false
-        → FitsHere ask.plan ask.options) }
+    ensures fits { IfOk result (λ ask. NeedsFit ask.options ask.plan) }
     ensures goes_by { IfOk result (λ ask. (options : OptionsValue)
         → choice words.now ≡ Ok options → ask.options ≡ run_options options) }
     ensures meets { IfOk result (λ ask. (options : OptionsValue)
@@ -244,6 +243,7 @@ pub fn read_ask<S: Site>(
     ensures jobs { IfOk result (λ ask. (options : OptionsValue)
         → choice words.now ≡ Ok options → ask.jobs ≡ options.service.jobs) }
     ensures some { IfOk result (λ ask. 0 < ask.jobs) }
+    ensures patient { IfOk result (λ ask. 0 < ask.workers.limit) }
     ensures files { S.tells → S.files site.new ≡ S.files site.old }
     ensures crash { S.tells → Within (S.may_leave site.old) (S.may_leave site.new) }
     ensures any_moment { S.tells → LeavesOnly S.moment S.images_since site.old site.new

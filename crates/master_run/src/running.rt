@@ -1,6 +1,6 @@
 //! The run of a plan over its log.
 ghost use Rattle.std.specs.Prelude.{◌≡◌, ◌≢◌, ◌≤◌, ◌<◌, ◌-◌, ℕ, List, IfOk, IsFalse, IsTrue};
-ghost use Rattle.std.specs.Prelude.{drop, false, length, map, sum_by};
+ghost use Rattle.std.specs.Prelude.{drop, false, length, map, sum_by, true};
 ghost use Rattle.flow_types.specs.declared.records.Record.{Record as RecordValue};
 ghost use Rattle.flow_types.specs.Plans.{IsValid};
 ghost use Rattle.run_history.specs.Answers.{before_end};
@@ -8,7 +8,7 @@ ghost use Rattle.txn_log.specs.Spells.{Spells};
 ghost use Rattle.file_store.specs.Outputs.{file_name};
 ghost use Rattle.worker_pool.specs.Crews.{AllSure, AllTell};
 ghost use Rattle.local_run.specs.Collecting.{RunCollects};
-ghost use Rattle.local_run.specs.Ends.{FitsHere, OpensBy};
+ghost use Rattle.local_run.specs.Ends.{OpensBy};
 ghost use Rattle.command_words.specs.declared.options.Work.TheVariants.{Run};
 ghost use Rattle.report.specs.Causes.{kind_of, may_lose};
 ghost use Rattle.master_run.specs.Ends.{counts};
@@ -17,6 +17,8 @@ ghost use Rattle.wq_run.specs.Losses.{AreDueLosses};
 ghost use Rattle.wq_run.specs.Vain.{AreVain};
 ghost use Rattle.master_run.specs.Headline.{FailureEnd, IfWaited, LogsFailed, WaitsInVain};
 ghost use Rattle.master_run.specs.Headline.{is_run_end};
+ghost use Rattle.master_run.specs.Needs.{NeedsFit};
+ghost use Rattle.master_run.specs.Reaching.{AreSureLinks, GoesSurely, IsMannedFor};
 ghost use Rattle.master_run.specs.Serves.{IsCut, Serves};
 
 use crate::ask::Ask;
@@ -72,7 +74,8 @@ fn run_by_all<
     requires some { 0 < length runners.old }
     requires valid { IsValid ask.plan }
     requires apart { (f : ℕ) → file_name ask.plan f ≢ ask.log }
-    requires fits { ask.options.wq ≡ false → FitsHere ask.plan ask.options }
+    requires fits { NeedsFit ask.options ask.plan }
+    requires patient { 0 < ask.workers.limit }
     requires later { S.tells → B.born ≤ S.moment site }
     requires work { ask.work ≡ Run }
     requires counted { before ≤ S.count site }
@@ -102,6 +105,16 @@ fn run_by_all<
         → Spells G (S.files site ask.log) → IsFalse (may_lose (kind_of result.cause))
         → AreDueLosses F.gives F.may_fail H.Way.history H.Way.count H.Way.idle_count
         H.Way.is_closed ask.workers.limit (H.got hall.old) (H.got hall.new) G result.records }
+    ensures sure_links { S.tells → (G : List RecordValue) → Spells G (S.files site ask.log)
+        → ask.options.wq ≡ true → ask.work ≡ Run → AllSure R.sure runners.old
+        → AreSureLinks H.Way.tells (H.honest hall.old) (H.sure hall.old) H.Way.history
+        H.Way.count H.Way.idle_count H.Way.is_closed (H.got hall.old) (H.got hall.new)
+        (H.count hall.old) (H.count hall.new)
+        → GoesSurely F.gives (AllTell R.tells runners.old) (IsMannedFor (H.manned hall.old) ask)
+        ask (S.files site) (S.may_leave site) G
+        (counts before (map R.count runners.old) (H.count hall.old) (H.idle_count hall.old) 0)
+        (counts (S.count result.site) (map R.count runners.new) (H.count hall.new)
+        (H.idle_count hall.new) 0) result.records result.cause }
     ensures opened { IsTrue (is_run_end (kind_of result.cause))
         → OpensBy ask.options result.records }
     ensures collects { IsTrue (is_run_end (kind_of result.cause))
@@ -181,7 +194,8 @@ pub fn run_flow<
     requires some { (0 < length runners.old) × (0 < ask.jobs) }
     requires valid { IsValid ask.plan }
     requires apart { (f : ℕ) → file_name ask.plan f ≢ ask.log }
-    requires fits { ask.options.wq ≡ false → FitsHere ask.plan ask.options }
+    requires fits { NeedsFit ask.options ask.plan }
+    requires patient { 0 < ask.workers.limit }
     requires later { S.tells → B.born ≤ S.moment site }
     requires work { ask.work ≡ Run }
     requires counted { before ≤ S.count site }
@@ -212,6 +226,16 @@ pub fn run_flow<
         → Spells G (S.files site ask.log) → IsFalse (may_lose (kind_of result.cause))
         → AreDueLosses F.gives F.may_fail H.Way.history H.Way.count H.Way.idle_count
         H.Way.is_closed ask.workers.limit (H.got hall.old) (H.got hall.new) G result.records }
+    ensures sure_links { S.tells → (G : List RecordValue) → Spells G (S.files site ask.log)
+        → ask.options.wq ≡ true → ask.work ≡ Run → AllSure R.sure runners.old
+        → AreSureLinks H.Way.tells (H.honest hall.old) (H.sure hall.old) H.Way.history
+        H.Way.count H.Way.idle_count H.Way.is_closed (H.got hall.old) (H.got hall.new)
+        (H.count hall.old) (H.count hall.new)
+        → GoesSurely F.gives (AllTell R.tells runners.old) (IsMannedFor (H.manned hall.old) ask)
+        ask (S.files site) (S.may_leave site) G
+        (counts before (map R.count runners.old) (H.count hall.old) (H.idle_count hall.old) 0)
+        (counts (S.count result.site) (map R.count runners.new) (H.count hall.new)
+        (H.idle_count hall.new) 0) result.records result.cause }
     ensures opened { IsTrue (is_run_end (kind_of result.cause))
         → OpensBy ask.options result.records }
     ensures collects { IsTrue (is_run_end (kind_of result.cause))

@@ -13,8 +13,9 @@ ghost use Rattle.txn_log.specs.Spells.{Spells};
 ghost use Rattle.desk.specs.Kept.{IsLegal, Keeps, StaysBeside};
 ghost use Rattle.file_store.specs.Outputs.{file_name};
 ghost use Rattle.worker_pool.specs.Crews.{AllSure, AllTell};
+ghost use Rattle.command_words.specs.declared.options.Work.TheVariants.{Run};
 ghost use Rattle.local_run.specs.Collecting.{AreGone, CollectsBy, RunCollects};
-ghost use Rattle.local_run.specs.Ends.{FitsHere, OpensBy};
+ghost use Rattle.local_run.specs.Ends.{OpensBy};
 ghost use Rattle.local_run.specs.Course.{IsUnmade, TellsJobs};
 ghost use Rattle.local_run.specs.Moments.{IsMoment, IsResumable, KeepsSome};
 ghost use Rattle.local_run.specs.Runs.{Adds, BeginsWith, Held, LosesNone, SerialFits};
@@ -34,7 +35,9 @@ ghost use Rattle.master_run.specs.Headline.{CollectsSince, DropsUnneeded, Failur
 ghost use Rattle.master_run.specs.Headline.{IfWaited, IsCleanedBy, IsLegalEnd, IsLegalOr};
 ghost use Rattle.master_run.specs.Headline.{IsPlanOf, IsSpentBy, KeepsLimit, LogsFailed, OfLog};
 ghost use Rattle.master_run.specs.Headline.{WaitedBy, WaitsInVain, is_run_end, is_runner_fault};
+ghost use Rattle.master_run.specs.Needs.{NeedsFit};
 ghost use Rattle.master_run.specs.Prints.{Prints};
+ghost use Rattle.master_run.specs.Reaching.{AreSureLinks, GoesSurely, IsMannedFor};
 ghost use Rattle.master_run.specs.Serves.{CanComplete, IsCut, Serves};
 ghost use Rattle.master_run.specs.Vain.{VainBy};
 
@@ -105,7 +108,8 @@ fn serve<
     requires some { (0 < length runners.old) × (0 < ask.jobs) }
     requires valid { IsValid ask.plan }
     requires apart { (f : ℕ) → file_name ask.plan f ≢ ask.log }
-    requires fits { ask.options.wq ≡ false → FitsHere ask.plan ask.options }
+    requires fits { NeedsFit ask.options ask.plan }
+    requires patient { 0 < ask.workers.limit }
     requires later { S.tells → B.born ≤ S.moment site }
     requires counted { before ≤ S.count site }
     ensures serves { Serves S.tells S.files S.may_leave S.moment S.images_since B.born
@@ -134,6 +138,16 @@ fn serve<
         → Spells G (S.files site ask.log) → IsFalse (may_lose (kind_of result.cause))
         → AreDueLosses F.gives F.may_fail H.Way.history H.Way.count H.Way.idle_count
         H.Way.is_closed ask.workers.limit (H.got hall.old) (H.got hall.new) G result.records }
+    ensures sure_links { S.tells → (G : List RecordValue) → Spells G (S.files site ask.log)
+        → ask.options.wq ≡ true → ask.work ≡ Run → AllSure R.sure runners.old
+        → AreSureLinks H.Way.tells (H.honest hall.old) (H.sure hall.old) H.Way.history
+        H.Way.count H.Way.idle_count H.Way.is_closed (H.got hall.old) (H.got hall.new)
+        (H.count hall.old) (H.count hall.new)
+        → GoesSurely F.gives (AllTell R.tells runners.old) (IsMannedFor (H.manned hall.old) ask)
+        ask (S.files site) (S.may_leave site) G
+        (counts before (map R.count runners.old) (H.count hall.old) (H.idle_count hall.old) 0)
+        (counts (S.count result.site) (map R.count runners.new) (H.count hall.new)
+        (H.idle_count hall.new) 0) result.records result.cause }
     ensures opened { IsTrue (is_run_end (kind_of result.cause))
         → OpensBy ask.options result.records }
     ensures collects { IsTrue (is_run_end (kind_of result.cause))
@@ -230,6 +244,19 @@ fn follow<
         → IsFalse (may_lose (kind_of result.cause))
         → AreDueLosses F.gives F.may_fail H.Way.history H.Way.count H.Way.idle_count
         H.Way.is_closed options.limits.idle (H.got hall.old) (H.got hall.new) G result.records }
+    ensures sure_links { S.tells → (ask : AskValue)
+        → request words.now env.now (S.files site) ≡ Ok ask
+        → (G : List RecordValue) → Spells G (S.files site ask.log)
+        → ask.options.wq ≡ true → ask.work ≡ Run → AllSure R.sure runners.old
+        → AreSureLinks H.Way.tells (H.honest hall.old) (H.sure hall.old) H.Way.history
+        H.Way.count H.Way.idle_count H.Way.is_closed (H.got hall.old) (H.got hall.new)
+        (H.count hall.old) (H.count hall.new)
+        → GoesSurely F.gives (AllTell R.tells runners.old) (IsMannedFor (H.manned hall.old) ask)
+        ask (S.files site) (S.may_leave site) G
+        (counts (S.count site) (map R.count runners.old) (H.count hall.old)
+        (H.idle_count hall.old) 0)
+        (counts (S.count result.site) (map R.count runners.new) (H.count hall.new)
+        (H.idle_count hall.new) 0) result.records result.cause }
     ensures opened { (options : OptionsValue) → choice words.now ≡ Ok options
         → IsTrue (is_run_end (kind_of result.cause))
         → OpensBy (run_options options) result.records }
@@ -361,9 +388,9 @@ pub fn makeflow_top<
     ensures lost_away { S.tells → OfLog (request words.now env.now (S.files site)) (S.files site)
         (λ ask H. IsFalse (may_lose (kind_of result.cause)) → LosesOnLinks H result.records) }
 
-    // Where the hall's links tell their bytes, an attempt at a worker is given up otherwise only for
-    // a cause that a link shows which was handed back under the number of its own: it is ill, or
-    // over it came that the attempt wasn't run, or three times that inputs of it are missing.
+    // Where the hall's links tell their bytes, an attempt at a worker is given up otherwise only
+    // for a cause that a link shows which was handed back under the number of its own: it is ill,
+    // or over it came that the attempt wasn't run, or three times that inputs of it are missing.
     ensures due_losses { H.Way.tells → S.tells
         → (options : OptionsValue) → choice words.now ≡ Ok options
         → OfLog (request words.now env.now (S.files site)) (S.files site)
@@ -462,9 +489,9 @@ pub fn makeflow_top<
     ensures never { AllSure R.sure runners.old
         → IsFalse (is_runner_fault (kind_of result.cause)) }
 
-    // What can come to its end without workers does: over sure runners that tell, with nothing in
-    // its way, room in the log and no count rising, every rule is complete, or memory was wanting,
-    // or with a limit of the storage there was no room.
+    // How a call without workers ended that could be completed, over sure runners that tell, with
+    // nothing in its way, room in the log and no count rising: every rule is complete, or memory
+    // was wanting, or with a limit of the storage there was no room. That it returns isn't said.
     ensures completes { S.tells → OfLog (request words.now env.now (S.files site)) (S.files site)
         (λ ask began. CanComplete F.gives (AllTell R.tells runners.old) (AllSure R.sure runners.old)
         ask (S.files site) (S.may_leave site) began
@@ -472,6 +499,21 @@ pub fn makeflow_top<
         (H.idle_count hall.old) (O.count out.old))
         (counts (S.count result.site) (map R.count runners.new) (H.count hall.new)
         (H.idle_count hall.new) (O.count out.new)) result.cause) }
+
+    // The same of a call with workers, over a hall whose links are sure: there it may have waited
+    // in vain too, but not where the hall is manned for what the rules state. No attempt of such a
+    // call failed and none was given up, unless memory was wanting or a fault ended it.
+    ensures sure_links { S.tells → OfLog (request words.now env.now (S.files site)) (S.files site)
+        (λ ask began. ask.options.wq ≡ true → ask.work ≡ Run → AllSure R.sure runners.old
+        → AreSureLinks H.Way.tells (H.honest hall.old) (H.sure hall.old) H.Way.history
+        H.Way.count H.Way.idle_count H.Way.is_closed (H.got hall.old) (H.got hall.new)
+        (H.count hall.old) (H.count hall.new)
+        → GoesSurely F.gives (AllTell R.tells runners.old) (IsMannedFor (H.manned hall.old) ask)
+        ask (S.files site) (S.may_leave site) began
+        (counts (S.count site) (map R.count runners.old) (H.count hall.old)
+        (H.idle_count hall.old) (O.count out.old))
+        (counts (S.count result.site) (map R.count runners.new) (H.count hall.new)
+        (H.idle_count hall.new) (O.count out.new)) result.records result.cause) }
 
     // Of the runners only so many are used as the words say.
     ensures spare { (options : OptionsValue) → choice words.now ≡ Ok options

@@ -1,4 +1,4 @@
-use Rattle.std.proofs.Common.{◌≡◌, ◌<◌, ◌-◌, ◌∙◌, inl, ℕ, List, map, sum, sum_by, ap, sym, subst, refl, arith, false, true, true≢false}
+use Rattle.std.proofs.Common.{◌≡◌, ◌≤◌, ◌<◌, ◌-◌, ◌∙◌, inl, ℕ, List, None, map, sum, sum_by, ap, sym, subst, refl, arith, false, true, true≢false}
 use Rattle.flow_types.specs.declared.records.Record.{Record}
 use Rattle.run_history.specs.declared.answers.Wait.{Wait}
 use Rattle.run_history.specs.Answers.{before_end}
@@ -8,11 +8,14 @@ use Rattle.report.specs.declared.cause.Cause.{Cause}
 use Rattle.report.specs.declared.cause.Cause.TheVariants as causes
 use Rattle.report.specs.Causes.{is_cut, kind_of, may_lose}
 use Rattle.std.proofs.lemmas.List.Sums.{sum-map}
+use Rattle.local_run.specs.Ends.{run_fault}
 use Rattle.local_run.specs.Runs.{HasCauses}
 use Rattle.master_run.specs.declared.rises.Rise.{Rise}
-use Rattle.master_run.specs.Ends.{OneRose, counts}
+use Rattle.master_run.specs.Ends.{OneRose, counts, run_refusal}
 use Rattle.master_run.specs.Headline.{FailureEnd, IfWaited, WaitsInVain, is_run_end}
+use Rattle.master_run.specs.Reaching.{GoesSurely, IsFree, IsMannedFor}
 use Rattle.master_run.specs.Serves.{Serves}
+use Rattle.master_run.proofs.Reaching.{goes_memory, goes_ran, goes_unread}
 use Rattle.local_run.specs.Moments.{IsBefore}
 use Rattle.log_recover.specs.Recovery.{IsRecovering}
 use Rattle.master_run.specs.Runs.{run_cause, unread_cause}
@@ -21,7 +24,8 @@ use Rattle.wq_run.specs.Losses.{AreDueLosses}
 use Rattle.wq_run.specs.Vain.{AreVain}
 use Rattle.flow_run.proofs.Dues.{due_none}
 use Rattle.flow_run.proofs.Stops.{back_same}
-use Rattle.master_run.proofs.Ran.{closed_run, closed_starts, cut_run, failed_run, logged_run, loses_none, lost_run, over_run, ran_serves, run_faults, told_cause}
+use Rattle.master_run.proofs.Fitted.{at_most, fits_here}
+use Rattle.master_run.proofs.Ran.{closed_run, closed_starts, cut_run, failed_run, logged_run, loses_none, lost_run, none_refused, over_run, ran_serves, run_faults, told_cause}
 use Rattle.master_run.proofs.Waits.{unread_waits, vain_run, waited_run}
 use Rattle.master_run.proofs.Refusals.{by_fault}
 use Rattle.master_run.proofs.Counted.{hall_rise, site_rise}
@@ -59,7 +63,7 @@ returns-in-Ok-resume-clause-serves g c =
       same = c.in-Ok-resume.ensures.same;
       quiet = c.in-Ok-resume.ensures.quiet;
       starts = c.in-Ok-resume.ensures.starts;
-      closed = λ alone. c.in-Ok-resume.ensures.closed (c.requires.fits alone);
+      closed = λ alone. c.in-Ok-resume.ensures.closed (fits_here c.args.ask.plan c.args.ask.options c.requires.fits alone);
       ends = c.in-Ok-resume.ensures.ends;
       waited = c.in-Ok-resume.ensures.waited;
       met = λ is. (c.in-Ok-resume.ensures.hall is).0;
@@ -79,7 +83,7 @@ returns-in-Ok-resume-clause-serves g c =
       modes = c.in-Ok-resume.ensures.modes;
       places = c.in-Ok-resume.ensures.places;
       gone = c.in-Ok-resume.ensures.gone;
-      completes = λ alone t H spelled resumable jobs fit room none is le. c.in-Ok-resume.ensures.completes t H spelled resumable jobs (c.requires.fits alone) fit room none is le;
+      completes = λ alone t H spelled resumable jobs fit room none is le. c.in-Ok-resume.ensures.completes t H spelled resumable jobs (fits_here c.args.ask.plan c.args.ask.options c.requires.fits alone) fit room none is le;
     }))
 
 pub returns-clause-serves : goal.returns-clause-serves
@@ -101,7 +105,7 @@ returns-clause-failures g c alone =
 pub run_cause-requires-clause-ends : goal.run_cause-requires-clause-ends
 run_cause-requires-clause-ends g c =
     over_run c.args.ask.options.wq c.args.ask.plan c.args.ask.options c.args.ask.workers.limit (g.H.Hall.idle_count c.resume.new.hall - g.H.Hall.idle_count c.args.hall.now) c.args.ask.options.limit c.in-Ok-resume.ended.records c.in-Ok-resume.ended.how
-    (λ alone. c.in-Ok-resume.ensures.closed (c.requires.fits alone)) c.in-Ok-resume.ensures.waited
+    (λ alone. c.in-Ok-resume.ensures.closed (fits_here c.args.ask.plan c.args.ask.options c.requires.fits alone)) c.in-Ok-resume.ensures.waited
 
 pub returns-in_default-clause-back : goal.returns-in_default-clause-back
 returns-in_default-clause-back g c whole = absurd (whole refl)
@@ -122,7 +126,7 @@ returns-in-Ok-resume-clause-waited g c =
     c.run_cause.ensures ∙ told_cause c.args.before c.faults-after.result (g.S.Site.count c.in-Ok-resume.ended.site) c.faults-met.result (g.H.Hall.count c.args.hall.now) c.faults.result (g.H.Hall.count c.resume.new.hall) c.first_rise-runner.result c.in-Ok.copied c.args.ask.plan c.in-Ok-resume.ended.how c.faults-after.ensures c.faults-met.ensures c.faults.ensures c.in-Ok.ensures.0 in
     let rise = g.H.Hall.idle_count c.resume.new.hall - g.H.Hall.idle_count c.args.hall.now in
     subst (λ (cause : Cause). IfWaited cause (WaitsInVain c.args.ask.plan c.args.ask.options c.args.ask.workers.limit rise c.in-Ok-resume.ended.records)) (sym same)
-    (waited_run c.args.ask rise (site_rise (counts c.args.before (map g.R.Runner.count c.args.runners.now) (g.H.Hall.count c.args.hall.now) (g.H.Hall.idle_count c.args.hall.now) 0) (counts (g.S.Site.count c.in-Ok-resume.ended.site) (map g.R.Runner.count c.resume.new.runners) (g.H.Hall.count c.resume.new.hall) (g.H.Hall.idle_count c.resume.new.hall) 0)) c.first_rise-runner.result (hall_rise (counts c.args.before (map g.R.Runner.count c.args.runners.now) (g.H.Hall.count c.args.hall.now) (g.H.Hall.idle_count c.args.hall.now) 0) (counts (g.S.Site.count c.in-Ok-resume.ended.site) (map g.R.Runner.count c.resume.new.runners) (g.H.Hall.count c.resume.new.hall) (g.H.Hall.idle_count c.resume.new.hall) 0)) c.in-Ok-resume.ended.records c.in-Ok-resume.ended.how (λ alone. c.in-Ok-resume.ensures.closed (c.requires.fits alone)) c.in-Ok-resume.ensures.waited)
+    (waited_run c.args.ask rise (site_rise (counts c.args.before (map g.R.Runner.count c.args.runners.now) (g.H.Hall.count c.args.hall.now) (g.H.Hall.idle_count c.args.hall.now) 0) (counts (g.S.Site.count c.in-Ok-resume.ended.site) (map g.R.Runner.count c.resume.new.runners) (g.H.Hall.count c.resume.new.hall) (g.H.Hall.idle_count c.resume.new.hall) 0)) c.first_rise-runner.result (hall_rise (counts c.args.before (map g.R.Runner.count c.args.runners.now) (g.H.Hall.count c.args.hall.now) (g.H.Hall.idle_count c.args.hall.now) 0) (counts (g.S.Site.count c.in-Ok-resume.ended.site) (map g.R.Runner.count c.resume.new.runners) (g.H.Hall.count c.resume.new.hall) (g.H.Hall.idle_count c.resume.new.hall) 0)) c.in-Ok-resume.ended.records c.in-Ok-resume.ended.how (λ alone. c.in-Ok-resume.ensures.closed (fits_here c.args.ask.plan c.args.ask.options c.requires.fits alone)) c.in-Ok-resume.ensures.waited)
 
 pub returns-clause-waited : goal.returns-clause-waited
 returns-clause-waited g c =
@@ -137,7 +141,7 @@ returns-in-Ok-resume-clause-vain g c tells =
     let so : Type 0 = AreVain g.F.Commands.gives g.F.Commands.may_fail g.H.Way.Link.history g.H.Way.Link.count g.H.Way.Link.idle_count g.H.Way.Link.is_closed c.args.ask.workers.limit c.args.ask.plan c.args.ask.options (before_end ended.records) (g.H.Hall.got c.args.hall.now) (g.H.Hall.got c.resume.new.hall) in
     subst (λ (cause : Cause). IfWaited cause (λ wait. so)) (sym same)
     (vain_run so c.args.ask.options.wq c.args.ask.options.limit c.args.ask.plan (site_rise (counts c.args.before (map g.R.Runner.count c.args.runners.now) (g.H.Hall.count c.args.hall.now) (g.H.Hall.idle_count c.args.hall.now) 0) (counts (g.S.Site.count c.in-Ok-resume.ended.site) (map g.R.Runner.count c.resume.new.runners) (g.H.Hall.count c.resume.new.hall) (g.H.Hall.idle_count c.resume.new.hall) 0)) c.first_rise-runner.result (hall_rise (counts c.args.before (map g.R.Runner.count c.args.runners.now) (g.H.Hall.count c.args.hall.now) (g.H.Hall.idle_count c.args.hall.now) 0) (counts (g.S.Site.count c.in-Ok-resume.ended.site) (map g.R.Runner.count c.resume.new.runners) (g.H.Hall.count c.resume.new.hall) (g.H.Hall.idle_count c.resume.new.hall) 0)) ended.how
-    (λ alone. c.in-Ok-resume.ensures.closed (c.requires.fits alone)) (λ away. c.in-Ok-resume.ensures.vain away tells))
+    (λ alone. c.in-Ok-resume.ensures.closed (fits_here c.args.ask.plan c.args.ask.options c.requires.fits alone)) (λ away. c.in-Ok-resume.ensures.vain away tells))
 
 pub returns-clause-vain : goal.returns-clause-vain
 returns-clause-vain g c tells =
@@ -213,3 +217,32 @@ returns-clause-opened g c ends =
 pub returns-clause-collects : goal.returns-clause-collects
 returns-clause-collects g c ends =
     absurd (true≢false (sym (subst (λ (cause : Cause). is_run_end (kind_of cause) ≡ true) c.unread_cause.ensures ends) ∙ unread_ends (record { before = c.args.before; after = c.faults-after-in-Err.result }) c.in-Err.refused.why))
+
+pub returns-in-Ok-resume-clause-sure_links : goal.returns-in-Ok-resume-clause-sure_links
+returns-in-Ok-resume-clause-sure_links g c t H spelled wq work sure links =
+    let same : c.run_cause.result ≡ run_cause (site_rise (counts c.args.before (map g.R.Runner.count c.args.runners.now) (g.H.Hall.count c.args.hall.now) (g.H.Hall.idle_count c.args.hall.now) 0) (counts (g.S.Site.count c.in-Ok-resume.ended.site) (map g.R.Runner.count c.resume.new.runners) (g.H.Hall.count c.resume.new.hall) (g.H.Hall.idle_count c.resume.new.hall) 0)) c.first_rise-runner.result (hall_rise (counts c.args.before (map g.R.Runner.count c.args.runners.now) (g.H.Hall.count c.args.hall.now) (g.H.Hall.idle_count c.args.hall.now) 0) (counts (g.S.Site.count c.in-Ok-resume.ended.site) (map g.R.Runner.count c.resume.new.runners) (g.H.Hall.count c.resume.new.hall) (g.H.Hall.idle_count c.resume.new.hall) 0)) c.args.ask.plan c.in-Ok-resume.ended.how =
+    c.run_cause.ensures ∙ told_cause c.args.before c.faults-after.result (g.S.Site.count c.in-Ok-resume.ended.site) c.faults-met.result (g.H.Hall.count c.args.hall.now) c.faults.result (g.H.Hall.count c.resume.new.hall) c.first_rise-runner.result c.in-Ok.copied c.args.ask.plan c.in-Ok-resume.ended.how c.faults-after.ensures c.faults-met.ensures c.faults.ensures c.in-Ok.ensures.0 in
+    let ended = c.in-Ok-resume.ended in
+    let before = (counts c.args.before (map g.R.Runner.count c.args.runners.now) (g.H.Hall.count c.args.hall.now) (g.H.Hall.idle_count c.args.hall.now) 0) in
+    let after = (counts (g.S.Site.count c.in-Ok-resume.ended.site) (map g.R.Runner.count c.resume.new.runners) (g.H.Hall.count c.resume.new.hall) (g.H.Hall.idle_count c.resume.new.hall) 0) in
+    let stood : IsFree g.F.Commands.gives (AllTell g.R.Runner.tells c.args.runners.now) c.args.ask (g.S.Site.files c.args.site) (g.S.Site.may_leave c.args.site) H before after → g.S.Site.count ended.site ≤ g.S.Site.count c.args.site =
+    λ free. (let none = free.stood.site in let counted = c.requires.counted in omega (arith, none, counted)) in
+    let free_of : run_refusal c.args.ask.plan c.args.ask.options H (g.S.Site.files c.args.site) ≡ None → run_fault c.args.ask.plan c.args.ask.options H (g.S.Site.files c.args.site) ≡ None = none_refused (run_fault c.args.ask.plan c.args.ask.options H (g.S.Site.files c.args.site)) in
+    subst (λ (cause : Cause). GoesSurely g.F.Commands.gives (AllTell g.R.Runner.tells c.args.runners.now) (IsMannedFor (g.H.Hall.manned c.args.hall.now) c.args.ask) c.args.ask (g.S.Site.files c.args.site) (g.S.Site.may_leave c.args.site) H before after ended.records cause) (sym same)
+    (goes_ran g.F.Commands.gives (AllTell g.R.Runner.tells c.args.runners.now) (IsMannedFor (g.H.Hall.manned c.args.hall.now) c.args.ask) c.args.ask (g.S.Site.files c.args.site) (g.S.Site.may_leave c.args.site) H before after ended.records (site_rise before after) c.first_rise-runner.result (hall_rise before after) ended.how (c.in-Ok-resume.ensures.same t H spelled)
+    (c.in-Ok-resume.ensures.calm wq links.told links.surely sure links.few t H spelled)
+    (λ free. c.in-Ok-resume.ensures.reaches wq links.told links.honest links.surely sure links.few t H spelled free.resumable free.jobs free.fit free.room (free_of free.free) (stood free) links.stood)
+    (λ is free. c.in-Ok-resume.ensures.manned wq is.0 links.told links.honest links.surely is.1 sure links.few c.requires.patient (at_most c.args.ask.plan c.args.ask.options is.0 c.requires.fits is.2) t H spelled free.resumable free.jobs free.fit free.room (free_of free.free) (stood free) links.stood))
+
+pub returns-in_default-clause-sure_links : goal.returns-in_default-clause-sure_links
+returns-in_default-clause-sure_links g c t H spelled wq work sure links = goes_memory g.F.Commands.gives (AllTell g.R.Runner.tells c.args.runners.now) (IsMannedFor (g.H.Hall.manned c.args.hall.now) c.args.ask) c.args.ask (g.S.Site.files c.args.site) (g.S.Site.may_leave c.args.site) H _ _ _
+
+pub returns-clause-sure_links : goal.returns-clause-sure_links
+returns-clause-sure_links g c t H spelled wq work sure links =
+    let before = (counts c.args.before (map g.R.Runner.count c.args.runners.now) (g.H.Hall.count c.args.hall.now) (g.H.Hall.idle_count c.args.hall.now) 0) in
+    let after = (counts (g.S.Site.count c.in-Err.refused.site) (map g.R.Runner.count c.resume.new.runners) (g.H.Hall.count c.resume.new.hall) (g.H.Hall.idle_count c.resume.new.hall) 0) in
+    let same : c.unread_cause.result ≡ unread_cause (site_rise before after) c.in-Err.refused.why =
+    c.unread_cause.ensures ∙ ap (λ (n : ℕ). unread_cause (record { before = c.args.before; after = n }) c.in-Err.refused.why) c.faults-after-in-Err.ensures in
+    subst (λ (cause : Cause). GoesSurely g.F.Commands.gives (AllTell g.R.Runner.tells c.args.runners.now) (IsMannedFor (g.H.Hall.manned c.args.hall.now) c.args.ask) c.args.ask (g.S.Site.files c.args.site) (g.S.Site.may_leave c.args.site) H before after c.new-in-Err.result cause) (sym same)
+    (goes_unread g.F.Commands.gives (AllTell g.R.Runner.tells c.args.runners.now) (IsMannedFor (g.H.Hall.manned c.args.hall.now) c.args.ask) c.args.ask (g.S.Site.files c.args.site) (g.S.Site.may_leave c.args.site) H before after c.new-in-Err.result c.files_spell_one_list.ensures.header c.files_spell_one_list.ensures.whole (g.S.Site.files c.args.site c.args.ask.log) c.in-Err.refused.why spelled (c.in-Err.ensures.damaged t)
+    (λ is. omega (arith, c.requires.counted, c.in-Err.ensures.site is)))

@@ -24,7 +24,9 @@ use Rattle.master_run.specs.Runs.{refusal_cause}
 use Rattle.master_run.specs.Headline.{IfWaited, WaitsInVain}
 use Rattle.master_run.proofs.Waits.{local_ask, none_waits}
 use Rattle.master_run.specs.Ends.{CallEnds, FaultEnd, WordsEnd, counts}
+use Rattle.master_run.specs.Reaching.{GoesSurely, IsMannedFor}
 use Rattle.master_run.specs.Serves.{Serves}
+use Rattle.master_run.proofs.Reaching.{goes_from, goes_refused}
 use Rattle.master_run.proofs.Reading.{serves_from}
 use Rattle.master_run.proofs.Refusals.{late_words, refused_cuts, refused_ends, refused_fault, refused_kind, refused_serves, refused_words, same_ask}
 use Rattle.master_run.proofs.Works.{loses_cut}
@@ -208,3 +210,26 @@ returns-in-Err-clause-collects g c options chosen read =
 pub returns-in-Ok-clause-spare : goal.returns-in-Ok-clause-spare
 returns-in-Ok-clause-spare g c options chosen =
     subst (λ (n : ℕ). drop n c.serve.new.runners ≡ drop n c.args.runners.now) (c.in-Ok.ensures.jobs options chosen) c.serve.ensures.spare
+
+pub returns-in-Ok-clause-sure_links : goal.returns-in-Ok-clause-sure_links
+returns-in-Ok-clause-sure_links g c told ask asked H spelled wq work sure links =
+    let same : c.in-Ok.ask ≡ ask = same_ask c.in-Ok.ask ask (sym (c.in-Ok.ensures.stage told) ∙ asked) in
+    let at_ask : Spells H (g.S.Site.files c.args.site c.in-Ok.ask.log) = subst (λ (a : Ask). Spells H (g.S.Site.files c.args.site a.log)) (sym same) spelled in
+    let manned = g.H.Hall.manned c.args.hall.now in
+    let before = (counts (g.S.Site.count c.args.site) (map g.R.Runner.count c.args.runners.now) (g.H.Hall.count c.args.hall.now) (g.H.Hall.idle_count c.args.hall.now) 0) in
+    let after = (counts (g.S.Site.count c.serve.result.site) (map g.R.Runner.count c.serve.new.runners) (g.H.Hall.count c.serve.new.hall) (g.H.Hall.idle_count c.serve.new.hall) 0) in
+    let goes : GoesSurely g.F.Commands.gives (AllTell g.R.Runner.tells c.args.runners.now) (IsMannedFor manned c.in-Ok.ask) c.in-Ok.ask (g.S.Site.files c.read_ask.new.site) (g.S.Site.may_leave c.read_ask.new.site) H before after c.serve.result.records c.serve.result.cause =
+    subst (λ (n : ℕ). GoesSurely g.F.Commands.gives (AllTell g.R.Runner.tells c.args.runners.now) (IsMannedFor manned c.in-Ok.ask) c.in-Ok.ask (g.S.Site.files c.read_ask.new.site) (g.S.Site.may_leave c.read_ask.new.site) H (counts n (map g.R.Runner.count c.args.runners.now) (g.H.Hall.count c.args.hall.now) (g.H.Hall.idle_count c.args.hall.now) 0) after c.serve.result.records c.serve.result.cause) c.faults-before.ensures
+    (c.serve.ensures.sure_links told H (subst (λ (fs : Files). Spells H (fs c.in-Ok.ask.log)) (sym (c.in-Ok.ensures.files told)) at_ask) (ap (λ (a : Ask). a.options.wq) same ∙ wq) (ap (λ (a : Ask). a.work) same ∙ work) sure links) in
+    subst (λ (a : Ask). GoesSurely g.F.Commands.gives (AllTell g.R.Runner.tells c.args.runners.now) (IsMannedFor manned a) a (g.S.Site.files c.args.site) (g.S.Site.may_leave c.args.site) H before after c.serve.result.records c.serve.result.cause) same
+    (goes_from g.F.Commands.gives (AllTell g.R.Runner.tells c.args.runners.now) (IsMannedFor manned c.in-Ok.ask) c.in-Ok.ask (g.S.Site.files c.args.site) (g.S.Site.files c.read_ask.new.site) (g.S.Site.may_leave c.args.site) (g.S.Site.may_leave c.read_ask.new.site) H before after c.serve.result.records c.serve.result.cause
+    (c.in-Ok.ensures.files told) (c.in-Ok.ensures.crash told) goes)
+
+pub returns-in-Err-clause-sure_links : goal.returns-in-Err-clause-sure_links
+returns-in-Err-clause-sure_links g c told ask asked H spelled wq work sure links =
+    let manned = IsMannedFor (g.H.Hall.manned c.args.hall.now) ask in
+    subst (λ (n : ℕ). GoesSurely g.F.Commands.gives (AllTell g.R.Runner.tells c.args.runners.now) manned ask (g.S.Site.files c.args.site) (g.S.Site.may_leave c.args.site) H (counts n (map g.R.Runner.count c.args.runners.now) (g.H.Hall.count c.args.hall.now) (g.H.Hall.idle_count c.args.hall.now) 0) (counts (g.S.Site.count c.read_ask.new.site) (map g.R.Runner.count c.args.runners.now) (g.H.Hall.count c.args.hall.now) (g.H.Hall.idle_count c.args.hall.now) 0) c.new.result c.refusal_cause.result) c.faults-before.ensures
+    (subst (λ (n : ℕ). GoesSurely g.F.Commands.gives (AllTell g.R.Runner.tells c.args.runners.now) manned ask (g.S.Site.files c.args.site) (g.S.Site.may_leave c.args.site) H (counts c.faults-before.result (map g.R.Runner.count c.args.runners.now) (g.H.Hall.count c.args.hall.now) (g.H.Hall.idle_count c.args.hall.now) 0) (counts n (map g.R.Runner.count c.args.runners.now) (g.H.Hall.count c.args.hall.now) (g.H.Hall.idle_count c.args.hall.now) 0) c.new.result c.refusal_cause.result) c.faults-after.ensures
+    (subst (λ (cause : Cause). GoesSurely g.F.Commands.gives (AllTell g.R.Runner.tells c.args.runners.now) manned ask (g.S.Site.files c.args.site) (g.S.Site.may_leave c.args.site) H (counts c.faults-before.result (map g.R.Runner.count c.args.runners.now) (g.H.Hall.count c.args.hall.now) (g.H.Hall.idle_count c.args.hall.now) 0) (counts c.faults-after.result (map g.R.Runner.count c.args.runners.now) (g.H.Hall.count c.args.hall.now) (g.H.Hall.idle_count c.args.hall.now) 0) c.new.result cause) (sym c.refusal_cause.ensures)
+    (goes_refused g.F.Commands.gives (AllTell g.R.Runner.tells c.args.runners.now) manned ask (g.S.Site.files c.args.site) (g.S.Site.may_leave c.args.site) H (counts c.faults-before.result (map g.R.Runner.count c.args.runners.now) (g.H.Hall.count c.args.hall.now) (g.H.Hall.idle_count c.args.hall.now) 0) (counts c.faults-after.result (map g.R.Runner.count c.args.runners.now) (g.H.Hall.count c.args.hall.now) (g.H.Hall.idle_count c.args.hall.now) 0) c.new.result
+    c.in-Err.refusal (request c.args.words.now c.args.env.now (g.S.Site.files c.args.site)) (c.in-Err.ensures.stage told) asked (λ is. omega (arith, c.faults-before.ensures, c.faults-after.ensures, c.in-Err.ensures.trace.rose (ap (λ (r : Refusal). let answer : Result Ask Refusal = Err r in answer) is))))))

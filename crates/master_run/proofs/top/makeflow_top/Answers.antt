@@ -11,7 +11,9 @@ use Rattle.report.specs.Causes.{kind_of, was_read}
 use Rattle.master_run.specs.Prints.{Told, is_of_plan}
 use Rattle.master_run.specs.Asked.{choice, request, run_mode, run_options}
 use Rattle.master_run.specs.Headline.{IsPlanOf, IsWithinLimit, LogsFailed, WaitsInVain}
+use Rattle.master_run.specs.Reaching.{IsMannedFor}
 use Rattle.master_run.specs.Serves.{IsCut}
+use Rattle.master_run.proofs.Reaching.{goes_printed}
 use Rattle.master_run.proofs.Reading.{entry_before}
 use Rattle.rule_graph.specs.Spelling.{plan_digest}
 use Rattle.local_run.specs.Collecting.{RunCollects}
@@ -227,3 +229,11 @@ returns-clause-cleaned g c told ask asked H spelled =
 pub returns-clause-logged_failures : goal.returns-clause-logged_failures
 returns-clause-logged_failures g c told ask asked H spelled alone =
     after_cut (LogsFailed H c.follow-course.result.records (sum_by g.R.Runner.failures c.args.runners.now) (sum_by g.R.Runner.failures c.follow-course.new.runners)) (g.O.Sink.count c.args.out.now) (g.O.Sink.count c.tell-cause.new.out) c.follow-course.result.cause c.tell-cause.result (stands (g.O.Sink.count c.args.out.now) (g.O.Sink.count c.tell-cause.new.out) c.follow-course.result.cause c.tell-cause.result c.tell-cause.ensures.stands) (c.follow-course.ensures.failed told ask asked alone H spelled)
+
+pub returns-clause-sure_links : goal.returns-clause-sure_links
+returns-clause-sure_links g c told ask asked H spelled wq work sure links =
+    goes_printed g.F.Commands.gives (AllTell g.R.Runner.tells c.args.runners.now) (IsMannedFor (g.H.Hall.manned c.args.hall.now) ask) ask (g.S.Site.files c.args.site) (g.S.Site.may_leave c.args.site) H
+    (g.S.Site.count c.args.site) (map g.R.Runner.count c.args.runners.now) (g.H.Hall.count c.args.hall.now) (g.H.Hall.idle_count c.args.hall.now) (g.O.Sink.count c.args.out.now)
+    (g.S.Site.count c.follow-course.result.site) (map g.R.Runner.count c.follow-course.new.runners) (g.H.Hall.count c.follow-course.new.hall) (g.H.Hall.idle_count c.follow-course.new.hall) (g.O.Sink.count c.tell-cause.new.out)
+    c.follow-course.result.records c.follow-course.result.cause c.tell-cause.result (stands (g.O.Sink.count c.args.out.now) (g.O.Sink.count c.tell-cause.new.out) c.follow-course.result.cause c.tell-cause.result c.tell-cause.ensures.stands)
+    (c.follow-course.ensures.sure_links told ask asked H spelled wq work sure links)

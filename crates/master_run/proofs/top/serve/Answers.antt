@@ -1,8 +1,9 @@
-use Rattle.std.proofs.Common.{◌∙◌, ◌+◌, ◌-◌, ℕ, [], map, sum_by, refl, arith, ap, sym, true≢false}
+use Rattle.std.proofs.Common.{◌≡◌, ◌∙◌, ◌+◌, ◌-◌, ℕ, [], map, sum_by, refl, arith, ap, rules, sym, true≢false}
 use Rattle.flow_types.specs.declared.job.Job.{Job}
 use Rattle.run_history.specs.declared.answers.Wait.{Wait}
 use Rattle.run_history.specs.Answers.{before_end}
 use Rattle.worker_pool.specs.Crews.{AllSure, AllTell}
+use Rattle.command_words.specs.declared.options.Work.TheVariants as works
 use Rattle.master_run.specs.Ends.{counts}
 use Rattle.report.specs.Causes.{kind_of}
 use Rattle.wq_run.specs.Vain.{AreVain}
@@ -85,3 +86,13 @@ returns-in-Clean-clause-vain g c tells =
 pub returns-in-PrintLog-clause-vain : goal.returns-in-PrintLog-clause-vain
 returns-in-PrintLog-clause-vain g c tells =
     still_waits (λ (wait : Wait). AreVain g.F.Commands.gives g.F.Commands.may_fail g.H.Way.Link.history g.H.Way.Link.count g.H.Way.Link.idle_count g.H.Way.Link.is_closed c.args.ask.workers.limit c.args.ask.plan c.args.ask.options (before_end c.read_log.result.records) (g.H.Hall.got c.args.hall.now) (g.H.Hall.got c.args.hall.now)) c.read_log.result.cause c.read_log.ensures.runs_not
+
+pub returns-in-Clean-clause-sure_links : goal.returns-in-Clean-clause-sure_links
+returns-in-Clean-clause-sure_links g c t H spelled wq work sure links =
+    let is : c.args.ask.work ≡ works.Clean = search rules in
+    let wrong : works.Clean ≡ works.Run = sym is ∙ work in cc
+
+pub returns-in-PrintLog-clause-sure_links : goal.returns-in-PrintLog-clause-sure_links
+returns-in-PrintLog-clause-sure_links g c t H spelled wq work sure links =
+    let is : c.args.ask.work ≡ works.PrintLog = search rules in
+    let wrong : works.PrintLog ≡ works.Run = sym is ∙ work in cc
