@@ -52,6 +52,51 @@ SHAPES = {"wide": wide, "chain": chain, "two parents": two_parents}
 FIRST_SOURCE = {"wide": "s", "chain": "c0", "two parents": "s"}
 
 
+def stands_on():
+    """What crates.txt says that each crate stands on, by its name: the line's head, and the others' names."""
+    with open(f"{ROOT}/crates.txt") as it:
+        lines = [line.partition("#")[0].partition(":") for line in it]
+    return {name.split()[0]: (name, others.split()) for name, mark, others in lines if mark}
+
+
+def build(room, name, source, uses, proofs=None):
+    """A program of this source over these crates of the repository, proved and built in this folder, with copies of all
+    crates below it and of what was kept of their proofs. Its own proof files are by their places."""
+    known = stands_on()
+    wanted = list(uses)
+    for crate in wanted:
+        wanted += [it for it in known[crate][1] if it in known and it not in wanted]
+    own = f"{room}/crates/{name}"
+    for place, text in {"src/main.rt": source, **(proofs or {})}.items():
+        os.makedirs(os.path.dirname(f"{own}/{place}"), exist_ok=True)
+        with open(f"{own}/{place}", "w") as it:
+            it.write(text)
+    for crate in wanted:
+        shutil.copytree(f"{ROOT}/crates/{crate}", f"{room}/crates/{crate}", symlinks=True)
+    with open(f"{room}/crates.txt", "w") as it:
+        it.write(f"{name}: {' '.join(uses)}\n")
+        it.writelines(f"{known[crate][0]}: {' '.join(known[crate][1])}\n" for crate in wanted)
+    shutil.copy(f"{ROOT}/HANDLES", room)
+    done = subprocess.run(["rt", "run"], cwd=own, stdin=subprocess.DEVNULL, capture_output=True, text=True)
+    program = f"{own}/out/{name}"
+    if not os.access(program, os.X_OK):
+        raise SystemExit(f"{name} was not built:\n{done.stdout[-3_000:]}{done.stderr[-3_000:]}")
+    return program
+
+
+def plain(room, name):
+    """The C program of this name, built in this folder."""
+    subprocess.run(["gcc", "-O2", "-o", f"{room}/{name}", f"{ROOT}/bench/{name}.c"], check=True)
+    return f"{room}/{name}"
+
+
+def listens(port):
+    """Whether somebody listens at this port, as the system tells."""
+    with open("/proc/net/tcp") as it:
+        rows = [line.split() for line in list(it)[1:]]
+    return any(row[3] == "0A" and int(row[1].rsplit(":", 1)[1], 16) == port for row in rows)
+
+
 def own_seconds(process):
     """The processor time of a process that has ended, of all its threads, without that of its commands. The first thread's
     is told to the nanosecond, that of all in ticks."""
