@@ -31,14 +31,15 @@ run_begun {S} d H began =
     ∙ run_behind H began.1.0 began.1.1
 
 -- what was relied on over the records is so of the desk
-pub of_begun : {S : Type 0} (first : ℕ) (trust : Type 0) (gives : Function) (may_fail : Job → Failure → Type 0) (sources : Contents) (tells kept holds : Type 0) (plan : Plan) (run : ℕ) (due : Contents) (P : Plan) (O : Options) (log : List ℕ) (H : List Record) (d : DeskState S)
-    → IsBegun first P O log H may_fail (serial P gives sources) d → (trust → tells × kept) → IsRelied trust gives sources holds plan run due P H
-    → IsOf trust gives sources tells kept holds plan run due d.plan (records_of d.moves)
-of_begun {S} first trust gives may_fail sources tells kept holds plan run due P O log H d begun base relied = record {
+pub of_begun : {S : Type 0} (first : ℕ) (trust : Type 0) (gives : Function) (may_fail : Job → Failure → Type 0) (sources : Contents) (tells kept holds : Type 0) (plan : Plan) (options : Options) (run : ℕ) (due : Contents) (P : Plan) (O : Options) (log : List ℕ) (H : List Record) (d : DeskState S)
+    → IsBegun first P O log H may_fail (serial P gives sources) d → (trust → tells × kept) → IsRelied trust gives sources holds plan options run due P O H
+    → IsOf trust gives sources tells kept holds plan options run due d.plan d.options (records_of d.moves)
+of_begun {S} first trust gives may_fail sources tells kept holds plan options run due P O log H d begun base relied = record {
   relies = relied.relies;
   trusts = relied.trusts;
   base = base;
   plan_is = begun.plan ∙ relied.plan_is;
+  options_is = begun.options ∙ relied.options_is;
   run_is = run_begun d H begun.over ∙ relied.run_is;
   due_is = ap (λ (Q : Plan). serial Q gives sources) begun.plan ∙ relied.due_is;
 }

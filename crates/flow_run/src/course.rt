@@ -75,11 +75,11 @@ pub fn work<
     requires fresh { IsFresh desk.old.options.limit (records_of desk.old.moves) }
     requires idle { length (running_rules desk.old.plan (records_of desk.old.moves)) ≤ 0 }
     requires base { T.trust → S.tells × T.kept
-        × TellsJobs desk.old.plan (AllTell R.tells runners.old)
+        × TellsJobs desk.old.plan desk.old.options (AllTell R.tells runners.old)
         (serial desk.old.plan F.gives T.sources) }
-    requires of { IsOf T.trust F.gives T.sources S.tells T.kept T.holds T.plan T.run T.due
-        desk.old.plan (records_of desk.old.moves) }
-    requires told { T.trust → TellsJobs T.plan (AllTell R.tells runners.old) T.due }
+    requires of { IsOf T.trust F.gives T.sources S.tells T.kept T.holds T.plan T.options T.run T.due
+        desk.old.plan desk.old.options (records_of desk.old.moves) }
+    requires told { T.trust → TellsJobs T.plan T.options (AllTell R.tells runners.old) T.due }
     requires honest { T.trust → desk.old.options.wq ≡ true → H.honest hall.old }
     requires keen { (k : ℕ) → 0 < k → T.keen k → ⊥ }
     ensures goes { (links : List Move) × GoesOn T.trust F.gives F.may_fail T.sources S.tells

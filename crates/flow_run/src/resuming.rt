@@ -101,7 +101,7 @@ pub fn resume<
         → Spells H (S.files site «name»)
         → let sources = read_sources plan (S.files site) in
         IsResumable (SerialFits F.gives sources) plan «name» H (S.may_leave site)
-        → TellsJobs plan (AllTell R.tells runners.old) (serial plan F.gives sources)
+        → TellsJobs plan options (AllTell R.tells runners.old) (serial plan F.gives sources)
         → Adds (Unit {0}) F.gives F.may_fail sources plan H ended.records) }
     ensures causes { IfOk result (λ ended. HasCauses (S.count site) (S.count ended.site)
         (sum_by R.count runners.old) (sum_by R.count runners.new) ended.how) }
@@ -158,7 +158,7 @@ pub fn resume<
         → Spells H (S.files site «name»)
         → let sources = read_sources plan (S.files site) in
         IsResumable (SerialFits F.gives sources) plan «name» H (S.may_leave site)
-        → TellsJobs plan (AllTell R.tells runners.old) (serial plan F.gives sources)
+        → TellsJobs plan options (AllTell R.tells runners.old) (serial plan F.gives sources)
         → (image : Files) → S.images_since ended.site B.born image
         → S.images_since site B.born image
         ⊎ IsMoment (SerialFits F.gives sources) plan «name» (S.files site)
@@ -215,7 +215,7 @@ pub fn resume<
         → Spells H (S.files site «name»)
         → let sources = read_sources plan (S.files site) in
         IsResumable (SerialFits F.gives sources) plan «name» H (S.may_leave site)
-        → TellsJobs plan (AllTell R.tells runners.old) (serial plan F.gives sources)
+        → TellsJobs plan options (AllTell R.tells runners.old) (serial plan F.gives sources)
         → FitsHere plan options → SerialInputsFit plan F.gives sources
         → HasRecordRoom plan H → run_fault plan options H (S.files site) ≡ None
         → AllSure R.sure runners.old → S.count ended.site ≤ S.count site
@@ -226,7 +226,7 @@ pub fn resume<
         → S.tells → (G : List RecordValue) → Spells G (S.files site «name»)
         → let sources = read_sources plan (S.files site) in
         IsResumable (SerialFits F.gives sources) plan «name» G (S.may_leave site)
-        → TellsJobs plan (AllTell R.tells runners.old) (serial plan F.gives sources)
+        → TellsJobs plan options (AllTell R.tells runners.old) (serial plan F.gives sources)
         → SerialInputsFit plan F.gives sources
         → HasRecordRoom plan G → run_fault plan options G (S.files site) ≡ None
         → S.count ended.site ≤ S.count site → H.count hall.new ≤ H.count hall.old
@@ -239,7 +239,7 @@ pub fn resume<
         → S.tells → (G : List RecordValue) → Spells G (S.files site «name»)
         → let sources = read_sources plan (S.files site) in
         IsResumable (SerialFits F.gives sources) plan «name» G (S.may_leave site)
-        → TellsJobs plan (AllTell R.tells runners.old) (serial plan F.gives sources)
+        → TellsJobs plan options (AllTell R.tells runners.old) (serial plan F.gives sources)
         → SerialInputsFit plan F.gives sources
         → HasRecordRoom plan G → run_fault plan options G (S.files site) ≡ None
         → S.count ended.site ≤ S.count site → H.count hall.new ≤ H.count hall.old

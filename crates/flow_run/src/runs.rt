@@ -84,10 +84,11 @@ fn run_desk<
     requires fresh { IsFresh desk.options.limit (records_of desk.moves) }
     requires idle { length (running_rules desk.plan (records_of desk.moves)) ≤ 0 }
     requires base { T.trust → S.tells × T.kept
-        × TellsJobs desk.plan (AllTell R.tells runners.old) (serial desk.plan F.gives T.sources) }
-    requires of { IsOf T.trust F.gives T.sources S.tells T.kept T.holds T.plan T.run T.due
-        desk.plan (records_of desk.moves) }
-    requires told { T.trust → TellsJobs T.plan (AllTell R.tells runners.old) T.due }
+        × TellsJobs desk.plan desk.options (AllTell R.tells runners.old)
+        (serial desk.plan F.gives T.sources) }
+    requires of { IsOf T.trust F.gives T.sources S.tells T.kept T.holds T.plan T.options T.run T.due
+        desk.plan desk.options (records_of desk.moves) }
+    requires told { T.trust → TellsJobs T.plan T.options (AllTell R.tells runners.old) T.due }
     requires honest { T.trust → desk.options.wq ≡ true → H.honest hall.old }
     requires keen { (k : ℕ) → 0 < k → T.keen k → ⊥ }
     ensures more { Adds T.trust F.gives F.may_fail T.sources desk.plan (records_of desk.moves)
@@ -227,8 +228,9 @@ fn run_by<
     requires sources { S.tells → T.kept → T.trust → is_empty (part history) ≡ true
         → (f : ℕ) → is_source plan f ≡ true → S.files site (file_name plan f) ≡ T.sources f }
     requires base { T.trust → S.tells × T.kept
-        × TellsJobs plan (AllTell R.tells runners.old) (serial plan F.gives T.sources) }
-    requires relied { IsRelied T.trust F.gives T.sources T.holds T.plan T.run T.due plan history }
+        × TellsJobs plan options (AllTell R.tells runners.old) (serial plan F.gives T.sources) }
+    requires relied { IsRelied T.trust F.gives T.sources T.holds T.plan T.options T.run T.due
+        plan options history }
     requires honest { T.trust → options.wq ≡ true → H.honest hall.old }
     requires keen { (k : ℕ) → 0 < k → T.keen k → ⊥ }
     ensures more { Adds T.trust F.gives F.may_fail T.sources plan history result.records }
@@ -403,14 +405,14 @@ pub fn run<
     ensures serial { (options.wq ≡ true → H.honest hall.old) → S.tells
         → let sources = read_sources plan (S.files site) in
         IsStanding F.gives sources plan log.name history (S.may_leave site)
-        → TellsJobs plan (AllTell R.tells runners.old) (serial plan F.gives sources)
+        → TellsJobs plan options (AllTell R.tells runners.old) (serial plan F.gives sources)
         → (image : Files) → S.images_since result.site B.born image
         → S.images_since site B.born image ⊎ WasKept (SerialFits F.gives sources) plan log.name
         (length history) result.records (IsCutRun result.how) image }
     ensures more { (options.wq ≡ true → H.honest hall.old) → S.tells
         → let sources = read_sources plan (S.files site) in
         IsStanding F.gives sources plan log.name history (S.may_leave site)
-        → TellsJobs plan (AllTell R.tells runners.old) (serial plan F.gives sources)
+        → TellsJobs plan options (AllTell R.tells runners.old) (serial plan F.gives sources)
         → Adds (Unit {0}) F.gives F.may_fail sources plan history result.records }
     ensures starts { S.tells
         → StartEnds (run_fault plan options history (S.files site)) result.how }
@@ -447,7 +449,7 @@ pub fn run<
     ensures completes { S.tells
         → let sources = read_sources plan (S.files site) in
         IsStanding F.gives sources plan log.name history (S.may_leave site)
-        → TellsJobs plan (AllTell R.tells runners.old) (serial plan F.gives sources)
+        → TellsJobs plan options (AllTell R.tells runners.old) (serial plan F.gives sources)
         → FitsHere plan options → SerialInputsFit plan F.gives sources
         → HasRecordRoom plan history → run_fault plan options history (S.files site) ≡ None
         → AllSure R.sure runners.old → S.count result.site ≤ S.count site
@@ -457,7 +459,7 @@ pub fn run<
         H.Way.idle_count H.Way.is_closed (H.got hall.old) (H.got hall.new) → S.tells
         → let sources = read_sources plan (S.files site) in
         IsStanding F.gives sources plan log.name history (S.may_leave site)
-        → TellsJobs plan (AllTell R.tells runners.old) (serial plan F.gives sources)
+        → TellsJobs plan options (AllTell R.tells runners.old) (serial plan F.gives sources)
         → SerialInputsFit plan F.gives sources
         → HasRecordRoom plan history → run_fault plan options history (S.files site) ≡ None
         → S.count result.site ≤ S.count site → H.count hall.new ≤ H.count hall.old
@@ -469,7 +471,7 @@ pub fn run<
         → NeedsAtMost plan options least → S.tells
         → let sources = read_sources plan (S.files site) in
         IsStanding F.gives sources plan log.name history (S.may_leave site)
-        → TellsJobs plan (AllTell R.tells runners.old) (serial plan F.gives sources)
+        → TellsJobs plan options (AllTell R.tells runners.old) (serial plan F.gives sources)
         → SerialInputsFit plan F.gives sources
         → HasRecordRoom plan history → run_fault plan options history (S.files site) ≡ None
         → S.count result.site ≤ S.count site → H.count hall.new ≤ H.count hall.old

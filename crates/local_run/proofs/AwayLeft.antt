@@ -12,6 +12,7 @@ use Rattle.flow_types.specs.declared.numbers.AttemptNo.{AttemptNo}
 use Rattle.flow_types.specs.declared.records.Record.{Record}
 use Rattle.flow_types.specs.Plans.{is_empty, rule_numbers}
 use Rattle.flow_types.specs.Serial.{Contents}
+use Rattle.run_history.specs.declared.options.Options.{Options}
 use Rattle.run_history.specs.declared.moves.Move.{Move}
 use Rattle.run_history.specs.Links.{records_of, running_on, runs_on}
 use Rattle.run_history.specs.States.{Place, running_in}
@@ -82,15 +83,15 @@ module _ (P : Plan) (fine : Type 0) (M : List Move) (k : ℕ) where
   fewer_held a held [] h = tt
   fewer_held a held (b ∷ away) h = (h.0, h.1.1, h.2, h.3, fewer_held a held away h.4)
 
-  crowd : (trust : Type 0) (contents : Contents) (held : List Attempt) (waiting : List Start) (away : List Attempt) → 0 < k → Matches P fine (records_of M) trust contents held waiting → AreHere held → AreAway P fine M held None away → NoneOn k away
+  crowd : (Q : Plan) (O : Options) (trust : Type 0) (contents : Contents) (held : List Attempt) (waiting : List Start) (away : List Attempt) → 0 < k → Matches P fine (records_of M) trust contents held waiting → AreHere Q O held → AreAway P fine M held None away → NoneOn k away
       → IsCrowd P fine (records_of M) k (held ++ away)
-  crowd trust contents [] waiting away some m here h on = away_crowd [] away h on
-  crowd trust contents (a ∷ held) [] away some m here h on = absurd m
-  crowd trust contents (a ∷ held) (start ∷ starts) away some m here h on = (
+  crowd Q O trust contents [] waiting away some m here h on = away_crowd [] away h on
+  crowd Q O trust contents (a ∷ held) [] away some m here h on = absurd m
+  crowd Q O trust contents (a ∷ held) (start ∷ starts) away some m here h on = (
     m.0,
     (λ same. let at = here.0 in let wrong : ⊥ = omega (arith, some, same, at) in wrong),
     none_both a.number held away m.1 (other_away a held away h),
-    crowd trust contents held starts away some m.4 here.1 (fewer_held a held away h) on,
+    crowd Q O trust contents held starts away some m.4 here.2 (fewer_held a held away h) on,
   )
 
 abbrev rules_at : List Attempt → List ℕ
@@ -170,8 +171,8 @@ fine_crowd P fine H k [] works h = tt
 fine_crowd P fine H k (a ∷ attempts) works h = (record { rule = h.0.rule; runs = λ any. h.0.runs works }, h.1, h.2, fine_crowd P fine H k attempts works h.3)
 
 -- Where a run has no attempt on this link none runs there.
-pub none_there : (P : Plan) (fine : Type 0) (M : List Move) (trust : Type 0) (contents : Contents) (held : List Attempt) (waiting : List Start) (away : List Attempt) (k : ℕ) → fine → 0 < k → Matches P fine (records_of M) trust contents held waiting
-    → AreHere held → AreAway P fine M held None away → NoneOn k away → length (running_rules P (records_of M)) ≤ length held + length away → is_empty (running_on P (records_of M) k) ≡ true
-none_there P fine M trust contents held waiting away k works some m here h on few =
-    idle_by P (records_of M) k (held ++ away) (fine_crowd P fine (records_of M) k (held ++ away) works (crowd P fine M k trust contents held waiting away some m here h on))
+pub none_there : (Q : Plan) (O : Options) (P : Plan) (fine : Type 0) (M : List Move) (trust : Type 0) (contents : Contents) (held : List Attempt) (waiting : List Start) (away : List Attempt) (k : ℕ) → fine → 0 < k → Matches P fine (records_of M) trust contents held waiting
+    → AreHere Q O held → AreAway P fine M held None away → NoneOn k away → length (running_rules P (records_of M)) ≤ length held + length away → is_empty (running_on P (records_of M) k) ≡ true
+none_there Q O P fine M trust contents held waiting away k works some m here h on few =
+    idle_by P (records_of M) k (held ++ away) (fine_crowd P fine (records_of M) k (held ++ away) works (crowd P fine M k Q O trust contents held waiting away some m here h on))
     (let long = length-append held away in omega (arith, few, long))

@@ -1,6 +1,6 @@
 -- What a claim makes of a run.
-use Rattle.std.proofs.Common.{◌≡◌, ◌≤◌, ◌<◌, ◌+◌, ◌∙◌, ℕ, Bool, true, false, List, [], ◌∷◌, ◌++◌, length, Option, Some, None, Ok, refl, sym, ap, subst, arith}
-use Rattle.std.specs.Prelude.{is_some}
+use Rattle.std.proofs.Common.{◌≡◌, ◌≤◌, ◌<◌, ◌+◌, ◌∙◌, ◌&&◌, ℕ, Bool, true, false, List, [], ◌∷◌, ◌++◌, length, Option, Some, None, Ok, refl, sym, ap, subst, arith}
+use Rattle.std.specs.Prelude.{is_none, is_some}
 use Rattle.std.specs.List.{list_all}
 use Rattle.std.proofs.lemmas.Bool.{and_parts}
 use Rattle.flow_types.specs.declared.plan.Plan.{Plan}
@@ -20,8 +20,8 @@ use Rattle.run_history.specs.declared.moves.Move.{Move}
 use Rattle.run_history.specs.declared.options.Options.{Options}
 use Rattle.run_history.specs.Answers.{claim_of, has_ended}
 use Rattle.run_history.specs.History.{next_attempt, part}
-use Rattle.run_history.specs.Links.{is_live, records_of}
-use Rattle.run_history.specs.Storage.{is_present, running_rules, size_in}
+use Rattle.run_history.specs.Links.{fits, is_live, may_run_on, records_of}
+use Rattle.run_history.specs.Storage.{is_present, running_rules, size_in, wanted}
 use Rattle.run_history.specs.declared.states.FileState.{FileState}
 use Rattle.run_history.proofs.Allowed.{Starts, starts}
 use Rattle.run_history.proofs.Claims.{claim-follows}
@@ -54,13 +54,24 @@ may_start : (P : Plan) (O : Options) (M : List Move) (stop : Option Stop) (r : R
 may_start P O M stop r moment link opened lives chosen =
     starts P (plan_digest P) (records_of M) moment r (record { 0 = next_attempt (records_of M) }) link (and_parts _ _ (claim-follows P (plan_digest P) O M stop r moment link opened lives chosen)).0
 
+-- the rule that a claim for this link answers may run there
+may_place : (P : Plan) (O : Options) (M : List Move) (stop : Option Stop) (r : RuleNo) (moment : ℕ) (link : LinkNo) → is_empty (part (records_of M)) ≡ false → is_live O M link.0 ≡ true
+    → claim_of P O M stop link.0 ≡ Ok r.0 → may_run_on P O r.0 link.0 ≡ true
+may_place P O M stop r moment link opened lives chosen =
+    let served = (and_parts _ _ (claim-follows P (plan_digest P) O M stop r moment link opened lives chosen)).1 in
+    let fitting = (and_parts (is_live O M link.0 && may_run_on P O r.0 link.0 && fits P O M r.0 link.0) (is_none (wanted P O.mode (records_of M))) served).0 in
+    let live = (and_parts (is_live O M link.0 && may_run_on P O r.0 link.0) (fits P O M r.0 link.0) fitting).0 in
+    (and_parts (is_live O M link.0) (may_run_on P O r.0 link.0) live).1
+
 -- What is known of the rule that a claim started, and of what ran before it.
 pub record IsBegun {S : Type 0} (d after : DeskState S) (attempt : Attempt) : Type 0 where
   pub fine : IsFine d.trouble
   pub works : IsFine after.trouble
   pub stop : after.stop ≡ d.stop
   pub plan : after.plan ≡ d.plan
+  pub options : after.options ≡ d.options
   pub inside : attempt.rule.0 < length d.plan.rules
+  pub placed : may_run_on d.plan d.options attempt.rule.0 attempt.link.0 ≡ true
   pub present : list_all (is_present after.plan (records_of after.moves)) (takes after.plan attempt.rule.0) ≡ true
   pub runs : runs_with (records_of after.moves) attempt.rule.0 attempt.number.0 attempt.link.0 ≡ true
   pub beside : (q number link : ℕ) → runs_with (records_of d.moves) q number link ≡ true → runs_with (records_of after.moves) q number link ≡ true
@@ -83,7 +94,9 @@ begun {S} count d after attempt link time opened legal lives h =
       works = subst IsFine (sym (ap (λ (a : DeskState S). a.trouble) h.2.5)) h.0;
       stop = ap (λ (a : DeskState S). a.stop) h.2.5;
       plan = taken_plan count d after attempt link time h;
+      options = ap (λ (a : DeskState S). a.options) h.2.5;
       inside = h.2.3;
+      placed = subst (λ (l : LinkNo). may_run_on d.plan d.options attempt.rule.0 l.0 ≡ true) (sym h.2.2) (may_place d.plan d.options d.moves d.stop attempt.rule time link opened lives h.1);
       present = subst (λ (P : Plan). list_all (is_present P (records_of after.moves)) (takes P attempt.rule.0) ≡ true) (sym (taken_plan count d after attempt link time h))
           (subst (λ (G : List Record). list_all (is_present d.plan G) (takes d.plan attempt.rule.0) ≡ true) (sym are)
           (ap (λ (p : ℕ → Bool). list_all p (takes d.plan attempt.rule.0))

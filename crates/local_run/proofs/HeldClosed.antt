@@ -13,7 +13,8 @@ use Rattle.flow_types.specs.declared.records.Record.{Record}
 use Rattle.flow_types.specs.Plans.{IsValid, makes}
 use Rattle.flow_types.specs.Serial.{Contents, Function, job_of, serial}
 use Rattle.run_history.specs.Legal.{is_failure_at}
-use Rattle.run_history.specs.Links.{records_of}
+use Rattle.run_history.specs.declared.options.Options.{Options}
+use Rattle.run_history.specs.Links.{may_run_on, records_of}
 use Rattle.run_history.specs.Storage.{running_rules}
 use Rattle.outside.specs.Disk.{Outcomes}
 use Rattle.outside.specs.Files.{Files}
@@ -41,9 +42,14 @@ pub none_less : (number : AttemptNo) (front : List Attempt) (a : Attempt) (back 
 none_less number [] a back none = none.1
 none_less number (f ∷ fs) a back none = (none.0, none_less number fs a back none.1)
 
-here_without : (front : List Attempt) (a : Attempt) (back : List Attempt) → AreHere (front ++ (a ∷ back)) → AreHere (front ++ back)
-here_without [] a back here = here.1
-here_without (f ∷ fs) a back here = (here.0, here_without fs a back here.1)
+here_without : (P : Plan) (O : Options) (front : List Attempt) (a : Attempt) (back : List Attempt) → AreHere P O (front ++ (a ∷ back)) → AreHere P O (front ++ back)
+here_without P O [] a back here = here.2
+here_without P O (f ∷ fs) a back here = (here.0, here.1, here_without P O fs a back here.2)
+
+-- the rule of each of them may run here
+may_here : (P : Plan) (O : Options) (front : List Attempt) (a : Attempt) (back : List Attempt) → AreHere P O (front ++ (a ∷ back)) → may_run_on P O a.rule.0 0 ≡ true
+may_here P O [] a back here = here.1
+may_here P O (f ∷ fs) a back here = may_here P O fs a back here.2
 
 none_held : (number : AttemptNo) (attempts : List Attempt) → NoneHas number attempts → IsHeld number attempts → ⊥
 none_held number attempts none held = none_at number held.0 held.1 held.2 (subst (NoneHas number) held.3 none) held.4
@@ -96,6 +102,14 @@ module _ {S : Type 0} (trust : Type 0) (gives : Function) (may_fail : Job → Fa
       (subst (λ (l : List Attempt). Matches d.plan (IsFine d.trouble) (records_of d.moves) trust (serial d.plan gives sources) l (before ++ (start ∷ after))) are
       (subst (λ (l : List Start). Matches d.plan (IsFine d.trouble) (records_of d.moves) trust (serial d.plan gives sources) attempts l) wait u.matches))
 
+  -- its rule may run here
+  pub taken_may : (first d : DeskState S) (attempts : List Attempt) (waiting : List Start) (loose : Option Attempt) (heard : Tally) (halt : Option Halt) (front : List Attempt) (a : Attempt) (back : List Attempt)
+      → attempts ≡ front ++ (a ∷ back) → Holds first d attempts waiting loose heard halt → may_run_on d.plan d.options a.rule.0 0 ≡ true
+  taken_may first d attempts waiting loose heard halt front a back are u =
+      subst (λ (P : Plan). may_run_on P d.options a.rule.0 0 ≡ true) (sym u.goes.plan)
+      (subst (λ (O : Options). may_run_on first.plan O a.rule.0 0 ≡ true) (sym u.goes.options)
+      (may_here first.plan first.options front a back (subst (AreHere first.plan first.options) are u.here)))
+
   -- One attempt and its start are taken out.
   pub taken_out : (first d : DeskState S) (attempts : List Attempt) (waiting : List Start) (heard : Tally) (halt : Option Halt) (front : List Attempt) (a : Attempt) (back : List Attempt) (before : List Start) (start : Start) (after : List Start)
       → attempts ≡ front ++ (a ∷ back) → waiting ≡ before ++ (start ∷ after) → a.number ≡ start.attempt → Holds first d attempts waiting None heard halt
@@ -108,7 +122,7 @@ module _ {S : Type 0} (trust : Type 0) (gives : Function) (may_fail : Job → Fa
         goes = u.goes;
         matches = is.rest;
         taken = (is.runs, is.alone);
-        here = here_without front a back (subst AreHere are u.here);
+        here = here_without first.plan first.options front a back (subst (AreHere first.plan first.options) are u.here);
         beyond = away_on d.plan (IsFine d.trouble) (IsFine d.trouble) d.moves d.moves attempts (front ++ back) None (Some a) away.attempts
             (λ b at unheld other. let none : NoneHas b.number (front ++ (a ∷ back)) = subst (NoneHas b.number) are unheld in (at, none_less b.number front a back none, none_at b.number front a back none)) u.beyond;
         all = λ fine. let few : length (running_rules d.plan (records_of d.moves)) ≤ length attempts + 0 + length away.attempts = u.all fine in omega (arith, few, one);
@@ -160,11 +174,11 @@ module _ {S : Type 0} (trust : Type 0) (gives : Function) (may_fail : Job → Fa
 -- ---- what a report tells
 
 -- An outcome that fits a job of the rule is one of the rule.
-pub outcome_at : (P : Plan) (gives : Function) (may_fail : Job → Failure → Type 0) (sources : Contents) (trust : Type 0) (fits : Job → Outcome → Type 0) (rule : ℕ) (job : Job) (outcome : Outcome) → IsJobAt P trust (serial P gives sources) rule job
-    → fits job outcome → IsShapedPool fits → (trust → TellsJobs P (ToldOf gives may_fail fits) (serial P gives sources)) → IsOutcomeAt P trust gives may_fail sources rule outcome
-outcome_at P gives may_fail sources trust fits rule job outcome at fit shaped told = record {
+pub outcome_at : (P : Plan) (O : Options) (gives : Function) (may_fail : Job → Failure → Type 0) (sources : Contents) (trust : Type 0) (fits : Job → Outcome → Type 0) (rule : ℕ) (job : Job) (outcome : Outcome) → IsJobAt P trust (serial P gives sources) rule job
+    → may_run_on P O rule 0 ≡ true → fits job outcome → IsShapedPool fits → (trust → TellsJobs P O (ToldOf gives may_fail fits) (serial P gives sources)) → IsOutcomeAt P trust gives may_fail sources rule outcome
+outcome_at P O gives may_fail sources trust fits rule job outcome at may fit shaped told = record {
   shaped = (job, at.wants, shaped job outcome fit);
-  told = λ trusted row is. told trusted rule row is outcome (subst (λ (j : Job). fits j outcome) (at.due trusted row is) fit);
+  told = λ trusted row is. told trusted rule row is may outcome (subst (λ (j : Job). fits j outcome) (at.due trusted row is) fit);
 }
 
 module _ (P : Plan) (gives : Function) (may_fail : Job → Failure → Type 0) (sources : Contents) (trust : Type 0) (rule : ℕ) (outcome : Outcome) (at : IsOutcomeAt P trust gives may_fail sources rule outcome) where

@@ -1,5 +1,5 @@
 -- How far a run has come, call by call.
-use Rattle.std.proofs.Common.{◌≡◌, ◌≢◌, ◌≤◌, ◌∙◌, ℕ, List, [], ◌∷◌, ◌++◌, length, Option, Some, None, sym, ap, subst, arith, length-append}
+use Rattle.std.proofs.Common.{◌≡◌, ◌≢◌, ◌≤◌, ◌∙◌, ℕ, true, List, [], ◌∷◌, ◌++◌, length, Option, Some, None, sym, ap, subst, arith, length-append}
 use Rattle.flow_types.specs.declared.plan.Plan.{Plan}
 use Rattle.flow_types.specs.declared.job.Job.{Job}
 use Rattle.flow_types.specs.declared.job.Failure.{Failure}
@@ -7,7 +7,8 @@ use Rattle.flow_types.specs.declared.job.Start.{Start}
 use Rattle.flow_types.specs.declared.numbers.AttemptNo.{AttemptNo}
 use Rattle.flow_types.specs.declared.records.Record.{Record}
 use Rattle.flow_types.specs.Serial.{Contents, Function, serial}
-use Rattle.run_history.specs.Links.{records_of}
+use Rattle.run_history.specs.declared.options.Options.{Options}
+use Rattle.run_history.specs.Links.{may_run_on, records_of}
 use Rattle.run_history.specs.Storage.{running_rules}
 use Rattle.outside.specs.Disk.{Outcomes}
 use Rattle.outside.specs.Files.{Files}
@@ -66,13 +67,13 @@ other_last : (number : AttemptNo) (held : List Attempt) (a : Attempt) → NoneHa
 other_last number [] a none = (tt, none.0)
 other_last number (b ∷ held) a none = let rest = other_last number held a none.1 in ((none.0, rest.0), rest.1)
 
-here_more : (held : List Attempt) (a : Attempt) → AreHere held → a.link.0 ≡ 0 → AreHere (held ++ (a ∷ []))
-here_more [] a here at = (at, tt)
-here_more (b ∷ held) a here at = (here.0, here_more held a here.1 at)
+here_more : (P : Plan) (O : Options) (held : List Attempt) (a : Attempt) → AreHere P O held → a.link.0 ≡ 0 → may_run_on P O a.rule.0 0 ≡ true → AreHere P O (held ++ (a ∷ []))
+here_more P O [] a here at may = (at, may, tt)
+here_more P O (b ∷ held) a here at may = (here.0, here.1, here_more P O held a here.2 at may)
 
-here_less : (held : List Attempt) (a : Attempt) → AreHere (held ++ (a ∷ [])) → AreHere held
-here_less [] a here = tt
-here_less (b ∷ held) a here = (here.0, here_less held a here.1)
+here_less : (P : Plan) (O : Options) (held : List Attempt) (a : Attempt) → AreHere P O (held ++ (a ∷ [])) → AreHere P O held
+here_less P O [] a here = tt
+here_less P O (b ∷ held) a here = (here.0, here.1, here_less P O held a here.2)
 
 -- What is known of the last that is held.
 record LastOf (P : Plan) (fine : Type 0) (H : List Record) (trust : Type 0) (contents : Contents) (held : List Attempt) (a : Attempt) : Type 0 where
@@ -150,6 +151,12 @@ module _ {S : Type 0} (trust : Type 0) (gives : Function) (may_fail : Job → Fa
           let two = ap (λ (G : List Record). records_due d.plan G) are in
           omega (arith, one, two)
 
+  -- a rule that may run here might when the run began
+  pub may_first : (first now : DeskState S) (held : List Attempt) (waiting : List Start) (loose : Option Attempt) (heard : Tally) (halt : Option Halt) (r : ℕ) → Under first now held waiting loose heard halt
+      → may_run_on now.plan now.options r 0 ≡ true → may_run_on first.plan first.options r 0 ≡ true
+  may_first first now held waiting loose heard halt r u may =
+      subst (λ (P : Plan). may_run_on P first.options r 0 ≡ true) u.goes.plan (subst (λ (O : Options). may_run_on now.plan O r 0 ≡ true) u.goes.options may)
+
   -- memory was wanting
   pub wants_on : (first now : DeskState S) (held : List Attempt) (waiting : List Start) (loose : Option Attempt) (heard : Tally) (halt : Option Halt) → Under first now held waiting loose heard halt
       → Under first now held waiting loose heard (Some halts.Memory)
@@ -168,16 +175,16 @@ module _ {S : Type 0} (trust : Type 0) (gives : Function) (may_fail : Job → Fa
   }
 
   -- the loose attempt is held, and its start waits
-  pub holds_on : (first now : DeskState S) (held : List Attempt) (waiting : List Start) (a : Attempt) (heard : Tally) (halt : Option Halt) (start : Start) → a.link.0 ≡ 0 → a.number ≡ start.attempt
+  pub holds_on : (first now : DeskState S) (held : List Attempt) (waiting : List Start) (a : Attempt) (heard : Tally) (halt : Option Halt) (start : Start) → a.link.0 ≡ 0 → may_run_on first.plan first.options a.rule.0 0 ≡ true → a.number ≡ start.attempt
       → IsJobAt now.plan trust (serial now.plan gives sources) a.rule.0 start.job → Under first now held waiting (Some a) heard halt
       → Under first now (held ++ (a ∷ [])) (waiting ++ (start ∷ [])) None heard halt
-  holds_on first now held waiting a heard halt start at same job u =
+  holds_on first now held waiting a heard halt start at may same job u =
       let longer = length-append held (a ∷ []) in
       record {
         goes = u.goes;
         matches = matches_more now.plan (IsFine now.trouble) (records_of now.moves) trust (serial now.plan gives sources) held waiting a start u.taken.0 u.taken.1 same job u.matches;
         taken = tt;
-        here = here_more held a u.here at;
+        here = here_more first.plan first.options held a u.here at may;
         beyond = away_on now.plan (IsFine now.trouble) (IsFine now.trouble) now.moves now.moves held (held ++ (a ∷ [])) (Some a) None away.attempts
             (λ b runs unheld other. (runs, none_more b.number held a unheld other, tt)) u.beyond;
         all = λ works. let was = u.all works in omega (arith, was, longer);
@@ -199,7 +206,7 @@ module _ {S : Type 0} (trust : Type 0) (gives : Function) (may_fail : Job → Fa
           goes = u.goes;
           matches = last.matches;
           taken = (last.runs, last.none);
-          here = here_less held a u.here;
+          here = here_less first.plan first.options held a u.here;
           beyond = away_on now.plan (IsFine now.trouble) (IsFine now.trouble) now.moves now.moves (held ++ (a ∷ [])) held None (Some a) away.attempts
               (λ b at unheld other. let both = other_last b.number held a unheld in (at, both.0, both.1)) u.beyond;
           all = λ works. let was = u.all works in omega (arith, was, longer);

@@ -17,7 +17,8 @@ use Rattle.run_history.specs.declared.answers.Nothing.TheVariants as nothing
 use Rattle.run_history.specs.Answers.{claim_of}
 use Rattle.run_history.specs.declared.moves.Move.{Move}
 use Rattle.run_history.specs.History.{is_cleaned, is_opening}
-use Rattle.run_history.specs.Links.{records_of}
+use Rattle.run_history.specs.declared.options.Options.{Options}
+use Rattle.run_history.specs.Links.{may_run_on, records_of}
 use Rattle.run_history.specs.States.{drops}
 use Rattle.desk.specs.declared.answers.Trouble.{Trouble}
 use Rattle.desk.specs.declared.answers.Trouble.TheVariants as trouble
@@ -39,9 +40,9 @@ abbrev pub FailsHonestly : Plan → (Job → Failure → Type 0) → Contents �
 FailsHonestly P may_fail contents (records.Failed moment rule attempt why) = (row : Rule) → slice_get P.rules rule.0 ≡ Some row → may_fail (job_of P row contents) why
 FailsHonestly P may_fail contents _ = Unit {0}
 
--- The job of each rule over these contents ends as the commands say.
-abbrev pub TellsJobs : Plan → (Job → Type 0) → Contents → Type 0
-TellsJobs P tells contents = (r : ℕ) (row : Rule) → slice_get P.rules r ≡ Some row → tells (job_of P row contents)
+-- The job of each rule that may run at the local place, over these contents, ends as the commands say.
+abbrev pub TellsJobs : Plan → Options → (Job → Type 0) → Contents → Type 0
+TellsJobs P O tells contents = (r : ℕ) (row : Rule) → slice_get P.rules r ≡ Some row → may_run_on P O r 0 ≡ true → tells (job_of P row contents)
 
 -- The name is neither the log's nor that of a file that a rule makes.
 abbrev pub IsUnmade : Plan → List ℕ → List ℕ → Type 0

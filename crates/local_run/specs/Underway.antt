@@ -12,7 +12,8 @@ use Rattle.flow_types.specs.declared.records.Record.{Record}
 use Rattle.flow_types.specs.Serial.{Contents, Function, job_of, serial}
 use Rattle.run_history.specs.declared.moves.Move.{Move}
 use Rattle.run_history.specs.Answers.{has_ended}
-use Rattle.run_history.specs.Links.{names_link, records_of}
+use Rattle.run_history.specs.declared.options.Options.{Options}
+use Rattle.run_history.specs.Links.{may_run_on, names_link, records_of}
 use Rattle.run_history.specs.Storage.{running_rules}
 use Rattle.outside.specs.Disk.{Outcomes}
 use Rattle.outside.specs.Files.{Files}
@@ -91,10 +92,10 @@ abbrev pub loose_count : Option Attempt → ℕ
 loose_count None = 0
 loose_count (Some a) = 1
 
--- each of these attempts is at the local place
-abbrev pub AreHere : List Attempt → Type 0
-AreHere [] = Unit {0}
-AreHere (a ∷ attempts) = (a.link.0 ≡ 0) × AreHere attempts
+-- each of these attempts is at the local place, where its rule may run
+abbrev pub AreHere : Plan → Options → List Attempt → Type 0
+AreHere P O [] = Unit {0}
+AreHere P O (a ∷ attempts) = (a.link.0 ≡ 0) × (may_run_on P O a.rule.0 0 ≡ true) × AreHere P O attempts
 
 -- ---- attempts on links
 
@@ -186,7 +187,7 @@ pub record Underway {S : Type 0} (trust : Type 0) (gives : Function) (may_fail :
   pub goes : GoesOn trust gives may_fail sources tells files may_leave moment images_since away.links d now
   pub matches : Matches now.plan (IsFine now.trouble) (records_of now.moves) trust (serial now.plan gives sources) held waiting
   pub taken : IsLoose now.plan (IsFine now.trouble) (records_of now.moves) held loose
-  pub here : AreHere held
+  pub here : AreHere d.plan d.options held
   pub beyond : AreAway now.plan (IsFine now.trouble) now.moves held loose away.attempts
   pub all : IsFine now.trouble → length (running_rules now.plan (records_of now.moves)) ≤ length held + loose_count loose + length away.attempts
   pub stopped : StoppedBy tells kept sure files d now heard halt

@@ -50,7 +50,7 @@ pub fn work<
     requires fine { IsFine desk.old.trouble }
     requires idle { length (running_rules desk.old.plan (records_of desk.old.moves)) ≤ 0 }
     requires base { T.trust → S.tells × T.kept
-        × TellsJobs desk.old.plan (AllTell R.tells runners.old)
+        × TellsJobs desk.old.plan desk.old.options (AllTell R.tells runners.old)
         (serial desk.old.plan F.gives T.sources) }
     ensures goes { GoesOn T.trust F.gives F.may_fail T.sources S.tells S.files S.may_leave
         S.moment S.images_since [] desk.old desk.new }

@@ -65,8 +65,8 @@ pub fn hear<B: PoolTerms, F: Commands, S: Site, T: Terms, C: Clock>(
 ) -> bool
     requires valid { IsValid desk.old.plan }
     requires shaped { IsShapedPool B.fits }
-    requires told { T.trust → TellsJobs desk.old.plan (ToldOf F.gives F.may_fail B.fits)
-        (serial desk.old.plan F.gives T.sources) }
+    requires told { T.trust → TellsJobs desk.old.plan desk.old.options
+        (ToldOf F.gives F.may_fail B.fits) (serial desk.old.plan F.gives T.sources) }
     requires underway { (away : AwayState) × (first : DeskState S)
         × Underway T.trust F.gives F.may_fail T.sources S.tells T.kept (IsSurePool B.fits)
         S.files S.may_leave S.moment S.images_since away first desk.old held.old.attempts

@@ -5,7 +5,7 @@ ghost use Rattle.std.specs.List.{list_all};
 ghost use Rattle.flow_types.specs.declared.job.Start.{Start as StartValue};
 ghost use Rattle.flow_types.specs.Plans.{IsValid, takes};
 ghost use Rattle.run_history.specs.Answers.{claim_of};
-ghost use Rattle.run_history.specs.Links.{records_of};
+ghost use Rattle.run_history.specs.Links.{may_run_on, records_of};
 ghost use Rattle.run_history.specs.Storage.{is_present};
 ghost use Rattle.worker_pool.specs.declared.hand.Tally.{Tally};
 ghost use Rattle.desk.specs.declared.attempt.Attempt.{Attempt as AttemptValue};
@@ -105,6 +105,7 @@ fn begin<B: PoolTerms, W: Wait, F: Commands, S: Site, T: Terms, C: Clock>(
     requires base { T.trust → S.tells × T.kept }
     requires rule { attempt.rule.0 < length desk.old.plan.rules }
     requires here { attempt.link.0 ≡ 0 }
+    requires placed { may_run_on desk.old.plan desk.old.options attempt.rule.0 0 ≡ true }
     requires fine { IsFine desk.old.trouble }
     requires present { list_all (is_present desk.old.plan (records_of desk.old.moves))
         (takes desk.old.plan attempt.rule.0) ≡ true }

@@ -92,8 +92,8 @@ fn serve<B: PoolTerms, W: Wait, F: Commands, S: Site, T: Terms, C: Clock>(
     requires valid { IsValid desk.old.plan }
     requires shaped { IsShapedPool B.fits }
     requires base { T.trust → S.tells × T.kept }
-    requires told { T.trust → TellsJobs desk.old.plan (ToldOf F.gives F.may_fail B.fits)
-        (serial desk.old.plan F.gives T.sources) }
+    requires told { T.trust → TellsJobs desk.old.plan desk.old.options
+        (ToldOf F.gives F.may_fail B.fits) (serial desk.old.plan F.gives T.sources) }
     requires underway { (away : AwayState) × (first : DeskState S)
         × Underway T.trust F.gives F.may_fail T.sources S.tells T.kept (IsSurePool B.fits)
         S.files S.may_leave S.moment S.images_since away first desk.old held.old.attempts
@@ -141,8 +141,8 @@ fn serve_and_close<B: PoolTerms, W: Wait, F: Commands, S: Site, T: Terms, C: Clo
     requires valid { IsValid desk.old.plan }
     requires shaped { IsShapedPool B.fits }
     requires base { T.trust → S.tells × T.kept }
-    requires told { T.trust → TellsJobs desk.old.plan (ToldOf F.gives F.may_fail B.fits)
-        (serial desk.old.plan F.gives T.sources) }
+    requires told { T.trust → TellsJobs desk.old.plan desk.old.options
+        (ToldOf F.gives F.may_fail B.fits) (serial desk.old.plan F.gives T.sources) }
     requires underway { (away : AwayState) × (first : DeskState S)
         × Underway T.trust F.gives F.may_fail T.sources S.tells T.kept (IsSurePool B.fits)
         S.files S.may_leave S.moment S.images_since away first desk.old held.old.attempts
@@ -229,8 +229,8 @@ fn serve_beside<
     requires valid { IsValid desk.old.plan }
     requires shaped { IsShapedPool B.fits }
     requires base { T.trust → S.tells × T.kept }
-    requires told { T.trust → TellsJobs desk.old.plan (ToldOf F.gives F.may_fail B.fits)
-        (serial desk.old.plan F.gives T.sources) }
+    requires told { T.trust → TellsJobs desk.old.plan desk.old.options
+        (ToldOf F.gives F.may_fail B.fits) (serial desk.old.plan F.gives T.sources) }
     requires underway { (away : AwayState) × (first : DeskState S)
         × Underway T.trust F.gives F.may_fail T.sources S.tells T.kept (IsSurePool B.fits)
         S.files S.may_leave S.moment S.images_since away first desk.old held.old.attempts
@@ -264,8 +264,8 @@ fn serve_beside<
             requires valid { IsValid desk.old.plan }
             requires shaped { IsShapedPool B.fits }
             requires base { T.trust → S.tells × T.kept }
-            requires told { T.trust → TellsJobs desk.old.plan (ToldOf F.gives F.may_fail B.fits)
-                (serial desk.old.plan F.gives T.sources) }
+            requires told { T.trust → TellsJobs desk.old.plan desk.old.options
+                (ToldOf F.gives F.may_fail B.fits) (serial desk.old.plan F.gives T.sources) }
             requires underway { (away : AwayState) × (first : DeskState S)
                 × Underway T.trust F.gives F.may_fail T.sources S.tells T.kept
                 (IsSurePool B.fits) S.files S.may_leave S.moment S.images_since away first desk.old
@@ -316,8 +316,8 @@ fn serve_in<
     requires idle { length (running_rules desk.old.plan (records_of desk.old.moves)) ≤ 0 }
     requires shaped { IsShapedPool B.fits }
     requires base { T.trust → S.tells × T.kept }
-    requires told { T.trust → TellsJobs desk.old.plan (ToldOf F.gives F.may_fail B.fits)
-        (serial desk.old.plan F.gives T.sources) }
+    requires told { T.trust → TellsJobs desk.old.plan desk.old.options
+        (ToldOf F.gives F.may_fail B.fits) (serial desk.old.plan F.gives T.sources) }
     ensures came { ComesTo T.trust F.gives F.may_fail T.sources S.tells T.kept
         (IsSurePool B.fits) S.files S.may_leave S.moment S.images_since desk.old desk.new
         (sum_by R.count runners.old) (sum_by R.count runners.new)
@@ -359,7 +359,7 @@ pub(crate) fn serve_all<
     requires fine { IsFine desk.old.trouble }
     requires idle { length (running_rules desk.old.plan (records_of desk.old.moves)) ≤ 0 }
     requires base { T.trust → S.tells × T.kept
-        × TellsJobs desk.old.plan (AllTell R.tells runners.old)
+        × TellsJobs desk.old.plan desk.old.options (AllTell R.tells runners.old)
         (serial desk.old.plan F.gives T.sources) }
     ensures came { ComesTo T.trust F.gives F.may_fail T.sources S.tells T.kept
         (AllSure R.sure runners.old) S.files S.may_leave S.moment S.images_since desk.old desk.new

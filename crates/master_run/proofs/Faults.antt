@@ -126,11 +126,11 @@ module _ {S : Type 0} (tells : Type 0) (files : S → Files) (may_leave : S → 
     pub resumable : tells → StaysResumable may_leave images_since born ask old new
     pub others : tells → StaysBeside may_leave moment images_since (IsUnmade ask.plan ask.log) old new
     pub contents : tells → (H : List Record) → Spells H (files old ask.log)
-        → TellsJobs ask.plan told (serial ask.plan gives (read_sources ask.plan (files old)))
+        → TellsJobs ask.plan ask.options told (serial ask.plan gives (read_sources ask.plan (files old)))
         → AllMoments files may_leave images_since (SerialFits gives (read_sources ask.plan (files old))) born ask H old new records cause
     pub honest : tells → (H : List Record) → Spells H (files old ask.log)
         → IsResumable (SerialFits gives (read_sources ask.plan (files old))) ask.plan ask.log H (may_leave old)
-        → TellsJobs ask.plan told (serial ask.plan gives (read_sources ask.plan (files old)))
+        → TellsJobs ask.plan ask.options told (serial ask.plan gives (read_sources ask.plan (files old)))
         → BeginsWith H records → Adds (Unit {0}) gives may_fail (read_sources ask.plan (files old)) ask.plan H records
     pub modes : tells → (H : List Record) → Spells H (files old ask.log) → BeginsWith H records → CollectsBy ask.plan ask.options.mode H records
     pub places : tells → (H : List Record) → Spells H (files old ask.log) → BeginsWith H records → PlacedBy ask.plan ask.options H records

@@ -552,17 +552,17 @@ module _ {S : Type 0} (tells : Type 0) (files : S → Files) (may_leave : S → 
         → (image : Files) → images_since new born image → images_since old born image ⊎ KeepsSome Held ask.plan ask.log image
     pub contents : (ask.options.wq ≡ true → honest_links) → tells → (H : List Record) → Spells H (files old ask.log)
         → IsResumable (SerialFits gives (read_sources ask.plan (files old))) ask.plan ask.log H (may_leave old)
-        → TellsJobs ask.plan told (serial ask.plan gives (read_sources ask.plan (files old)))
+        → TellsJobs ask.plan ask.options told (serial ask.plan gives (read_sources ask.plan (files old)))
         → (image : Files) → images_since new born image → images_since old born image ⊎ IsMoment (SerialFits gives (read_sources ask.plan (files old))) ask.plan ask.log (files old) (may_leave old) H records (IsCutRun how) image
     pub honest : (ask.options.wq ≡ true → honest_links) → tells → (H : List Record) → Spells H (files old ask.log)
         → IsResumable (SerialFits gives (read_sources ask.plan (files old))) ask.plan ask.log H (may_leave old)
-        → TellsJobs ask.plan told (serial ask.plan gives (read_sources ask.plan (files old)))
+        → TellsJobs ask.plan ask.options told (serial ask.plan gives (read_sources ask.plan (files old)))
         → Adds (Unit {0}) gives may_fail (read_sources ask.plan (files old)) ask.plan H records
     pub at_end : tells → (H : List Record) → Spells H (files old ask.log) → IsResumable Held ask.plan ask.log H (may_leave old) → (IsCutRun how → ⊥)
         → (image : Files) → IsImage (may_leave new) image → Keeps Held ask.plan ask.log records image
     pub completes : ask.options.wq ≡ false → tells → (H : List Record) → Spells H (files old ask.log)
         → IsResumable (SerialFits gives (read_sources ask.plan (files old))) ask.plan ask.log H (may_leave old)
-        → TellsJobs ask.plan told (serial ask.plan gives (read_sources ask.plan (files old)))
+        → TellsJobs ask.plan ask.options told (serial ask.plan gives (read_sources ask.plan (files old)))
         → SerialInputsFit ask.plan gives (read_sources ask.plan (files old)) → HasRecordRoom ask.plan H → run_fault ask.plan ask.options H (files old) ≡ None
         → sure → count new ≤ count old → IsDone ask.options.limit how
     pub modes : tells → (H : List Record) → Spells H (files old ask.log) → CollectsBy ask.plan ask.options.mode H records

@@ -119,7 +119,7 @@ goes_widened gives told wide manned ask files outcomes H b a wb wa records cause
       free = free.free;
       fit = free.fit;
       room = free.room;
-      jobs = tells_less ask.plan told wide (serial ask.plan gives (read_sources ask.plan files)) each free.jobs;
+      jobs = tells_less ask.plan ask.options told wide (serial ask.plan gives (read_sources ask.plan files)) each free.jobs;
       stood = none free.stood;
     }
 

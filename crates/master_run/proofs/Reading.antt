@@ -88,13 +88,13 @@ module _ {S : Type 0} (tells : Type 0) (files : S → Files) (may_leave : S → 
         }) (s.others t);
     contents = λ t H spelled met jobs. all_from (SerialFits gives (read_sources ask.plan (files old))) H t
         (subst (λ (fs : Files). AllMoments files may_leave images_since (SerialFits gives (read_sources ask.plan fs)) born ask H mid new records cause) (looked t).same
-        (s.contents t H (at_mid t H spelled) met (subst (λ (fs : Files). TellsJobs ask.plan told (serial ask.plan gives (read_sources ask.plan fs))) (sym (looked t).same) jobs)));
+        (s.contents t H (at_mid t H spelled) met (subst (λ (fs : Files). TellsJobs ask.plan ask.options told (serial ask.plan gives (read_sources ask.plan fs))) (sym (looked t).same) jobs)));
     honest = λ t H spelled met resumable jobs begins.
         subst (λ (fs : Files). Adds (Unit {0}) gives may_fail (read_sources ask.plan fs) ask.plan H records) (looked t).same
         (s.honest t H (at_mid t H spelled) met
         (subst (λ (fs : Files). IsResumable (SerialFits gives (read_sources ask.plan fs)) ask.plan ask.log H (may_leave mid)) (sym (looked t).same)
         (resumable_from (SerialFits gives (read_sources ask.plan (files old))) ask.plan ask.log H (may_leave old) (may_leave mid) (looked t).within resumable))
-        (subst (λ (fs : Files). TellsJobs ask.plan told (serial ask.plan gives (read_sources ask.plan fs))) (sym (looked t).same) jobs) begins);
+        (subst (λ (fs : Files). TellsJobs ask.plan ask.options told (serial ask.plan gives (read_sources ask.plan fs))) (sym (looked t).same) jobs) begins);
     modes = λ t H spelled. s.modes t H (at_mid t H spelled);
     places = λ t H spelled. s.places t H (at_mid t H spelled);
     gone = λ t H spelled. s.gone t H (at_mid t H spelled);

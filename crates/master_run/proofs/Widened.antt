@@ -8,6 +8,7 @@ use Rattle.flow_types.specs.declared.records.Record.{Record}
 use Rattle.flow_types.specs.Serial.{Contents, Function, job_of, serial}
 use Rattle.outside.specs.Disk.{Outcomes}
 use Rattle.outside.specs.Files.{Files}
+use Rattle.run_history.specs.declared.options.Options.{Options}
 use Rattle.local_run.specs.Course.{TellsJobs}
 use Rattle.local_run.specs.Runs.{read_sources}
 use Rattle.report.specs.declared.cause.Cause.{Cause}
@@ -21,8 +22,8 @@ use Rattle.master_run.specs.Serves.{Serves}
 use Rattle.master_run.proofs.Counted.{stands_before}
 
 -- who tells of more jobs tells of these
-pub tells_less : (P : Plan) (told wide : Job → Type 0) (contents : Contents) → ((job : Job) → wide job → told job) → TellsJobs P wide contents → TellsJobs P told contents
-tells_less P told wide contents each jobs r row at = each (job_of P row contents) (jobs r row at)
+pub tells_less : (P : Plan) (O : Options) (told wide : Job → Type 0) (contents : Contents) → ((job : Job) → wide job → told job) → TellsJobs P O wide contents → TellsJobs P O told contents
+tells_less P O told wide contents each jobs r row at may = each (job_of P row contents) (jobs r row at may)
 
 -- a fault of one of the first is one of one of all
 pub wider_fault : (s0 s1 h0 h1 i0 i1 k0 k1 : ℕ) (front0 front1 back0 back1 : List ℕ) (cause : Cause) → FaultEnd (counts s0 front0 h0 i0 k0) (counts s1 front1 h1 i1 k1) cause
@@ -88,5 +89,5 @@ module _ {S : Type 0} (tells : Type 0) (files : S → Files) (may_leave : S → 
     completes = λ t H spelled alone work resumable free there fit room w jobs rose. s.completes t H spelled alone work resumable free there fit room (is w) (fewer jobs) (none rose);
   }
     where
-      fewer : TellsJobs ask.plan wide_told (serial ask.plan gives (read_sources ask.plan (files old))) → TellsJobs ask.plan told (serial ask.plan gives (read_sources ask.plan (files old)))
-      fewer jobs = tells_less ask.plan told wide_told (serial ask.plan gives (read_sources ask.plan (files old))) each jobs
+      fewer : TellsJobs ask.plan ask.options wide_told (serial ask.plan gives (read_sources ask.plan (files old))) → TellsJobs ask.plan ask.options told (serial ask.plan gives (read_sources ask.plan (files old)))
+      fewer jobs = tells_less ask.plan ask.options told wide_told (serial ask.plan gives (read_sources ask.plan (files old))) each jobs

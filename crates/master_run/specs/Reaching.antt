@@ -34,13 +34,13 @@ pub record AreSureLinks {L : Type 0} (tells is_honest is_sure : Type 0) (history
 abbrev pub IsMannedFor : (Amounts → Type 0) → Ask → Type 0
 IsMannedFor manned ask = (least : Amounts) × manned least × StatesAtMost ask.options least ask.plan
 
--- Nothing is in the way of a run: it can go on from the log, and isn't refused; the inputs of each rule are within their limit in the serial run, and the log has room; the runners tell of each rule's job there; and no count rose.
+-- Nothing is in the way of a run: it can go on from the log, and isn't refused; the inputs of each rule are within their limit in the serial run, and the log has room; the runners tell of the job there of each rule that may run here; and no count rose.
 pub record IsFree (gives : Function) (told : Job → Type 0) (ask : Ask) (files : Files) (outcomes : Outcomes) (H : List Record) (before after : Counts) : Type 0 where
   pub resumable : IsResumable (SerialFits gives (read_sources ask.plan files)) ask.plan ask.log H outcomes
   pub free : run_refusal ask.plan ask.options H files ≡ None
   pub fit : SerialInputsFit ask.plan gives (read_sources ask.plan files)
   pub room : HasRecordRoom ask.plan H
-  pub jobs : TellsJobs ask.plan told (serial ask.plan gives (read_sources ask.plan files))
+  pub jobs : TellsJobs ask.plan ask.options told (serial ask.plan gives (read_sources ask.plan files))
   pub stood : NoneRose before after
 
 -- Every rule is complete, or the call waited in vain, or memory was wanting, or there is a limit of the storage and no room.

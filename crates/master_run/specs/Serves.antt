@@ -68,7 +68,7 @@ CanComplete gives told sure ask files outcomes H before after cause =
     → IsResumable (SerialFits gives (read_sources ask.plan files)) ask.plan ask.log H outcomes
     → run_refusal ask.plan ask.options H files ≡ None
     → HasSources ask.plan files → SerialInputsFit ask.plan gives (read_sources ask.plan files) → HasRecordRoom ask.plan H
-    → sure → TellsJobs ask.plan told (serial ask.plan gives (read_sources ask.plan files)) → NoneRose before after
+    → sure → TellsJobs ask.plan ask.options told (serial ask.plan gives (read_sources ask.plan files)) → NoneRose before after
     → Completes ask.options.limit cause
 
 -- What a call does of which this is asked, from the site that it finds to the one that it leaves.
@@ -90,11 +90,11 @@ pub record Serves {S : Type 0} (tells : Type 0) (files : S → Files) (may_leave
   pub untouched : tells → IsTrue (is_refusal (kind_of cause)) → files new ≡ files old
   pub others : tells → StaysBeside may_leave moment images_since (IsUnmade ask.plan ask.log) old new
   pub contents : tells → (H : List Record) → Spells H (files old ask.log) → (ask.options.wq ≡ true → honest_links)
-      → TellsJobs ask.plan told (serial ask.plan gives (read_sources ask.plan (files old)))
+      → TellsJobs ask.plan ask.options told (serial ask.plan gives (read_sources ask.plan (files old)))
       → AllMoments files may_leave images_since (SerialFits gives (read_sources ask.plan (files old))) born ask H old new records cause
   pub honest : tells → (H : List Record) → Spells H (files old ask.log) → (ask.options.wq ≡ true → honest_links)
       → IsResumable (SerialFits gives (read_sources ask.plan (files old))) ask.plan ask.log H (may_leave old)
-      → TellsJobs ask.plan told (serial ask.plan gives (read_sources ask.plan (files old)))
+      → TellsJobs ask.plan ask.options told (serial ask.plan gives (read_sources ask.plan (files old)))
       → BeginsWith H records → Adds (Unit {0}) gives may_fail (read_sources ask.plan (files old)) ask.plan H records
   pub modes : tells → (H : List Record) → Spells H (files old ask.log) → BeginsWith H records → CollectsBy ask.plan ask.options.mode H records
   pub places : tells → (H : List Record) → Spells H (files old ask.log) → BeginsWith H records → PlacedBy ask.plan ask.options H records

@@ -445,15 +445,16 @@ pub fn makeflow_top<
         → StaysBeside S.may_leave S.moment S.images_since (IsUnmade ask.plan ask.log)
         site result.site }
 
-    // Where the commands are functions of their inputs, the runners tell what those say of each
-    // rule's job, and with workers each of their links is honest, every present file has the
-    // content of the serial run at every moment, and each failure is one that its rule's job may
-    // have.
+    // Where the commands are functions of their inputs, the runners tell what those say of the job
+    // of each rule that may run here, and with workers each of their links is honest, every present
+    // file has the content of the serial run at every moment, and each failure is one that its
+    // rule's job may have.
     ensures contents { S.tells → OfLog (request words.now env.now (S.files site)) (S.files site)
         (λ ask past. let sources = read_sources ask.plan (S.files site) in
         (ask.options.wq ≡ true → H.honest hall.old)
         → IsResumable (SerialFits F.gives sources) ask.plan ask.log past (S.may_leave site)
-        → TellsJobs ask.plan (AllTell R.tells runners.old) (serial ask.plan F.gives sources)
+        → TellsJobs ask.plan ask.options (AllTell R.tells runners.old)
+        (serial ask.plan F.gives sources)
         → (image : Files) → S.images_since result.site (S.moment site) image
         → IsMoment (SerialFits F.gives sources) ask.plan ask.log (S.files site)
         (S.may_leave site) past result.records (IsCut result.cause) image) }
@@ -461,7 +462,8 @@ pub fn makeflow_top<
         (λ ask past. let sources = read_sources ask.plan (S.files site) in
         (ask.options.wq ≡ true → H.honest hall.old)
         → IsResumable (SerialFits F.gives sources) ask.plan ask.log past (S.may_leave site)
-        → TellsJobs ask.plan (AllTell R.tells runners.old) (serial ask.plan F.gives sources)
+        → TellsJobs ask.plan ask.options (AllTell R.tells runners.old)
+        (serial ask.plan F.gives sources)
         → BeginsWith past result.records
         → Adds (Unit {0}) F.gives F.may_fail sources ask.plan past result.records) }
 

@@ -18,6 +18,7 @@ use Rattle.flow_types.specs.declared.messages.Message.{Message}
 use Rattle.flow_types.specs.declared.messages.Message.TheVariants as messages
 use Rattle.flow_types.specs.declared.records.Record.{Record}
 use Rattle.flow_types.specs.Serial.{Contents, Function, job_of, serial}
+use Rattle.run_history.specs.declared.options.Options.{Options}
 use Rattle.run_history.specs.declared.moves.Move.{Move}
 use Rattle.run_history.specs.History.{is_cleaned, is_opening, next_run}
 use Rattle.run_history.specs.Links.{records_of}
@@ -74,9 +75,9 @@ run_on H more none = sum_by-append (λ (x : Record). cond (is_opening x) 1 0) H 
 -- ---- what is relied on is so of the desk at any time of the run
 
 module _ {S : Type 0} (trust : Type 0) (gives : Function) (may_fail : Job → Failure → Type 0) (sources : Contents) (tells kept sure : Type 0) (files : S → Files) (may_leave : S → Outcomes) (moment : S → ℕ)
-    (images_since : S → ℕ → Files → Type 0) (holds : Type 0) (plan : Plan) (run : ℕ) (due : Contents) where
+    (images_since : S → ℕ → Files → Type 0) (holds : Type 0) (plan : Plan) (options : Options) (run : ℕ) (due : Contents) where
   abbrev pub OfDesk : DeskState S → Type 0
-  OfDesk d = IsOf trust gives sources tells kept holds plan run due d.plan (records_of d.moves)
+  OfDesk d = IsOf trust gives sources tells kept holds plan options run due d.plan d.options (records_of d.moves)
 
   abbrev pub Goes : List Move → DeskState S → DeskState S → Type 0
   Goes links first d = GoesOn trust gives may_fail sources tells files may_leave moment images_since links first d
@@ -92,6 +93,7 @@ module _ {S : Type 0} (trust : Type 0) (gives : Function) (may_fail : Job → Fa
     trusts = o.trusts;
     base = o.base;
     plan_is = h.plan ∙ sym g.plan ∙ o.plan_is;
+    options_is = h.options ∙ sym g.options ∙ o.options_is;
     run_is = ap (λ (n : ℕ). n - 1) (run_of links_now first after h ∙ sym (run_of links first d g)) ∙ o.run_is;
     due_is = ap (λ (P : Plan). serial P gives sources) (h.plan ∙ sym g.plan) ∙ o.due_is;
   }
@@ -102,6 +104,7 @@ module _ {S : Type 0} (trust : Type 0) (gives : Function) (may_fail : Job → Fa
     trusts = o.trusts;
     base = o.base;
     plan_is = h.plan ∙ o.plan_is;
+    options_is = h.options ∙ o.options_is;
     run_is = ap (λ (n : ℕ). n - 1) (run_of links d after h) ∙ o.run_is;
     due_is = ap (λ (P : Plan). serial P gives sources) h.plan ∙ o.due_is;
   }
@@ -135,14 +138,14 @@ module _ {S : Type 0} (trust : Type 0) (gives : Function) (may_fail : Job → Fa
         )
 
 -- the task of an attempt by the desk is its own
-pub own_by : {trust : Type 0} {gives : Function} {sources : Contents} {tells kept holds : Type 0} {plan : Plan} {run : ℕ} {due : Contents} (P : Plan) (H : List Record) (a : Attempt) (t : Task)
-    → IsOf trust gives sources tells kept holds plan run due P H → task_of P H a ≡ Some t → own_task plan run a ≡ Some t
-own_by {trust} {gives} {sources} {tells} {kept} {holds} {plan} {run} {due} P H a t o is = subst (λ (n : ℕ). own_task plan n a ≡ Some t) o.run_is (subst (λ (Q : Plan). own_task Q (next_run H - 1) a ≡ Some t) o.plan_is is)
+pub own_by : {trust : Type 0} {gives : Function} {sources : Contents} {tells kept holds : Type 0} {plan : Plan} {options : Options} {run : ℕ} {due : Contents} (P : Plan) (O : Options) (H : List Record) (a : Attempt) (t : Task)
+    → IsOf trust gives sources tells kept holds plan options run due P O H → task_of P H a ≡ Some t → own_task plan run a ≡ Some t
+own_by {trust} {gives} {sources} {tells} {kept} {holds} {plan} {options} {run} {due} P O H a t o is = subst (λ (n : ℕ). own_task plan n a ≡ Some t) o.run_is (subst (λ (Q : Plan). own_task Q (next_run H - 1) a ≡ Some t) o.plan_is is)
 
 -- what is due by what is relied on is so by the desk
-pub due_by : {trust : Type 0} {gives : Function} {sources : Contents} {tells kept holds : Type 0} {plan : Plan} {run : ℕ} {due : Contents} (may_fail : Job → Failure → Type 0) (P : Plan) (H : List Record) (number : AttemptNo) (outcome : Outcome) (xs : List Attempt)
-    → IsOf trust gives sources tells kept holds plan run due P H → (holds → AllByRecursion (EndsDue plan gives may_fail due number outcome) xs) → trust → AllByRecursion (EndsDue P gives may_fail (serial P gives sources) number outcome) xs
-due_by {trust} {gives} {sources} {tells} {kept} {holds} {plan} {run} {due} may_fail P H number outcome xs o all trusted =
+pub due_by : {trust : Type 0} {gives : Function} {sources : Contents} {tells kept holds : Type 0} {plan : Plan} {options : Options} {run : ℕ} {due : Contents} (may_fail : Job → Failure → Type 0) (P : Plan) (O : Options) (H : List Record) (number : AttemptNo) (outcome : Outcome) (xs : List Attempt)
+    → IsOf trust gives sources tells kept holds plan options run due P O H → (holds → AllByRecursion (EndsDue plan gives may_fail due number outcome) xs) → trust → AllByRecursion (EndsDue P gives may_fail (serial P gives sources) number outcome) xs
+due_by {trust} {gives} {sources} {tells} {kept} {holds} {plan} {options} {run} {due} may_fail P O H number outcome xs o all trusted =
     subst (λ (c : Contents). AllByRecursion (EndsDue P gives may_fail c number outcome) xs) (sym o.due_is) (subst (λ (Q : Plan). AllByRecursion (EndsDue Q gives may_fail due number outcome) xs) (sym o.plan_is) (all (o.relies trusted)))
 
 -- nothing is said of what wasn't run
@@ -151,15 +154,15 @@ ends_unrun P gives may_fail due number [] = tt
 ends_unrun P gives may_fail due number (x ∷ xs) = ((λ same row there. tt), ends_unrun P gives may_fail due number xs)
 
 -- what runners tell is so of the desk's plan
-pub told_by : {trust : Type 0} {gives : Function} {sources : Contents} {tells kept holds : Type 0} {plan : Plan} {run : ℕ} {due : Contents} (P : Plan) (H : List Record) (told : Job → Type 0)
-    → IsOf trust gives sources tells kept holds plan run due P H → (trust → TellsJobs plan told due) → trust → TellsJobs P told (serial P gives sources)
-told_by {trust} {gives} {sources} {tells} {kept} {holds} {plan} {run} {due} P H told o all trusted =
-    subst (λ (c : Contents). TellsJobs P told c) (sym o.due_is) (subst (λ (Q : Plan). TellsJobs Q told due) (sym o.plan_is) (all trusted))
+pub told_by : {trust : Type 0} {gives : Function} {sources : Contents} {tells kept holds : Type 0} {plan : Plan} {options : Options} {run : ℕ} {due : Contents} (P : Plan) (O : Options) (H : List Record) (told : Job → Type 0)
+    → IsOf trust gives sources tells kept holds plan options run due P O H → (trust → TellsJobs plan options told due) → trust → TellsJobs P O told (serial P gives sources)
+told_by {trust} {gives} {sources} {tells} {kept} {holds} {plan} {options} {run} {due} P O H told o all trusted =
+    subst (λ (c : Contents). TellsJobs P O told c) (sym o.due_is) (subst (λ (Q : Plan). TellsJobs Q O told due) (sym o.plan_is) (subst (λ (Q : Options). TellsJobs plan Q told due) (sym o.options_is) (all trusted)))
 
 -- a content that was read is due
-pub read_due : {trust : Type 0} {gives : Function} {sources : Contents} {tells kept holds : Type 0} {plan : Plan} {run : ℕ} {due : Contents} (P : Plan) (H : List Record) (f : ℕ) (content : List ℕ)
-    → IsOf trust gives sources tells kept holds plan run due P H → (tells → kept → trust → serial P gives sources f ≡ Some content) → holds → due f ≡ Some content
-read_due {trust} P H f content o is held =
+pub read_due : {trust : Type 0} {gives : Function} {sources : Contents} {tells kept holds : Type 0} {plan : Plan} {options : Options} {run : ℕ} {due : Contents} (P : Plan) (O : Options) (H : List Record) (f : ℕ) (content : List ℕ)
+    → IsOf trust gives sources tells kept holds plan options run due P O H → (tells → kept → trust → serial P gives sources f ≡ Some content) → holds → due f ≡ Some content
+read_due {trust} P O H f content o is held =
     let trusted : trust = o.trusts held in sym (ap (λ (c : Contents). c f) o.due_is) ∙ is (o.base trusted).0 (o.base trusted).1 trusted
 
 -- ---- answers

@@ -13,6 +13,7 @@ use Rattle.flow_types.specs.declared.messages.Message.{Message}
 use Rattle.flow_types.specs.declared.messages.Message.TheVariants as messages
 use Rattle.flow_types.specs.declared.records.Record.{Record}
 use Rattle.flow_types.specs.Serial.{Contents, Function, job_of, serial}
+use Rattle.run_history.specs.declared.options.Options.{Options}
 use Rattle.run_history.specs.History.{next_run}
 use Rattle.links.specs.declared.passing.Passed.{Passed}
 use Rattle.message_forms.specs.Streams.{IsAmong}
@@ -25,12 +26,13 @@ use Rattle.peers.specs.Serves.{AreDue, Serves}
 use Rattle.peers.specs.States.{PeerState}
 use Rattle.wq_run.specs.Seats.{SeatState}
 
--- What is relied on is so of the run of a desk with this plan and these records: it is relied on exactly where the desk is trusted, and the plan, the run's number and the contents of the serial run are these.
-pub record IsOf (trust : Type 0) (gives : Function) (sources : Contents) (tells kept holds : Type 0) (plan : Plan) (run : ℕ) (due : Contents) (P : Plan) (H : List Record) : Type 0 where
+-- What is relied on is so of the run of a desk with this plan, these options and these records: it is relied on exactly where the desk is trusted, and the plan, the options, the run's number and the contents of the serial run are these.
+pub record IsOf (trust : Type 0) (gives : Function) (sources : Contents) (tells kept holds : Type 0) (plan : Plan) (options : Options) (run : ℕ) (due : Contents) (P : Plan) (O : Options) (H : List Record) : Type 0 where
   pub relies : trust → holds
   pub trusts : holds → trust
   pub base : trust → tells × kept
   pub plan_is : P ≡ plan
+  pub options_is : O ≡ options
   pub run_is : next_run H - 1 ≡ run
   pub due_is : serial P gives sources ≡ due
 

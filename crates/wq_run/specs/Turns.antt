@@ -7,6 +7,7 @@ use Rattle.flow_types.specs.declared.job.Job.{Job}
 use Rattle.flow_types.specs.declared.job.Outcome.{Outcome}
 use Rattle.flow_types.specs.Plans.{IsValid}
 use Rattle.flow_types.specs.Serial.{Contents, Function}
+use Rattle.run_history.specs.declared.options.Options.{Options}
 use Rattle.run_history.specs.Links.{records_of}
 use Rattle.outside.specs.Disk.{Outcomes}
 use Rattle.outside.specs.Files.{Files}
@@ -22,11 +23,11 @@ use Rattle.wq_run.specs.Trusted.{IsOf, IsOpen}
 
 -- The plan is valid, what is relied on is so, nothing is wanted of the log, at most so many run here at once, and the run has come to something.
 pub record MayServe {S L : Type 0} (trust : Type 0) (gives : Function) (may_fail : Job → Failure → Type 0) (sources : Contents) (tells kept : Type 0) (files : S → Files) (may_leave : S → Outcomes) (moment : S → ℕ)
-    (images_since : S → ℕ → Files → Type 0) (fits : Job → Outcome → Type 0) (keen : ℕ → Type 0) (holds : Type 0) (plan : Plan) (run : ℕ) (due : Contents) (listens honest : Type 0) (most : ℕ) (now : DeskState S) (held : HeldState)
+    (images_since : S → ℕ → Files → Type 0) (fits : Job → Outcome → Type 0) (keen : ℕ → Type 0) (holds : Type 0) (plan : Plan) (options : Options) (run : ℕ) (due : Contents) (listens honest : Type 0) (most : ℕ) (now : DeskState S) (held : HeldState)
     (pool : PoolState) (seats : List (SeatState L)) : Type 0 where
   pub valid : IsValid now.plan
-  pub of : IsOf trust gives sources tells kept holds plan run due now.plan (records_of now.moves)
-  pub told : trust → TellsJobs plan (ToldOf gives may_fail fits) due
+  pub of : IsOf trust gives sources tells kept holds plan options run due now.plan now.options (records_of now.moves)
+  pub told : trust → TellsJobs plan options (ToldOf gives may_fail fits) due
   pub eager : (k : ℕ) → 0 < k → keen k → ⊥
   pub shaped : IsShapedPool fits
   pub coming : IsOpen holds listens honest

@@ -60,9 +60,9 @@ pub fn work<
     requires unset { desk.old.stop ≡ None }
     requires unended { has_ended (records_of desk.old.moves) ≡ false }
     requires idle { length (running_rules desk.old.plan (records_of desk.old.moves)) ≤ 0 }
-    requires of { IsOf T.trust F.gives T.sources S.tells T.kept T.holds T.plan T.run T.due
-        desk.old.plan (records_of desk.old.moves) }
-    requires told { T.trust → TellsJobs T.plan (AllTell R.tells runners.old) T.due }
+    requires of { IsOf T.trust F.gives T.sources S.tells T.kept T.holds T.plan T.options T.run T.due
+        desk.old.plan desk.old.options (records_of desk.old.moves) }
+    requires told { T.trust → TellsJobs T.plan T.options (AllTell R.tells runners.old) T.due }
     requires honest { T.holds → H.honest hall.old }
     requires keen { (k : ℕ) → 0 < k → T.keen k → ⊥ }
     ensures goes { (links : List Move) × GoesOn T.trust F.gives F.may_fail T.sources S.tells

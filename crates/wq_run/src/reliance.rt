@@ -6,12 +6,16 @@ use std::marker::Brand;
 pub trait Trust {
     ghost use Rattle.std.specs.Prelude.{ℕ, Option, List};
     ghost use Rattle.flow_types.specs.declared.plan.Plan.{Plan};
+    ghost use Rattle.run_history.specs.declared.options.Options.{Options};
 
     /// Links are honest, and the files are those of the serial run.
     ghost holds: { Type 0 };
 
     /// The plan of the run.
     ghost plan: { Plan };
+
+    /// What the run goes by.
+    ghost options: { Options };
 
     /// The number of the run.
     ghost run: { ℕ };
@@ -21,11 +25,20 @@ pub trait Trust {
 }
 
 impl Trust for Brand {
-    ghost use Rattle.std.specs.Prelude.{[], None};
+    ghost use Rattle.std.specs.Prelude.{[], None, false};
+    ghost use Rattle.run_history.specs.declared.options.Mode.TheVariants.{Never};
 
     ghost holds = { ⊥ };
 
     ghost plan = { record { rules = []; files = [] } };
+
+    ghost options = { record {
+      mode = Never;
+      limit = None;
+      retries = 0;
+      wq = false;
+      local = record { cores = 0; memory = 0; disk = 0 };
+    } };
 
     ghost run = { 0 };
 

@@ -99,8 +99,8 @@ fn wait_round<W: Wait, F: Commands, S: Site, H: Hall<F>, C: Clock, T: Terms + Tr
     requires valid { IsValid desk.old.plan }
     requires on { IsOn desk.old }
     requires idle { length (running_rules desk.old.plan (records_of desk.old.moves)) ≤ 0 }
-    requires of { IsOf T.trust F.gives T.sources S.tells T.kept T.holds T.plan T.run T.due
-        desk.old.plan (records_of desk.old.moves) }
+    requires of { IsOf T.trust F.gives T.sources S.tells T.kept T.holds T.plan T.options T.run T.due
+        desk.old.plan desk.old.options (records_of desk.old.moves) }
     requires keen { (k : ℕ) → 0 < k → T.keen k → ⊥ }
     requires listens { IsOpen T.holds (H.listens hall.old) (H.honest hall.old) }
     requires seats { AreSeats desk.old.plan desk.old.options desk.old.moves company.old.seats }
@@ -169,9 +169,9 @@ fn go_round<
     requires valid { IsValid desk.old.plan }
     requires on { IsOn desk.old }
     requires idle { length (running_rules desk.old.plan (records_of desk.old.moves)) ≤ 0 }
-    requires of { IsOf T.trust F.gives T.sources S.tells T.kept T.holds T.plan T.run T.due
-        desk.old.plan (records_of desk.old.moves) }
-    requires told { T.trust → TellsJobs T.plan (AllTell R.tells runners.old) T.due }
+    requires of { IsOf T.trust F.gives T.sources S.tells T.kept T.holds T.plan T.options T.run T.due
+        desk.old.plan desk.old.options (records_of desk.old.moves) }
+    requires told { T.trust → TellsJobs T.plan T.options (AllTell R.tells runners.old) T.due }
     requires keen { (k : ℕ) → 0 < k → T.keen k → ⊥ }
     requires listens { IsOpen T.holds (H.listens hall.old) (H.honest hall.old) }
     requires seats { AreSeats desk.old.plan desk.old.options desk.old.moves company.old.seats }
@@ -270,9 +270,9 @@ pub(crate) fn run_all<
     requires valid { IsValid desk.old.plan }
     requires on { IsOn desk.old }
     requires idle { length (running_rules desk.old.plan (records_of desk.old.moves)) ≤ 0 }
-    requires of { IsOf T.trust F.gives T.sources S.tells T.kept T.holds T.plan T.run T.due
-        desk.old.plan (records_of desk.old.moves) }
-    requires told { T.trust → TellsJobs T.plan (AllTell R.tells runners.old) T.due }
+    requires of { IsOf T.trust F.gives T.sources S.tells T.kept T.holds T.plan T.options T.run T.due
+        desk.old.plan desk.old.options (records_of desk.old.moves) }
+    requires told { T.trust → TellsJobs T.plan T.options (AllTell R.tells runners.old) T.due }
     requires keen { (k : ℕ) → 0 < k → T.keen k → ⊥ }
     requires listens { IsOpen T.holds (H.listens hall.old) (H.honest hall.old) }
     requires seats { AreSeats desk.old.plan desk.old.options desk.old.moves company.old.seats }

@@ -51,8 +51,8 @@ fn start_more<B: PoolTerms, W: Wait, F: Commands, S: Site, H: Hall<F>, T: Terms 
     clock: &C,
 ) -> bool
     requires valid { IsValid desk.old.plan }
-    requires of { IsOf T.trust F.gives T.sources S.tells T.kept T.holds T.plan T.run T.due
-        desk.old.plan (records_of desk.old.moves) }
+    requires of { IsOf T.trust F.gives T.sources S.tells T.kept T.holds T.plan T.options T.run T.due
+        desk.old.plan desk.old.options (records_of desk.old.moves) }
     requires keen { (k : ℕ) → 0 < k → T.keen k → ⊥ }
     requires shaped { IsShapedPool B.fits }
     requires listens { IsOpen T.holds (H.listens hall.old) (H.honest hall.old) }
@@ -111,9 +111,9 @@ fn turn<B: PoolTerms, W: Wait, F: Commands, S: Site, H: Hall<F>, T: Terms + Trus
     clock: &C,
 ) -> bool
     requires valid { IsValid desk.old.plan }
-    requires of { IsOf T.trust F.gives T.sources S.tells T.kept T.holds T.plan T.run T.due
-        desk.old.plan (records_of desk.old.moves) }
-    requires told { T.trust → TellsJobs T.plan (ToldOf F.gives F.may_fail B.fits) T.due }
+    requires of { IsOf T.trust F.gives T.sources S.tells T.kept T.holds T.plan T.options T.run T.due
+        desk.old.plan desk.old.options (records_of desk.old.moves) }
+    requires told { T.trust → TellsJobs T.plan T.options (ToldOf F.gives F.may_fail B.fits) T.due }
     requires keen { (k : ℕ) → 0 < k → T.keen k → ⊥ }
     requires shaped { IsShapedPool B.fits }
     requires listens { IsOpen T.holds (H.listens hall.old) (H.honest hall.old) }
@@ -168,9 +168,9 @@ fn wind_down<B: PoolTerms, W: Wait, F: Commands, S: Site, H: Hall<F>, T: Terms +
     clock: &C,
 ) -> bool
     requires valid { IsValid desk.old.plan }
-    requires of { IsOf T.trust F.gives T.sources S.tells T.kept T.holds T.plan T.run T.due
-        desk.old.plan (records_of desk.old.moves) }
-    requires told { T.trust → TellsJobs T.plan (ToldOf F.gives F.may_fail B.fits) T.due }
+    requires of { IsOf T.trust F.gives T.sources S.tells T.kept T.holds T.plan T.options T.run T.due
+        desk.old.plan desk.old.options (records_of desk.old.moves) }
+    requires told { T.trust → TellsJobs T.plan T.options (ToldOf F.gives F.may_fail B.fits) T.due }
     requires keen { (k : ℕ) → 0 < k → T.keen k → ⊥ }
     requires shaped { IsShapedPool B.fits }
     requires listens { IsOpen T.holds (H.listens hall.old) (H.honest hall.old) }
@@ -222,9 +222,9 @@ fn serve<B: PoolTerms, W: Wait, F: Commands, S: Site, H: Hall<F>, T: Terms + Tru
     clock: &C,
 )
     requires valid { IsValid desk.old.plan }
-    requires of { IsOf T.trust F.gives T.sources S.tells T.kept T.holds T.plan T.run T.due
-        desk.old.plan (records_of desk.old.moves) }
-    requires told { T.trust → TellsJobs T.plan (ToldOf F.gives F.may_fail B.fits) T.due }
+    requires of { IsOf T.trust F.gives T.sources S.tells T.kept T.holds T.plan T.options T.run T.due
+        desk.old.plan desk.old.options (records_of desk.old.moves) }
+    requires told { T.trust → TellsJobs T.plan T.options (ToldOf F.gives F.may_fail B.fits) T.due }
     requires keen { (k : ℕ) → 0 < k → T.keen k → ⊥ }
     requires shaped { IsShapedPool B.fits }
     requires listens { IsOpen T.holds (H.listens hall.old) (H.honest hall.old) }
@@ -303,7 +303,7 @@ fn serve_and_close<
     clock: &C,
 ) -> Company<F, H::Way, T>
     requires may { MayServe T.trust F.gives F.may_fail T.sources S.tells T.kept S.files S.may_leave
-        S.moment S.images_since B.fits T.keen T.holds T.plan T.run T.due (H.listens hall.old)
+        S.moment S.images_since B.fits T.keen T.holds T.plan T.options T.run T.due (H.listens hall.old)
         (H.honest hall.old) most desk.old held.old pool.old company.seats }
     ensures served { ServedOn T.trust F.gives F.may_fail T.sources S.tells T.kept S.files
         S.may_leave S.moment S.images_since B.fits (IsIllLink F.gives F.may_fail H.Way.history
@@ -370,9 +370,9 @@ fn serve_beside<
         × (length runners.old ≤ (view token.old).parts) }
     requires runners { Crew (MayReport F.gives F.may_fail R.tells R.sure N.fits) runners.old }
     requires valid { IsValid desk.old.plan }
-    requires of { IsOf T.trust F.gives T.sources S.tells T.kept T.holds T.plan T.run T.due
-        desk.old.plan (records_of desk.old.moves) }
-    requires told { T.trust → TellsJobs T.plan (ToldOf F.gives F.may_fail B.fits) T.due }
+    requires of { IsOf T.trust F.gives T.sources S.tells T.kept T.holds T.plan T.options T.run T.due
+        desk.old.plan desk.old.options (records_of desk.old.moves) }
+    requires told { T.trust → TellsJobs T.plan T.options (ToldOf F.gives F.may_fail B.fits) T.due }
     requires keen { (k : ℕ) → 0 < k → T.keen k → ⊥ }
     requires shaped { IsShapedPool B.fits }
     requires listens { IsOpen T.holds (H.listens hall.old) (H.honest hall.old) }
@@ -423,7 +423,7 @@ fn serve_beside<
         taken,
         &mut |company: Company<F, H::Way, T>, desk: &mut Desk<F, S, T>|
             requires may { MayServe T.trust F.gives F.may_fail T.sources S.tells T.kept S.files
-                S.may_leave S.moment S.images_since B.fits T.keen T.holds T.plan T.run T.due
+                S.may_leave S.moment S.images_since B.fits T.keen T.holds T.plan T.options T.run T.due
                 (H.listens hall.now) (H.honest hall.now) most desk.old held.now pool.now
                 company.seats }
             ensures served { ServedOn T.trust F.gives F.may_fail T.sources S.tells T.kept S.files
@@ -481,9 +481,9 @@ fn serve_in<
     requires valid { IsValid desk.old.plan }
     requires fine { IsFine desk.old.trouble }
     requires idle { length (running_rules desk.old.plan (records_of desk.old.moves)) ≤ 0 }
-    requires of { IsOf T.trust F.gives T.sources S.tells T.kept T.holds T.plan T.run T.due
-        desk.old.plan (records_of desk.old.moves) }
-    requires told { T.trust → TellsJobs T.plan (ToldOf F.gives F.may_fail B.fits) T.due }
+    requires of { IsOf T.trust F.gives T.sources S.tells T.kept T.holds T.plan T.options T.run T.due
+        desk.old.plan desk.old.options (records_of desk.old.moves) }
+    requires told { T.trust → TellsJobs T.plan T.options (ToldOf F.gives F.may_fail B.fits) T.due }
     requires keen { (k : ℕ) → 0 < k → T.keen k → ⊥ }
     requires shaped { IsShapedPool B.fits }
     requires listens { IsOpen T.holds (H.listens hall.old) (H.honest hall.old) }
@@ -554,9 +554,9 @@ pub(crate) fn serve_all<
     requires valid { IsValid desk.old.plan }
     requires fine { IsFine desk.old.trouble }
     requires idle { length (running_rules desk.old.plan (records_of desk.old.moves)) ≤ 0 }
-    requires of { IsOf T.trust F.gives T.sources S.tells T.kept T.holds T.plan T.run T.due
-        desk.old.plan (records_of desk.old.moves) }
-    requires told { T.trust → TellsJobs T.plan (AllTell R.tells runners.old) T.due }
+    requires of { IsOf T.trust F.gives T.sources S.tells T.kept T.holds T.plan T.options T.run T.due
+        desk.old.plan desk.old.options (records_of desk.old.moves) }
+    requires told { T.trust → TellsJobs T.plan T.options (AllTell R.tells runners.old) T.due }
     requires keen { (k : ℕ) → 0 < k → T.keen k → ⊥ }
     requires listens { IsOpen T.holds (H.listens hall.old) (H.honest hall.old) }
     requires seats { AreSeats desk.old.plan desk.old.options desk.old.moves company.old.seats }

@@ -35,8 +35,8 @@ fn look<B: PoolTerms, W: Wait, F: Commands, S: Site, H: Hall<F>, T: Terms + Trus
     clock: &C,
 )
     requires valid { IsValid desk.old.plan }
-    requires of { IsOf T.trust F.gives T.sources S.tells T.kept T.holds T.plan T.run T.due
-        desk.old.plan (records_of desk.old.moves) }
+    requires of { IsOf T.trust F.gives T.sources S.tells T.kept T.holds T.plan T.options T.run T.due
+        desk.old.plan desk.old.options (records_of desk.old.moves) }
     requires keen { (k : ℕ) → 0 < k → T.keen k → ⊥ }
     requires listens { IsOpen T.holds (H.listens hall.old) (H.honest hall.old) }
     requires manned { IsManned T.trust F.gives F.may_fail T.sources S.tells T.kept (IsSurePool B.fits)
@@ -97,8 +97,8 @@ pub(crate) fn wait<
     requires valid { IsValid desk.old.plan }
     requires fine { IsFine desk.old.trouble }
     requires idle { length (running_rules desk.old.plan (records_of desk.old.moves)) ≤ 0 }
-    requires of { IsOf T.trust F.gives T.sources S.tells T.kept T.holds T.plan T.run T.due
-        desk.old.plan (records_of desk.old.moves) }
+    requires of { IsOf T.trust F.gives T.sources S.tells T.kept T.holds T.plan T.options T.run T.due
+        desk.old.plan desk.old.options (records_of desk.old.moves) }
     requires keen { (k : ℕ) → 0 < k → T.keen k → ⊥ }
     requires listens { IsOpen T.holds (H.listens hall.old) (H.honest hall.old) }
     requires seats { AreSeats desk.old.plan desk.old.options desk.old.moves company.old.seats }

@@ -34,8 +34,8 @@ fn hear_at<B: PoolTerms, F: Commands, S: Site, H: Hall<F>, T: Terms + Trust, C: 
     clock: &C,
 ) -> Result<bool, Leave>
     requires valid { IsValid desk.old.plan }
-    requires of { IsOf T.trust F.gives T.sources S.tells T.kept T.holds T.plan T.run T.due
-        desk.old.plan (records_of desk.old.moves) }
+    requires of { IsOf T.trust F.gives T.sources S.tells T.kept T.holds T.plan T.options T.run T.due
+        desk.old.plan desk.old.options (records_of desk.old.moves) }
     requires keen { (k : ℕ) → 0 < k → T.keen k → ⊥ }
     requires manned { IsManned T.trust F.gives F.may_fail T.sources S.tells T.kept (IsSurePool B.fits)
         S.files S.may_leave S.moment S.images_since desk.old held.old company.old.seats }
@@ -76,8 +76,8 @@ fn claim_at<B: PoolTerms, F: Commands, S: Site, H: Hall<F>, T: Terms + Trust, C:
     clock: &C,
 ) -> Result<bool, Leave>
     requires valid { IsValid desk.old.plan }
-    requires of { IsOf T.trust F.gives T.sources S.tells T.kept T.holds T.plan T.run T.due
-        desk.old.plan (records_of desk.old.moves) }
+    requires of { IsOf T.trust F.gives T.sources S.tells T.kept T.holds T.plan T.options T.run T.due
+        desk.old.plan desk.old.options (records_of desk.old.moves) }
     requires keen { (k : ℕ) → 0 < k → T.keen k → ⊥ }
     requires manned { IsManned T.trust F.gives F.may_fail T.sources S.tells T.kept (IsSurePool B.fits)
         S.files S.may_leave S.moment S.images_since desk.old held.old company.old.seats }
@@ -123,8 +123,8 @@ fn visit<B: PoolTerms, F: Commands, S: Site, H: Hall<F>, T: Terms + Trust, C: Cl
     clock: &C,
 ) -> bool
     requires valid { IsValid desk.old.plan }
-    requires of { IsOf T.trust F.gives T.sources S.tells T.kept T.holds T.plan T.run T.due
-        desk.old.plan (records_of desk.old.moves) }
+    requires of { IsOf T.trust F.gives T.sources S.tells T.kept T.holds T.plan T.options T.run T.due
+        desk.old.plan desk.old.options (records_of desk.old.moves) }
     requires keen { (k : ℕ) → 0 < k → T.keen k → ⊥ }
     requires manned { IsManned T.trust F.gives F.may_fail T.sources S.tells T.kept (IsSurePool B.fits)
         S.files S.may_leave S.moment S.images_since desk.old held.old company.old.seats }
@@ -171,8 +171,8 @@ fn ask<B: PoolTerms, F: Commands, S: Site, H: Hall<F>, T: Terms + Trust, C: Cloc
     clock: &C,
 ) -> bool
     requires valid { IsValid desk.old.plan }
-    requires of { IsOf T.trust F.gives T.sources S.tells T.kept T.holds T.plan T.run T.due
-        desk.old.plan (records_of desk.old.moves) }
+    requires of { IsOf T.trust F.gives T.sources S.tells T.kept T.holds T.plan T.options T.run T.due
+        desk.old.plan desk.old.options (records_of desk.old.moves) }
     requires keen { (k : ℕ) → 0 < k → T.keen k → ⊥ }
     requires manned { IsManned T.trust F.gives F.may_fail T.sources S.tells T.kept (IsSurePool B.fits)
         S.files S.may_leave S.moment S.images_since desk.old held.old company.old.seats }
@@ -220,8 +220,8 @@ pub(super) fn visit_all<B: PoolTerms, F: Commands, S: Site, H: Hall<F>, T: Terms
     clock: &C,
 ) -> bool
     requires valid { IsValid desk.old.plan }
-    requires of { IsOf T.trust F.gives T.sources S.tells T.kept T.holds T.plan T.run T.due
-        desk.old.plan (records_of desk.old.moves) }
+    requires of { IsOf T.trust F.gives T.sources S.tells T.kept T.holds T.plan T.options T.run T.due
+        desk.old.plan desk.old.options (records_of desk.old.moves) }
     requires keen { (k : ℕ) → 0 < k → T.keen k → ⊥ }
     requires manned { IsManned T.trust F.gives F.may_fail T.sources S.tells T.kept (IsSurePool B.fits)
         S.files S.may_leave S.moment S.images_since desk.old held.old company.old.seats }
@@ -266,8 +266,8 @@ pub(crate) fn ask_all<B: PoolTerms, F: Commands, S: Site, H: Hall<F>, T: Terms +
     clock: &C,
 ) -> bool
     requires valid { IsValid desk.old.plan }
-    requires of { IsOf T.trust F.gives T.sources S.tells T.kept T.holds T.plan T.run T.due
-        desk.old.plan (records_of desk.old.moves) }
+    requires of { IsOf T.trust F.gives T.sources S.tells T.kept T.holds T.plan T.options T.run T.due
+        desk.old.plan desk.old.options (records_of desk.old.moves) }
     requires keen { (k : ℕ) → 0 < k → T.keen k → ⊥ }
     requires manned { IsManned T.trust F.gives F.may_fail T.sources S.tells T.kept (IsSurePool B.fits)
         S.files S.may_leave S.moment S.images_since desk.old held.old company.old.seats }

@@ -179,8 +179,8 @@ impl<F: Commands, L: Link<F>, T: Terms + Trust> Seat<F, L, T> {
         run: u64,
         file: FileNo,
     ) -> Result<(), Leave>
-        requires of { IsOf T.trust F.gives T.sources S.tells T.kept T.holds T.plan T.run T.due
-            desk.old.plan (records_of desk.old.moves) }
+        requires of { IsOf T.trust F.gives T.sources S.tells T.kept T.holds T.plan T.options T.run T.due
+            desk.old.plan desk.old.options (records_of desk.old.moves) }
         requires at { IsAtSeat T.trust F.gives F.may_fail T.sources S.tells T.kept
             (IsSurePool B.fits) S.files S.may_leave S.moment S.images_since desk.old held.old
             self.old }
@@ -236,8 +236,8 @@ impl<F: Commands, L: Link<F>, T: Terms + Trust> Seat<F, L, T> {
     ) -> Result<(), Leave>
         requires counts { HasCounts (messages.Task task) }
         requires short { length (spelling (messages.Task task)) ≤ most_body }
-        requires of { IsOf T.trust F.gives T.sources S.tells T.kept T.holds T.plan T.run T.due
-            desk.old.plan (records_of desk.old.moves) }
+        requires of { IsOf T.trust F.gives T.sources S.tells T.kept T.holds T.plan T.options T.run T.due
+            desk.old.plan desk.old.options (records_of desk.old.moves) }
         requires asks { IsHeard T.holds L.tells
             → MayAsk T.holds F.gives F.may_fail L.history (IsFair T.holds L.tells L.honest) T.plan T.run T.due self.old task }
         requires at { IsAtSeat T.trust F.gives F.may_fail T.sources S.tells T.kept
@@ -278,8 +278,8 @@ impl<F: Commands, L: Link<F>, T: Terms + Trust> Seat<F, L, T> {
         files: &[FileNo],
     ) -> Result<(), Leave>
         requires valid { IsValid desk.old.plan }
-        requires of { IsOf T.trust F.gives T.sources S.tells T.kept T.holds T.plan T.run T.due
-            desk.old.plan (records_of desk.old.moves) }
+        requires of { IsOf T.trust F.gives T.sources S.tells T.kept T.holds T.plan T.options T.run T.due
+            desk.old.plan desk.old.options (records_of desk.old.moves) }
         requires was { IsHeard T.holds L.tells
             → WasAsked T.holds F.gives F.may_fail L.history (IsFair T.holds L.tells L.honest) T.plan T.run T.due self.old number }
         requires at { IsAtSeat T.trust F.gives F.may_fail T.sources S.tells T.kept
@@ -311,8 +311,8 @@ impl<F: Commands, L: Link<F>, T: Terms + Trust> Seat<F, L, T> {
         number: AttemptNo,
     ) -> Result<(), Leave>
         requires valid { IsValid desk.old.plan }
-        requires of { IsOf T.trust F.gives T.sources S.tells T.kept T.holds T.plan T.run T.due
-            desk.old.plan (records_of desk.old.moves) }
+        requires of { IsOf T.trust F.gives T.sources S.tells T.kept T.holds T.plan T.options T.run T.due
+            desk.old.plan desk.old.options (records_of desk.old.moves) }
         requires opens { IsHeard T.holds L.tells
             → MayOpen T.holds F.gives F.may_fail L.history (IsFair T.holds L.tells L.honest) T.plan T.run T.due self.old number }
         requires fresh { is_open number self.old.peer.session.attempts ≡ false }
@@ -356,8 +356,8 @@ impl<F: Commands, L: Link<F>, T: Terms + Trust> Seat<F, L, T> {
         clock: &C,
     ) -> Result<(), Leave>
         requires valid { IsValid desk.old.plan }
-        requires of { IsOf T.trust F.gives T.sources S.tells T.kept T.holds T.plan T.run T.due
-            desk.old.plan (records_of desk.old.moves) }
+        requires of { IsOf T.trust F.gives T.sources S.tells T.kept T.holds T.plan T.options T.run T.due
+            desk.old.plan desk.old.options (records_of desk.old.moves) }
         requires keen { (k : ℕ) → 0 < k → T.keen k → ⊥ }
         requires fresh { is_open attempt.number self.old.peer.session.attempts ≡ false }
         requires at { IsAtSeat T.trust F.gives F.may_fail T.sources S.tells T.kept
@@ -402,8 +402,8 @@ impl<F: Commands, L: Link<F>, T: Terms + Trust> Seat<F, L, T> {
         clock: &C,
     ) -> Result<bool, Leave>
         requires valid { IsValid desk.old.plan }
-        requires of { IsOf T.trust F.gives T.sources S.tells T.kept T.holds T.plan T.run T.due
-            desk.old.plan (records_of desk.old.moves) }
+        requires of { IsOf T.trust F.gives T.sources S.tells T.kept T.holds T.plan T.options T.run T.due
+            desk.old.plan desk.old.options (records_of desk.old.moves) }
         requires keen { (k : ℕ) → 0 < k → T.keen k → ⊥ }
         requires going { held.old.halt ≡ None }
         requires at { IsAtSeat T.trust F.gives F.may_fail T.sources S.tells T.kept

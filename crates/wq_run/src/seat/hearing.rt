@@ -212,8 +212,8 @@ impl<F: Commands, L: Link<F>, T: Terms + Trust> Seat<F, L, T> {
         clock: &C,
     ) -> Result<bool, Leave>
         requires valid { IsValid desk.old.plan }
-        requires of { IsOf T.trust F.gives T.sources S.tells T.kept T.holds T.plan T.run T.due
-            desk.old.plan (records_of desk.old.moves) }
+        requires of { IsOf T.trust F.gives T.sources S.tells T.kept T.holds T.plan T.options T.run T.due
+            desk.old.plan desk.old.options (records_of desk.old.moves) }
         requires keen { (k : ℕ) → 0 < k → T.keen k → ⊥ }
         requires at { IsAtSeat T.trust F.gives F.may_fail T.sources S.tells T.kept
             (IsSurePool B.fits) S.files S.may_leave S.moment S.images_since desk.old held.old
@@ -289,8 +289,8 @@ impl<F: Commands, L: Link<F>, T: Terms + Trust> Seat<F, L, T> {
         clock: &C,
     ) -> Result<bool, Leave>
         requires valid { IsValid desk.old.plan }
-        requires of { IsOf T.trust F.gives T.sources S.tells T.kept T.holds T.plan T.run T.due
-            desk.old.plan (records_of desk.old.moves) }
+        requires of { IsOf T.trust F.gives T.sources S.tells T.kept T.holds T.plan T.options T.run T.due
+            desk.old.plan desk.old.options (records_of desk.old.moves) }
         requires keen { (k : ℕ) → 0 < k → T.keen k → ⊥ }
         requires at { IsAtSeat T.trust F.gives F.may_fail T.sources S.tells T.kept
             (IsSurePool B.fits) S.files S.may_leave S.moment S.images_since desk.old held.old

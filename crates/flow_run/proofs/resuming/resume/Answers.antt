@@ -36,7 +36,7 @@ returns-in-Ok-clause-contents g c met told H spelled resumable tells image left 
     (subst (λ (s : Contents). g.S.Site.images_since c.recover.new.site g.B.Born.born image ⊎ WasKept (SerialFits g.F.Commands.gives s) c.args.plan c.in-Ok.log.name (length c.in-Ok.history) c.run.result.records (IsCutRun c.run.result.how) image) same
     (c.run.ensures.serial met told
     (subst (λ (s : Contents). IsStanding g.F.Commands.gives s c.args.plan c.in-Ok.log.name c.in-Ok.history (g.S.Site.may_leave c.recover.new.site)) (sym same) (keeping g.S.Site.may_leave g.S.Site.moment g.S.Site.images_since c.args.plan c.args.name c.in-Ok.log.name c.in-Ok.ensures.named.same_name c.in-Ok.history H (c.in-Ok.ensures.exact told H spelled) (g.S.Site.files c.args.site) c.args.site c.recover.new.site (SerialFits g.F.Commands.gives (read_sources c.args.plan (g.S.Site.files c.args.site))) c.requires.apart c.files_spell_one_list.ensures.one ((g.met.S.Site g.world.𝓛 g.world.𝓜 g.world.𝓡 ((λ s x. x), (λ x. x), (λ x. x), λ x. x)).reads_image told c.args.site c.args.name) (c.in-Ok.ensures.answer told) (c.in-Ok.ensures.stands told).at.each (c.recover.ensures.crash told) resumable))
-    (subst (λ (s : Contents). TellsJobs c.args.plan (AllTell g.R.Runner.tells c.args.runners.now) (serial c.args.plan g.F.Commands.gives s)) (sym same) tells) image left))
+    (subst (λ (s : Contents). TellsJobs c.args.plan c.args.options (AllTell g.R.Runner.tells c.args.runners.now) (serial c.args.plan g.F.Commands.gives s)) (sym same) tells) image left))
 
 pub returns-in-Ok-clause-now : goal.returns-in-Ok-clause-now
 returns-in-Ok-clause-now g c told H spelled resumable whole image now =
@@ -110,7 +110,7 @@ returns-in-Ok-clause-completes g c told H spelled resumable tells here fit room 
     let later = c.recover.ensures.later in
     c.run.ensures.completes told
     (subst (λ (s : Contents). IsStanding g.F.Commands.gives s c.args.plan c.in-Ok.log.name c.in-Ok.history (g.S.Site.may_leave c.recover.new.site)) (sym same) (keeping g.S.Site.may_leave g.S.Site.moment g.S.Site.images_since c.args.plan c.args.name c.in-Ok.log.name c.in-Ok.ensures.named.same_name c.in-Ok.history H (c.in-Ok.ensures.exact told H spelled) (g.S.Site.files c.args.site) c.args.site c.recover.new.site (SerialFits g.F.Commands.gives (read_sources c.args.plan (g.S.Site.files c.args.site))) c.requires.apart c.files_spell_one_list.ensures.one ((g.met.S.Site g.world.𝓛 g.world.𝓜 g.world.𝓡 ((λ s x. x), (λ x. x), (λ x. x), λ x. x)).reads_image told c.args.site c.args.name) (c.in-Ok.ensures.answer told) (c.in-Ok.ensures.stands told).at.each (c.recover.ensures.crash told) resumable))
-    (subst (λ (s : Contents). TellsJobs c.args.plan (AllTell g.R.Runner.tells c.args.runners.now) (serial c.args.plan g.F.Commands.gives s)) (sym same) tells) here
+    (subst (λ (s : Contents). TellsJobs c.args.plan c.args.options (AllTell g.R.Runner.tells c.args.runners.now) (serial c.args.plan g.F.Commands.gives s)) (sym same) tells) here
     (subst (λ (s : Contents). SerialInputsFit c.args.plan g.F.Commands.gives s) (sym same) fit) (subst (HasRecordRoom c.args.plan) (sym these) room)
     (fault_joined c.args.plan c.args.options c.in-Ok.history H (g.S.Site.files c.args.site) (g.S.Site.files c.recover.new.site) these
     (λ f. c.recover.ensures.others told (file_name c.args.plan f) (c.requires.apart f)) ∙ free) sure (omega (arith, later, stood))
@@ -135,7 +135,7 @@ returns-in-Ok-clause-honest g c met told H spelled resumable tells =
     (subst (λ (s : Contents). Adds (Unit {0}) g.F.Commands.gives g.F.Commands.may_fail s c.args.plan c.in-Ok.history c.run.result.records) same
     (c.run.ensures.more met told
     (subst (λ (s : Contents). IsStanding g.F.Commands.gives s c.args.plan c.in-Ok.log.name c.in-Ok.history (g.S.Site.may_leave c.recover.new.site)) (sym same) (keeping g.S.Site.may_leave g.S.Site.moment g.S.Site.images_since c.args.plan c.args.name c.in-Ok.log.name c.in-Ok.ensures.named.same_name c.in-Ok.history H (c.in-Ok.ensures.exact told H spelled) (g.S.Site.files c.args.site) c.args.site c.recover.new.site (SerialFits g.F.Commands.gives (read_sources c.args.plan (g.S.Site.files c.args.site))) c.requires.apart c.files_spell_one_list.ensures.one ((g.met.S.Site g.world.𝓛 g.world.𝓜 g.world.𝓡 ((λ s x. x), (λ x. x), (λ x. x), λ x. x)).reads_image told c.args.site c.args.name) (c.in-Ok.ensures.answer told) (c.in-Ok.ensures.stands told).at.each (c.recover.ensures.crash told) resumable))
-    (subst (λ (s : Contents). TellsJobs c.args.plan (AllTell g.R.Runner.tells c.args.runners.now) (serial c.args.plan g.F.Commands.gives s)) (sym same) tells)))
+    (subst (λ (s : Contents). TellsJobs c.args.plan c.args.options (AllTell g.R.Runner.tells c.args.runners.now) (serial c.args.plan g.F.Commands.gives s)) (sym same) tells)))
 
 pub returns-in-Err-clause-unchanged : goal.returns-in-Err-clause-unchanged
 returns-in-Err-clause-unchanged g c told damaged m =
@@ -160,7 +160,7 @@ returns-in-Ok-clause-reaches g c away way honest surely sure few told H spelled 
     let later = c.recover.ensures.later in
     c.run.ensures.reaches away way honest surely sure few told
     (subst (λ (s : Contents). IsStanding g.F.Commands.gives s c.args.plan c.in-Ok.log.name c.in-Ok.history (g.S.Site.may_leave c.recover.new.site)) (sym same) (keeping g.S.Site.may_leave g.S.Site.moment g.S.Site.images_since c.args.plan c.args.name c.in-Ok.log.name c.in-Ok.ensures.named.same_name c.in-Ok.history H (c.in-Ok.ensures.exact told H spelled) (g.S.Site.files c.args.site) c.args.site c.recover.new.site (SerialFits g.F.Commands.gives (read_sources c.args.plan (g.S.Site.files c.args.site))) c.requires.apart c.files_spell_one_list.ensures.one ((g.met.S.Site g.world.𝓛 g.world.𝓜 g.world.𝓡 ((λ s x. x), (λ x. x), (λ x. x), λ x. x)).reads_image told c.args.site c.args.name) (c.in-Ok.ensures.answer told) (c.in-Ok.ensures.stands told).at.each (c.recover.ensures.crash told) resumable))
-    (subst (λ (s : Contents). TellsJobs c.args.plan (AllTell g.R.Runner.tells c.args.runners.now) (serial c.args.plan g.F.Commands.gives s)) (sym same) tells)
+    (subst (λ (s : Contents). TellsJobs c.args.plan c.args.options (AllTell g.R.Runner.tells c.args.runners.now) (serial c.args.plan g.F.Commands.gives s)) (sym same) tells)
     (subst (λ (s : Contents). SerialInputsFit c.args.plan g.F.Commands.gives s) (sym same) fit) (subst (HasRecordRoom c.args.plan) (sym these) room)
     (fault_joined c.args.plan c.args.options c.in-Ok.history H (g.S.Site.files c.args.site) (g.S.Site.files c.recover.new.site) these
     (λ f. c.recover.ensures.others told (file_name c.args.plan f) (c.requires.apart f)) ∙ free) (omega (arith, later, stood)) met
@@ -172,7 +172,7 @@ returns-in-Ok-clause-manned g c away least way honest surely manned sure few onc
     let later = c.recover.ensures.later in
     c.run.ensures.manned away least way honest surely manned sure few once needs told
     (subst (λ (s : Contents). IsStanding g.F.Commands.gives s c.args.plan c.in-Ok.log.name c.in-Ok.history (g.S.Site.may_leave c.recover.new.site)) (sym same) (keeping g.S.Site.may_leave g.S.Site.moment g.S.Site.images_since c.args.plan c.args.name c.in-Ok.log.name c.in-Ok.ensures.named.same_name c.in-Ok.history H (c.in-Ok.ensures.exact told H spelled) (g.S.Site.files c.args.site) c.args.site c.recover.new.site (SerialFits g.F.Commands.gives (read_sources c.args.plan (g.S.Site.files c.args.site))) c.requires.apart c.files_spell_one_list.ensures.one ((g.met.S.Site g.world.𝓛 g.world.𝓜 g.world.𝓡 ((λ s x. x), (λ x. x), (λ x. x), λ x. x)).reads_image told c.args.site c.args.name) (c.in-Ok.ensures.answer told) (c.in-Ok.ensures.stands told).at.each (c.recover.ensures.crash told) resumable))
-    (subst (λ (s : Contents). TellsJobs c.args.plan (AllTell g.R.Runner.tells c.args.runners.now) (serial c.args.plan g.F.Commands.gives s)) (sym same) tells)
+    (subst (λ (s : Contents). TellsJobs c.args.plan c.args.options (AllTell g.R.Runner.tells c.args.runners.now) (serial c.args.plan g.F.Commands.gives s)) (sym same) tells)
     (subst (λ (s : Contents). SerialInputsFit c.args.plan g.F.Commands.gives s) (sym same) fit) (subst (HasRecordRoom c.args.plan) (sym these) room)
     (fault_joined c.args.plan c.args.options c.in-Ok.history H (g.S.Site.files c.args.site) (g.S.Site.files c.recover.new.site) these
     (λ f. c.recover.ensures.others told (file_name c.args.plan f) (c.requires.apart f)) ∙ free) (omega (arith, later, stood)) met

@@ -20,14 +20,14 @@ run_by-requires-clause-kept g c κs within told kept image is =
     trusted_keeps (g.S.Site.tells
     × IsKeeping c.args.plan c.args.log.name c.args.history (g.S.Site.may_leave c.args.site)
     × IsStanding g.F.Commands.gives (read_sources c.args.plan (g.S.Site.files c.args.site)) c.args.plan c.args.log.name c.args.history (g.S.Site.may_leave c.args.site)
-    × TellsJobs c.args.plan (AllTell g.R.Runner.tells c.args.runners.now) (serial c.args.plan g.F.Commands.gives (read_sources c.args.plan (g.S.Site.files c.args.site)))
+    × TellsJobs c.args.plan c.args.options (AllTell g.R.Runner.tells c.args.runners.now) (serial c.args.plan g.F.Commands.gives (read_sources c.args.plan (g.S.Site.files c.args.site)))
     × (c.args.options.wq ≡ true → g.H.Hall.honest c.args.hall.now)) g.F.Commands.gives (read_sources c.args.plan (g.S.Site.files c.args.site)) c.args.plan c.args.log.name c.args.history (g.S.Site.may_leave c.args.site) (λ trusted. trusted.2) kept image is
 
 pub run_by-requires-clause-sources : goal.run_by-requires-clause-sources
 run_by-requires-clause-sources g c κs within told kept trusted empty f is = refl
 
 pub run_by-requires-clause-relied : goal.run_by-requires-clause-relied
-run_by-requires-clause-relied g c κs within = record { relies = λ trusted. trusted; trusts = λ trusted. trusted; plan_is = refl; run_is = refl; due_is = refl }
+run_by-requires-clause-relied g c κs within = record { relies = λ trusted. trusted; trusts = λ trusted. trusted; plan_is = refl; options_is = refl; run_is = refl; due_is = refl }
 
 pub run_by-requires-clause-honest : goal.run_by-requires-clause-honest
 run_by-requires-clause-honest g c κs within trusted = trusted.4
@@ -43,7 +43,7 @@ returns-clause-kept g c told keeping image left =
     was_fits (Fits (g.S.Site.tells
     × IsKeeping c.args.plan c.args.log.name c.args.history (g.S.Site.may_leave c.args.site)
     × IsStanding g.F.Commands.gives (read_sources c.args.plan (g.S.Site.files c.args.site)) c.args.plan c.args.log.name c.args.history (g.S.Site.may_leave c.args.site)
-    × TellsJobs c.args.plan (AllTell g.R.Runner.tells c.args.runners.now) (serial c.args.plan g.F.Commands.gives (read_sources c.args.plan (g.S.Site.files c.args.site)))
+    × TellsJobs c.args.plan c.args.options (AllTell g.R.Runner.tells c.args.runners.now) (serial c.args.plan g.F.Commands.gives (read_sources c.args.plan (g.S.Site.files c.args.site)))
     × (c.args.options.wq ≡ true → g.H.Hall.honest c.args.hall.now)) g.F.Commands.gives (read_sources c.args.plan (g.S.Site.files c.args.site))) Held c.args.plan c.args.log.name (λ f content file fit. fit.0) (g.S.Site.images_since c.args.site g.B.Born.born image) (length c.args.history) c.run_by.result.records (IsCutRun c.run_by.result.how) image
     (c.run_by.ensures.kept told keeping image left)
 
@@ -52,7 +52,7 @@ returns-clause-now g c told keeping whole image now =
     keeps_fits (Fits (g.S.Site.tells
     × IsKeeping c.args.plan c.args.log.name c.args.history (g.S.Site.may_leave c.args.site)
     × IsStanding g.F.Commands.gives (read_sources c.args.plan (g.S.Site.files c.args.site)) c.args.plan c.args.log.name c.args.history (g.S.Site.may_leave c.args.site)
-    × TellsJobs c.args.plan (AllTell g.R.Runner.tells c.args.runners.now) (serial c.args.plan g.F.Commands.gives (read_sources c.args.plan (g.S.Site.files c.args.site)))
+    × TellsJobs c.args.plan c.args.options (AllTell g.R.Runner.tells c.args.runners.now) (serial c.args.plan g.F.Commands.gives (read_sources c.args.plan (g.S.Site.files c.args.site)))
     × (c.args.options.wq ≡ true → g.H.Hall.honest c.args.hall.now)) g.F.Commands.gives (read_sources c.args.plan (g.S.Site.files c.args.site))) Held c.args.plan c.args.log.name (λ f content file fit. fit.0) c.run_by.result.records image (c.run_by.ensures.now told keeping whole image now)
 
 pub returns-clause-serial : goal.returns-clause-serial
@@ -61,7 +61,7 @@ returns-clause-serial g c honest told standing tells image left =
     was_fits (Fits (g.S.Site.tells
     × IsKeeping c.args.plan c.args.log.name c.args.history (g.S.Site.may_leave c.args.site)
     × IsStanding g.F.Commands.gives (read_sources c.args.plan (g.S.Site.files c.args.site)) c.args.plan c.args.log.name c.args.history (g.S.Site.may_leave c.args.site)
-    × TellsJobs c.args.plan (AllTell g.R.Runner.tells c.args.runners.now) (serial c.args.plan g.F.Commands.gives (read_sources c.args.plan (g.S.Site.files c.args.site)))
+    × TellsJobs c.args.plan c.args.options (AllTell g.R.Runner.tells c.args.runners.now) (serial c.args.plan g.F.Commands.gives (read_sources c.args.plan (g.S.Site.files c.args.site)))
     × (c.args.options.wq ≡ true → g.H.Hall.honest c.args.hall.now)) g.F.Commands.gives (read_sources c.args.plan (g.S.Site.files c.args.site))) (SerialFits g.F.Commands.gives (read_sources c.args.plan (g.S.Site.files c.args.site))) c.args.plan c.args.log.name (λ f content file fit. (fit.0, fit.1 (told, keeping, standing, tells, honest))) (g.S.Site.images_since c.args.site g.B.Born.born image)
     (length c.args.history) c.run_by.result.records (IsCutRun c.run_by.result.how) image (c.run_by.ensures.kept told keeping image left)
 
@@ -70,7 +70,7 @@ returns-clause-more g c honest told standing tells =
     adds_always (g.S.Site.tells
     × IsKeeping c.args.plan c.args.log.name c.args.history (g.S.Site.may_leave c.args.site)
     × IsStanding g.F.Commands.gives (read_sources c.args.plan (g.S.Site.files c.args.site)) c.args.plan c.args.log.name c.args.history (g.S.Site.may_leave c.args.site)
-    × TellsJobs c.args.plan (AllTell g.R.Runner.tells c.args.runners.now) (serial c.args.plan g.F.Commands.gives (read_sources c.args.plan (g.S.Site.files c.args.site)))
+    × TellsJobs c.args.plan c.args.options (AllTell g.R.Runner.tells c.args.runners.now) (serial c.args.plan g.F.Commands.gives (read_sources c.args.plan (g.S.Site.files c.args.site)))
     × (c.args.options.wq ≡ true → g.H.Hall.honest c.args.hall.now)) g.F.Commands.gives g.F.Commands.may_fail (read_sources c.args.plan (g.S.Site.files c.args.site)) c.args.plan c.args.history c.run_by.result.records (told, standing_keeps g.F.Commands.gives (read_sources c.args.plan (g.S.Site.files c.args.site)) c.args.plan c.args.log.name c.args.history (g.S.Site.may_leave c.args.site) standing, standing, tells, honest) c.run_by.ensures.more
 
 pub returns-clause-grows : goal.returns-clause-grows

@@ -12,7 +12,7 @@ ghosts-run_by-T-Terms g a = record {
   trust = g.S.Site.tells
       × IsKeeping a.plan a.log.name a.history (g.S.Site.may_leave a.site)
       × IsStanding g.F.Commands.gives (read_sources a.plan (g.S.Site.files a.site)) a.plan a.log.name a.history (g.S.Site.may_leave a.site)
-      × TellsJobs a.plan (AllTell g.R.Runner.tells a.runners.now) (serial a.plan g.F.Commands.gives (read_sources a.plan (g.S.Site.files a.site)))
+      × TellsJobs a.plan a.options (AllTell g.R.Runner.tells a.runners.now) (serial a.plan g.F.Commands.gives (read_sources a.plan (g.S.Site.files a.site)))
       × (a.options.wq ≡ true → g.H.Hall.honest a.hall.now);
   sources = read_sources a.plan (g.S.Site.files a.site);
   keen = λ link. link ≡ 0;
@@ -27,9 +27,10 @@ ghosts-run_by-T-Trust g a = record {
   holds = g.S.Site.tells
       × IsKeeping a.plan a.log.name a.history (g.S.Site.may_leave a.site)
       × IsStanding g.F.Commands.gives (read_sources a.plan (g.S.Site.files a.site)) a.plan a.log.name a.history (g.S.Site.may_leave a.site)
-      × TellsJobs a.plan (AllTell g.R.Runner.tells a.runners.now) (serial a.plan g.F.Commands.gives (read_sources a.plan (g.S.Site.files a.site)))
+      × TellsJobs a.plan a.options (AllTell g.R.Runner.tells a.runners.now) (serial a.plan g.F.Commands.gives (read_sources a.plan (g.S.Site.files a.site)))
       × (a.options.wq ≡ true → g.H.Hall.honest a.hall.now);
   plan = a.plan;
+  options = a.options;
   run = next_run a.history;
   due = serial a.plan g.F.Commands.gives (read_sources a.plan (g.S.Site.files a.site));
 }

@@ -51,19 +51,25 @@ run_desk-requires-clause-idle g c κs within = (begun g.S.Site.count c.args.plan
 
 pub run_desk-requires-clause-of : goal.run_desk-requires-clause-of
 run_desk-requires-clause-of g c κs within =
-    of_begun (g.S.Site.count c.args.site) g.T.Terms.trust g.F.Commands.gives g.F.Commands.may_fail g.T.Terms.sources g.S.Site.tells g.T.Terms.kept g.T.Trust.holds g.T.Trust.plan g.T.Trust.run g.T.Trust.due c.args.plan c.args.options c.args.log.name c.args.history c.in-Ok.desk
+    of_begun (g.S.Site.count c.args.site) g.T.Terms.trust g.F.Commands.gives g.F.Commands.may_fail g.T.Terms.sources g.S.Site.tells g.T.Terms.kept g.T.Trust.holds g.T.Trust.plan g.T.Trust.options g.T.Trust.run g.T.Trust.due c.args.plan c.args.options c.args.log.name c.args.history c.in-Ok.desk
     (begun g.S.Site.count c.args.plan c.args.options c.args.log.name c.args.history c.now.result g.S.Site.tells (g.S.Site.files c.args.site) c.args.site g.F.Commands.may_fail (serial c.args.plan g.F.Commands.gives g.T.Terms.sources) c.in-Ok.desk c.in-Ok.ensures.reply)
     (λ trusted. ((c.requires.base trusted).0, (c.requires.base trusted).1)) c.requires.relied
 
 pub run_desk-requires-clause-told : goal.run_desk-requires-clause-told
 run_desk-requires-clause-told g c κs within trusted =
-    subst (λ (P : Plan). TellsJobs P (AllTell g.R.Runner.tells c.args.runners.now) g.T.Trust.due) c.requires.relied.plan_is
-    (subst (λ (due : Contents). TellsJobs c.args.plan (AllTell g.R.Runner.tells c.args.runners.now) due) c.requires.relied.due_is (c.requires.base trusted).2)
+    subst (λ (P : Plan). TellsJobs P g.T.Trust.options (AllTell g.R.Runner.tells c.args.runners.now) g.T.Trust.due) c.requires.relied.plan_is
+    (subst (λ (O : Options). TellsJobs c.args.plan O (AllTell g.R.Runner.tells c.args.runners.now) g.T.Trust.due) c.requires.relied.options_is
+    (subst (λ (due : Contents). TellsJobs c.args.plan c.args.options (AllTell g.R.Runner.tells c.args.runners.now) due) c.requires.relied.due_is (c.requires.base trusted).2))
 
 pub run_desk-requires-clause-base : goal.run_desk-requires-clause-base
 run_desk-requires-clause-base g c κs within trusted =
     let base = c.requires.base trusted in
-    (base.0, base.1, subst (λ (P : Plan). TellsJobs P (AllTell g.R.Runner.tells c.args.runners.now) (serial P g.F.Commands.gives g.T.Terms.sources)) (sym (begun g.S.Site.count c.args.plan c.args.options c.args.log.name c.args.history c.now.result g.S.Site.tells (g.S.Site.files c.args.site) c.args.site g.F.Commands.may_fail (serial c.args.plan g.F.Commands.gives g.T.Terms.sources) c.in-Ok.desk c.in-Ok.ensures.reply).plan) base.2)
+    let b = begun g.S.Site.count c.args.plan c.args.options c.args.log.name c.args.history c.now.result g.S.Site.tells (g.S.Site.files c.args.site) c.args.site g.F.Commands.may_fail (serial c.args.plan g.F.Commands.gives g.T.Terms.sources) c.in-Ok.desk c.in-Ok.ensures.reply in (
+      base.0,
+      base.1,
+      subst (λ (P : Plan). TellsJobs P c.in-Ok.desk.options (AllTell g.R.Runner.tells c.args.runners.now) (serial P g.F.Commands.gives g.T.Terms.sources)) (sym b.plan)
+          (subst (λ (O : Options). TellsJobs c.args.plan O (AllTell g.R.Runner.tells c.args.runners.now) (serial c.args.plan g.F.Commands.gives g.T.Terms.sources)) (sym b.options) base.2),
+    )
 
 pub returns-in-Ok-clause-more : goal.returns-in-Ok-clause-more
 returns-in-Ok-clause-more g c = adds_more (g.S.Site.count c.args.site) g.T.Terms.trust g.F.Commands.gives g.F.Commands.may_fail g.T.Terms.sources c.args.plan c.args.options c.args.log.name c.args.history c.run_desk.result.records c.in-Ok.desk (begun g.S.Site.count c.args.plan c.args.options c.args.log.name c.args.history c.now.result g.S.Site.tells (g.S.Site.files c.args.site) c.args.site g.F.Commands.may_fail (serial c.args.plan g.F.Commands.gives g.T.Terms.sources) c.in-Ok.desk c.in-Ok.ensures.reply) c.run_desk.ensures.more

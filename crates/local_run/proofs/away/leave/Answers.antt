@@ -14,7 +14,7 @@ leave-requires-clause-idle g c κs within =
     let d = c.args.desk.now in
     let h = c.requires.none in
     let u = h.7 in
-    none_there d.plan (IsFine d.trouble) d.moves g.T.Terms.trust (serial d.plan g.F.Commands.gives g.T.Terms.sources) h.2 h.3 h.0.attempts c.args.link.0 c.requires.fine c.requires.apart u.matches u.here u.beyond h.6 (let few = u.all c.requires.fine in omega (arith, few))
+    none_there h.1.plan h.1.options d.plan (IsFine d.trouble) d.moves g.T.Terms.trust (serial d.plan g.F.Commands.gives g.T.Terms.sources) h.2 h.3 h.0.attempts c.args.link.0 c.requires.fine c.requires.apart u.matches u.here u.beyond h.6 (let few = u.all c.requires.fine in omega (arith, few))
 
 pub returns-clause-underway : goal.returns-clause-underway
 returns-clause-underway g c away first held waiting loose heard halt u =

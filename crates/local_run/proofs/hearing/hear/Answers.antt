@@ -3,7 +3,7 @@ use Rattle.flow_types.specs.declared.numbers.AttemptNo.{AttemptNo}
 use Rattle.worker_pool.specs.Pools.{PoolState}
 use Rattle.local_run.specs.declared.halt.Halt.{Halt}
 use Rattle.local_run.specs.Underway.{HeldState, IsHeld, IsSurePool, halt_after}
-use Rattle.local_run.proofs.HeldClosed.{outcome_at, same_under, start_held, taken_is, taken_out}
+use Rattle.local_run.proofs.HeldClosed.{outcome_at, same_under, start_held, taken_is, taken_may, taken_out}
 use Rattle.local_run.proofs.hearing.hear.Goals as goal
 
 pub take-attempt-requires : goal.take-attempt-requires
@@ -27,8 +27,9 @@ close-requires-clause-outcome g c κs within =
     let t = c.in-Some.ensures.some in
     let u = c.requires.underway in
     let h = c.take-attempt.ensures.attempts in
-    outcome_at c.args.desk.now.plan g.F.Commands.gives g.F.Commands.may_fail g.T.Terms.sources g.T.Terms.trust g.B.Terms.fits c.take-attempt.result.rule.0 t.0.job c.in-Some.report.outcome
+    outcome_at c.args.desk.now.plan c.args.desk.now.options g.F.Commands.gives g.F.Commands.may_fail g.T.Terms.sources g.T.Terms.trust g.B.Terms.fits c.take-attempt.result.rule.0 t.0.job c.in-Some.report.outcome
     (taken_is g.T.Terms.trust g.F.Commands.gives g.F.Commands.may_fail g.T.Terms.sources g.S.Site.tells g.T.Terms.kept (IsSurePool g.B.Terms.fits) g.S.Site.files g.S.Site.may_leave g.S.Site.moment g.S.Site.images_since u.0 u.1 c.args.desk.now c.args.held.now.attempts c.args.pool.now.waiting c.args.pool.now.heard c.args.held.now.halt h.0 c.take-attempt.result h.1 t.1.0 t.0 t.1.1 h.2 t.1.2 (c.take-attempt.ensures.number ∙ sym t.2) u.2).job
+    (taken_may g.T.Terms.trust g.F.Commands.gives g.F.Commands.may_fail g.T.Terms.sources g.S.Site.tells g.T.Terms.kept (IsSurePool g.B.Terms.fits) g.S.Site.files g.S.Site.may_leave g.S.Site.moment g.S.Site.images_since u.0 u.1 c.args.desk.now c.args.held.now.attempts c.args.pool.now.waiting None c.args.pool.now.heard c.args.held.now.halt h.0 c.take-attempt.result h.1 h.2 u.2)
     t.3 c.requires.shaped c.requires.told
 
 pub returns-in-Err-clause-underway : goal.returns-in-Err-clause-underway

@@ -7,7 +7,7 @@ use Rattle.local_run.specs.declared.halt.Halt.{Halt}
 use Rattle.local_run.specs.Jobs.{halt_by}
 use Rattle.local_run.specs.Underway.{HeldState, IsSurePool, MayStop}
 use Rattle.local_run.proofs.GivenBegun.{job_at, reads_on, refused_on, refused_stops}
-use Rattle.local_run.proofs.StandsBegun.{Under, holds_on, may_want}
+use Rattle.local_run.proofs.StandsBegun.{Under, holds_on, may_first, may_want}
 use Rattle.local_run.proofs.next.begin.Goals as goal
 
 pub returns-in-Err-clause-underway : goal.returns-in-Err-clause-underway
@@ -38,7 +38,7 @@ returns-in-Ok-hold-clause-underway g c away first u =
     subst (λ (p : PoolState). Under g.T.Terms.trust g.F.Commands.gives g.F.Commands.may_fail g.T.Terms.sources g.S.Site.tells g.T.Terms.kept (IsSurePool g.B.Terms.fits) g.S.Site.files g.S.Site.may_leave g.S.Site.moment g.S.Site.images_since away first mid c.hold.new.self.attempts p.waiting None p.heard c.hold.new.self.halt) (sym c.give.ensures)
     (subst (λ (h : HeldState). Under g.T.Terms.trust g.F.Commands.gives g.F.Commands.may_fail g.T.Terms.sources g.S.Site.tells g.T.Terms.kept (IsSurePool g.B.Terms.fits) g.S.Site.files g.S.Site.may_leave g.S.Site.moment g.S.Site.images_since away first mid h.attempts (waiting ++ (start ∷ [])) None heard h.halt) (sym c.in-Ok-hold.ensures.held)
     (subst (λ (halt : Option Halt). Under g.T.Terms.trust g.F.Commands.gives g.F.Commands.may_fail g.T.Terms.sources g.S.Site.tells g.T.Terms.kept (IsSurePool g.B.Terms.fits) g.S.Site.files g.S.Site.may_leave g.S.Site.moment g.S.Site.images_since away first mid (held ++ (a ∷ [])) (waiting ++ (start ∷ [])) None heard halt) (sym c.requires.going)
-    (holds_on g.T.Terms.trust g.F.Commands.gives g.F.Commands.may_fail g.T.Terms.sources g.S.Site.tells g.T.Terms.kept (IsSurePool g.B.Terms.fits) g.S.Site.files g.S.Site.may_leave g.S.Site.moment g.S.Site.images_since away first mid held waiting a heard None start c.requires.here (sym c.number-number.ensures) job read)))
+    (holds_on g.T.Terms.trust g.F.Commands.gives g.F.Commands.may_fail g.T.Terms.sources g.S.Site.tells g.T.Terms.kept (IsSurePool g.B.Terms.fits) g.S.Site.files g.S.Site.may_leave g.S.Site.moment g.S.Site.images_since away first mid held waiting a heard None start c.requires.here (may_first g.T.Terms.trust g.F.Commands.gives g.F.Commands.may_fail g.T.Terms.sources g.S.Site.tells g.T.Terms.kept (IsSurePool g.B.Terms.fits) g.S.Site.files g.S.Site.may_leave g.S.Site.moment g.S.Site.images_since away first d held waiting (Some a) heard None a.rule.0 u c.requires.placed) (sym c.number-number.ensures) job read)))
 
 pub returns-in-Err-hold-clause-underway : goal.returns-in-Err-hold-clause-underway
 returns-in-Err-hold-clause-underway g c away first u =

@@ -1,7 +1,9 @@
-use Rattle.std.proofs.Common.{Err, List, None, Ok, Option, refl, subst, sym, ap, arith, length}
+use Rattle.std.proofs.Common.{◌≡◌, true, Err, List, None, Ok, Option, refl, subst, sym, ap, arith, length}
 use Rattle.flow_types.specs.declared.numbers.LinkNo.{LinkNo}
+use Rattle.flow_types.specs.declared.plan.Plan.{Plan}
 use Rattle.run_history.specs.declared.moves.Move.{Move}
-use Rattle.run_history.specs.Links.{records_of}
+use Rattle.run_history.specs.declared.options.Options.{Options}
+use Rattle.run_history.specs.Links.{may_run_on, records_of}
 use Rattle.desk.specs.declared.answers.Claim.{Claim}
 use Rattle.desk.specs.declared.answers.Claim.TheVariants as claims
 use Rattle.desk.specs.declared.answers.ClaimRefused.{ClaimRefused}
@@ -29,6 +31,16 @@ pub begin-requires-clause-here : goal.begin-requires-clause-here
 begin-requires-clause-here g c κs within =
     let reply = subst (λ (w : Claim). Claims g.S.Site.count c.args.desk.now (record { 0 = 0 }) c.now.result (Ok w) c.claim.new.self) c.in-Ok-Taken.field-0-is c.in-Ok-Taken.ensures.reply in
     ap (λ (k : LinkNo). k.0) reply.2.2
+
+pub begin-requires-clause-placed : goal.begin-requires-clause-placed
+begin-requires-clause-placed g c κs within =
+    let d = c.args.desk.now in
+    let after = c.claim.new.self in
+    let reply = subst (λ (w : Claim). Claims g.S.Site.count d (record { 0 = 0 }) c.now.result (Ok w) after) c.in-Ok-Taken.field-0-is c.in-Ok-Taken.ensures.reply in
+    let is = begun g.S.Site.count d after c.in-Ok-Taken.attempt (record { 0 = 0 }) c.now.result c.works-works.ensures.opened c.works-works.ensures.legal refl reply in
+    subst (λ (P : Plan). may_run_on P after.options c.in-Ok-Taken.attempt.rule.0 0 ≡ true) (sym is.plan)
+    (subst (λ (O : Options). may_run_on d.plan O c.in-Ok-Taken.attempt.rule.0 0 ≡ true) (sym is.options)
+    (subst (λ (l : LinkNo). may_run_on d.plan d.options c.in-Ok-Taken.attempt.rule.0 l.0 ≡ true) reply.2.2 is.placed))
 
 pub begin-requires-clause-underway : goal.begin-requires-clause-underway
 begin-requires-clause-underway g c κs within =

@@ -2,6 +2,7 @@ use Rattle.std.proofs.Common.{◌∙◌, None, subst, sym}
 use Rattle.flow_types.specs.declared.plan.Plan.{Plan}
 use Rattle.flow_types.specs.Plans.{IsValid}
 use Rattle.flow_types.specs.Serial.{serial}
+use Rattle.run_history.specs.declared.options.Options.{Options}
 use Rattle.local_run.specs.Course.{TellsJobs}
 use Rattle.local_run.specs.Underway.{HeldState, IsSurePool, ToldOf}
 use Rattle.local_run.proofs.StandsBegun.{Under, wants_on}
@@ -38,7 +39,8 @@ pub hear-requires-clause-told : goal.hear-requires-clause-told
 hear-requires-clause-told g c κs within =
     let began = c.requires.underway.2 in
     let now = c.go_on.ensures.underway c.requires.underway.0 c.requires.underway.1 (c.loop.invariant.underway c.requires.underway.0 c.requires.underway.1 began) in
-    subst (λ (Q : Plan). g.T.Terms.trust → TellsJobs Q (ToldOf g.F.Commands.gives g.F.Commands.may_fail g.B.Terms.fits) (serial Q g.F.Commands.gives g.T.Terms.sources)) (sym (now.goes.plan ∙ sym began.goes.plan)) c.requires.told
+    subst (λ (Q : Plan). g.T.Terms.trust → TellsJobs Q c.go_on.new.desk.options (ToldOf g.F.Commands.gives g.F.Commands.may_fail g.B.Terms.fits) (serial Q g.F.Commands.gives g.T.Terms.sources)) (sym (now.goes.plan ∙ sym began.goes.plan))
+    (subst (λ (O : Options). g.T.Terms.trust → TellsJobs c.args.desk.now.plan O (ToldOf g.F.Commands.gives g.F.Commands.may_fail g.B.Terms.fits) (serial c.args.desk.now.plan g.F.Commands.gives g.T.Terms.sources)) (sym (now.goes.options ∙ sym began.goes.options)) c.requires.told)
 
 pub hear-requires-clause-underway : goal.hear-requires-clause-underway
 hear-requires-clause-underway g c κs within = (c.requires.underway.0, c.requires.underway.1, c.go_on.ensures.underway c.requires.underway.0 c.requires.underway.1 (c.loop.invariant.underway c.requires.underway.0 c.requires.underway.1 c.requires.underway.2))

@@ -17,7 +17,7 @@ pub serve_in-requires-clause-base : goal.serve_in-requires-clause-base
 serve_in-requires-clause-base g c κs lives trusted = let base = c.requires.base trusted in (base.0, base.1)
 
 pub serve_in-requires-clause-told : goal.serve_in-requires-clause-told
-serve_in-requires-clause-told g c κs lives trusted r row is outcome fits = fits.0.1 (trusted, (c.requires.base trusted).2 r row is)
+serve_in-requires-clause-told g c κs lives trusted r row is may outcome fits = fits.0.1 (trusted, (c.requires.base trusted).2 r row is may)
 
 pub returns-in_default : goal.returns-in_default
 returns-in_default g c = record {

@@ -16,7 +16,7 @@ call_beside-requires-clause-takes g c κs within y same = (
     (
       c.requires.base,
       (
-        subst (λ (d : DeskState g.row.S.Denot). g.T.Terms.trust → TellsJobs d.plan (ToldOf g.F.Commands.gives g.F.Commands.may_fail g.B.Terms.fits) (serial d.plan g.F.Commands.gives g.T.Terms.sources)) (sym same) c.requires.told,
+        subst (λ (d : DeskState g.row.S.Denot). g.T.Terms.trust → TellsJobs d.plan d.options (ToldOf g.F.Commands.gives g.F.Commands.may_fail g.B.Terms.fits) (serial d.plan g.F.Commands.gives g.T.Terms.sources)) (sym same) c.requires.told,
         (
           (
             c.requires.underway.0,

@@ -125,8 +125,8 @@ wait_round-requires-clause-valid g c κs within = subst (λ (x : DeskState g.row
 
 pub wait_round-requires-clause-of : goal.wait_round-requires-clause-of
 wait_round-requires-clause-of g c κs within =
-    subst (λ (x : DeskState g.row.S.Denot). IsOf g.T.Terms.trust g.F.Commands.gives g.T.Terms.sources g.S.Site.tells g.T.Terms.kept g.T.Trust.holds g.T.Trust.plan g.T.Trust.run g.T.Trust.due x.plan (records_of x.moves)) (sym (none_same g.S.Site.tells g.T.Terms.kept g.S.Site.files c.serve_all.new.desk c.end.new.desk c.in-Ok-None.field-0 c.in-Ok-None.field-0-is c.in-Ok-None.ensures.ended.ends))
-    (of_then g.T.Terms.trust g.F.Commands.gives g.F.Commands.may_fail g.T.Terms.sources g.S.Site.tells g.T.Terms.kept (Unit {0}) g.S.Site.files g.S.Site.may_leave g.S.Site.moment g.S.Site.images_since g.T.Trust.holds g.T.Trust.plan g.T.Trust.run g.T.Trust.due c.in-Ok.ensures.came.links c.args.desk.now c.serve_all.new.desk c.in-Ok.ensures.came.goes c.requires.of)
+    subst (λ (x : DeskState g.row.S.Denot). IsOf g.T.Terms.trust g.F.Commands.gives g.T.Terms.sources g.S.Site.tells g.T.Terms.kept g.T.Trust.holds g.T.Trust.plan g.T.Trust.options g.T.Trust.run g.T.Trust.due x.plan x.options (records_of x.moves)) (sym (none_same g.S.Site.tells g.T.Terms.kept g.S.Site.files c.serve_all.new.desk c.end.new.desk c.in-Ok-None.field-0 c.in-Ok-None.field-0-is c.in-Ok-None.ensures.ended.ends))
+    (of_then g.T.Terms.trust g.F.Commands.gives g.F.Commands.may_fail g.T.Terms.sources g.S.Site.tells g.T.Terms.kept (Unit {0}) g.S.Site.files g.S.Site.may_leave g.S.Site.moment g.S.Site.images_since g.T.Trust.holds g.T.Trust.plan g.T.Trust.options g.T.Trust.run g.T.Trust.due c.in-Ok.ensures.came.links c.args.desk.now c.serve_all.new.desk c.in-Ok.ensures.came.goes c.requires.of)
 
 pub wait_round-requires-clause-on : goal.wait_round-requires-clause-on
 wait_round-requires-clause-on g c κs within = subst (λ (x : DeskState g.row.S.Denot). IsOn x) (sym (none_same g.S.Site.tells g.T.Terms.kept g.S.Site.files c.serve_all.new.desk c.end.new.desk c.in-Ok-None.field-0 c.in-Ok-None.field-0-is c.in-Ok-None.ensures.ended.ends)) (is_on g.T.Terms.trust g.F.Commands.gives g.F.Commands.may_fail g.T.Terms.sources g.S.Site.tells g.T.Terms.kept g.S.Site.files g.S.Site.may_leave g.S.Site.moment g.S.Site.images_since (AllSure g.R.Runner.sure c.args.runners.now) c.args.desk.now c.serve_all.new.desk (sum_by g.R.Runner.count c.args.runners.now) (sum_by g.R.Runner.count c.serve_all.new.runners) (sum_by g.R.Runner.failures c.args.runners.now) (sum_by g.R.Runner.failures c.serve_all.new.runners) c.in-Ok.ensures.came c.requires.on)

@@ -43,7 +43,7 @@ pub go_round-requires-clause-valid : goal.go_round-requires-clause-valid
 go_round-requires-clause-valid g c κs within = c.loop.invariant.stands.valid
 
 pub go_round-requires-clause-of : goal.go_round-requires-clause-of
-go_round-requires-clause-of g c κs within = of_then g.T.Terms.trust g.F.Commands.gives g.F.Commands.may_fail g.T.Terms.sources g.S.Site.tells g.T.Terms.kept (Unit {0}) g.S.Site.files g.S.Site.may_leave g.S.Site.moment g.S.Site.images_since g.T.Trust.holds g.T.Trust.plan g.T.Trust.run g.T.Trust.due c.loop.invariant.stands.links c.args.desk.now c.loop.desk c.loop.invariant.stands.goes c.requires.of
+go_round-requires-clause-of g c κs within = of_then g.T.Terms.trust g.F.Commands.gives g.F.Commands.may_fail g.T.Terms.sources g.S.Site.tells g.T.Terms.kept (Unit {0}) g.S.Site.files g.S.Site.may_leave g.S.Site.moment g.S.Site.images_since g.T.Trust.holds g.T.Trust.plan g.T.Trust.options g.T.Trust.run g.T.Trust.due c.loop.invariant.stands.links c.args.desk.now c.loop.desk c.loop.invariant.stands.goes c.requires.of
 
 pub go_round-requires-clause-on : goal.go_round-requires-clause-on
 go_round-requires-clause-on g c κs within = c.loop.invariant.stands.on
@@ -85,7 +85,7 @@ loop-preserved g c =
       some = search rules;
       stands = stands_then g.T.Terms.trust g.F.Commands.gives g.F.Commands.may_fail g.T.Terms.sources g.S.Site.tells g.T.Terms.kept g.S.Site.files g.S.Site.may_leave g.S.Site.moment g.S.Site.images_since (AllSure g.R.Runner.sure c.loop.runners) c.args.limit c.args.desk.now c.loop.desk c.go_round.new.desk (sum_by g.R.Runner.count c.args.runners.now) (sum_by g.R.Runner.count c.loop.runners) (sum_by g.R.Runner.count c.go_round.new.runners) (sum_by g.R.Runner.failures c.args.runners.now) (sum_by g.R.Runner.failures c.loop.runners) (sum_by g.R.Runner.failures c.go_round.new.runners) (g.H.Hall.count c.args.hall.now) (g.H.Hall.count c.go_round.new.hall) (g.H.Hall.idle_count c.loop.hall) (g.H.Hall.idle_count c.go_round.new.hall) (Ok turns.Again) c.loop.invariant.stands r r.turn;
       sure = λ is. c.go_round.ensures.sure (c.loop.invariant.sure is);
-      told = λ trusted r row is. c.go_round.ensures.tells _ (c.loop.invariant.told trusted r row is);
+      told = λ trusted r row is may. c.go_round.ensures.tells _ (c.loop.invariant.told trusted r row is may);
       listens = c.go_round.ensures.listens;
       seats = c.go_round.ensures.seats;
       none = c.go_round.ensures.none;
@@ -106,7 +106,7 @@ loop-preserved-else-stop g c =
       some = search rules;
       stands = subst (λ (x : DeskState g.row.S.Denot). Stands g.T.Terms.trust g.F.Commands.gives g.F.Commands.may_fail g.T.Terms.sources g.S.Site.tells g.T.Terms.kept g.S.Site.files g.S.Site.may_leave g.S.Site.moment g.S.Site.images_since c.args.desk.now x (sum_by g.R.Runner.count c.args.runners.now) (sum_by g.R.Runner.count c.go_round.new.runners) (sum_by g.R.Runner.failures c.args.runners.now) (sum_by g.R.Runner.failures c.go_round.new.runners)) (sym same) (stands_then g.T.Terms.trust g.F.Commands.gives g.F.Commands.may_fail g.T.Terms.sources g.S.Site.tells g.T.Terms.kept g.S.Site.files g.S.Site.may_leave g.S.Site.moment g.S.Site.images_since (AllSure g.R.Runner.sure c.loop.runners) c.args.limit c.args.desk.now c.loop.desk c.go_round.new.desk (sum_by g.R.Runner.count c.args.runners.now) (sum_by g.R.Runner.count c.loop.runners) (sum_by g.R.Runner.count c.go_round.new.runners) (sum_by g.R.Runner.failures c.args.runners.now) (sum_by g.R.Runner.failures c.loop.runners) (sum_by g.R.Runner.failures c.go_round.new.runners) (g.H.Hall.count c.args.hall.now) (g.H.Hall.count c.go_round.new.hall) (g.H.Hall.idle_count c.loop.hall) (g.H.Hall.idle_count c.go_round.new.hall) (Ok (turns.Vain c.in-Ok-Vain.idles)) c.loop.invariant.stands r on);
       sure = λ is. c.go_round.ensures.sure (c.loop.invariant.sure is);
-      told = λ trusted r row is. c.go_round.ensures.tells _ (c.loop.invariant.told trusted r row is);
+      told = λ trusted r row is may. c.go_round.ensures.tells _ (c.loop.invariant.told trusted r row is may);
       listens = c.go_round.ensures.listens;
       seats = subst (λ (x : DeskState g.row.S.Denot). AreSeats x.plan x.options x.moves c.go_round.new.company.seats) (sym same) c.go_round.ensures.seats;
       none = c.go_round.ensures.none;

@@ -16,7 +16,7 @@ invariant-loop g l = record {
   some : 0 < length l.runners;
   stands : Stands g.T.Terms.trust g.F.Commands.gives g.F.Commands.may_fail g.T.Terms.sources g.S.Site.tells g.T.Terms.kept g.S.Site.files g.S.Site.may_leave g.S.Site.moment g.S.Site.images_since l.fn.desk l.desk (sum_by g.R.Runner.count l.fn.runners) (sum_by g.R.Runner.count l.runners) (sum_by g.R.Runner.failures l.fn.runners) (sum_by g.R.Runner.failures l.runners);
   sure : AllSure g.R.Runner.sure l.fn.runners → AllSure g.R.Runner.sure l.runners;
-  told : g.T.Terms.trust → TellsJobs g.T.Trust.plan (AllTell g.R.Runner.tells l.runners) g.T.Trust.due;
+  told : g.T.Terms.trust → TellsJobs g.T.Trust.plan g.T.Trust.options (AllTell g.R.Runner.tells l.runners) g.T.Trust.due;
   listens : IsOpen g.T.Trust.holds (g.H.Hall.listens l.hall) (g.H.Hall.honest l.hall);
   seats : AreSeats l.desk.plan l.desk.options l.desk.moves l.company.seats;
   none : gathered l.company.seats ≡ [];

@@ -38,7 +38,7 @@ pub wind_down-requires-clause-of : goal.wind_down-requires-clause-of
 wind_down-requires-clause-of g c κs within =
     let m = c.requires.served.manned in
     let n = c.loop.invariant.served c.requires.served.first m in
-    of_goes g.T.Terms.trust g.F.Commands.gives g.F.Commands.may_fail g.T.Terms.sources g.S.Site.tells g.T.Terms.kept (IsSurePool g.B.Terms.fits) g.S.Site.files g.S.Site.may_leave g.S.Site.moment g.S.Site.images_since g.T.Trust.holds g.T.Trust.plan g.T.Trust.run g.T.Trust.due m.away.links n.away.links c.requires.served.first c.args.desk.now c.loop.desk m.under.goes n.under.goes c.requires.of
+    of_goes g.T.Terms.trust g.F.Commands.gives g.F.Commands.may_fail g.T.Terms.sources g.S.Site.tells g.T.Terms.kept (IsSurePool g.B.Terms.fits) g.S.Site.files g.S.Site.may_leave g.S.Site.moment g.S.Site.images_since g.T.Trust.holds g.T.Trust.plan g.T.Trust.options g.T.Trust.run g.T.Trust.due m.away.links n.away.links c.requires.served.first c.args.desk.now c.loop.desk m.under.goes n.under.goes c.requires.of
 
 pub wind_down-requires-clause-served : goal.wind_down-requires-clause-served
 wind_down-requires-clause-served g c κs within =
@@ -56,7 +56,7 @@ pub turn-requires-clause-of : goal.turn-requires-clause-of
 turn-requires-clause-of g c κs within =
     let m = c.requires.served.manned in
     let n = c.loop.invariant.served c.requires.served.first m in
-    of_goes g.T.Terms.trust g.F.Commands.gives g.F.Commands.may_fail g.T.Terms.sources g.S.Site.tells g.T.Terms.kept (IsSurePool g.B.Terms.fits) g.S.Site.files g.S.Site.may_leave g.S.Site.moment g.S.Site.images_since g.T.Trust.holds g.T.Trust.plan g.T.Trust.run g.T.Trust.due m.away.links n.away.links c.requires.served.first c.args.desk.now c.loop.desk m.under.goes n.under.goes c.requires.of
+    of_goes g.T.Terms.trust g.F.Commands.gives g.F.Commands.may_fail g.T.Terms.sources g.S.Site.tells g.T.Terms.kept (IsSurePool g.B.Terms.fits) g.S.Site.files g.S.Site.may_leave g.S.Site.moment g.S.Site.images_since g.T.Trust.holds g.T.Trust.plan g.T.Trust.options g.T.Trust.run g.T.Trust.due m.away.links n.away.links c.requires.served.first c.args.desk.now c.loop.desk m.under.goes n.under.goes c.requires.of
 
 pub turn-requires-clause-served : goal.turn-requires-clause-served
 turn-requires-clause-served g c κs within =

@@ -18,7 +18,7 @@ pub serve_in-requires-clause-shaped : goal.serve_in-requires-clause-shaped
 serve_in-requires-clause-shaped g c κs lives job outcome fits = fits.0.0
 
 pub serve_in-requires-clause-told : goal.serve_in-requires-clause-told
-serve_in-requires-clause-told g c κs lives trusted r row is outcome fits = fits.0.1 (trusted, c.requires.told trusted r row is)
+serve_in-requires-clause-told g c κs lives trusted r row is may outcome fits = fits.0.1 (trusted, c.requires.told trusted r row is may)
 
 pub returns-in_default : goal.returns-in_default
 returns-in_default g c = record {

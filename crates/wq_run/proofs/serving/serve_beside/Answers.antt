@@ -13,7 +13,7 @@ use Rattle.wq_run.proofs.serving.serve_beside.Goals as goal
 
 pub call_with_beside-back-requires-clause-takes : goal.call_with_beside-back-requires-clause-takes
 call_with_beside-back-requires-clause-takes g c κs within y same = (
-  may_serve_at g.T.Terms.trust g.F.Commands.gives g.F.Commands.may_fail g.T.Terms.sources g.S.Site.tells g.T.Terms.kept g.S.Site.files g.S.Site.may_leave g.S.Site.moment g.S.Site.images_since g.B.Terms.fits g.T.Terms.keen g.T.Trust.holds g.T.Trust.plan g.T.Trust.run g.T.Trust.due
+  may_serve_at g.T.Terms.trust g.F.Commands.gives g.F.Commands.may_fail g.T.Terms.sources g.S.Site.tells g.T.Terms.kept g.S.Site.files g.S.Site.may_leave g.S.Site.moment g.S.Site.images_since g.B.Terms.fits g.T.Terms.keen g.T.Trust.holds g.T.Trust.plan g.T.Trust.options g.T.Trust.run g.T.Trust.due
       (g.H.Hall.listens c.args.hall.now) (g.H.Hall.honest c.args.hall.now) _ c.args.desk.now y.now c.args.held.now c.args.pool.now c.args.company.now _ (sym same) (sym c.replace-taken.ensures.value)
       (record {
         valid = c.requires.valid;

@@ -26,7 +26,7 @@ pub ask_all-requires-clause-of : goal.ask_all-requires-clause-of
 ask_all-requires-clause-of g c κs within =
     let m = c.requires.served.manned in
     let n = manned_on g.T.Terms.trust g.F.Commands.gives g.F.Commands.may_fail g.T.Terms.sources g.S.Site.tells g.T.Terms.kept (IsSurePool g.B.Terms.fits) g.S.Site.files g.S.Site.may_leave g.S.Site.moment g.S.Site.images_since c.requires.served.first c.args.desk.now c.go_on.new.desk c.args.held.now c.go_on.new.held c.args.pool.now.waiting c.go_on.new.pool.waiting c.args.pool.now.heard c.go_on.new.pool.heard c.args.company.now.seats m (c.go_on.ensures.underway m.away c.requires.served.first m.under) in
-    of_goes g.T.Terms.trust g.F.Commands.gives g.F.Commands.may_fail g.T.Terms.sources g.S.Site.tells g.T.Terms.kept (IsSurePool g.B.Terms.fits) g.S.Site.files g.S.Site.may_leave g.S.Site.moment g.S.Site.images_since g.T.Trust.holds g.T.Trust.plan g.T.Trust.run g.T.Trust.due m.away.links n.away.links c.requires.served.first c.args.desk.now c.go_on.new.desk m.under.goes n.under.goes c.requires.of
+    of_goes g.T.Terms.trust g.F.Commands.gives g.F.Commands.may_fail g.T.Terms.sources g.S.Site.tells g.T.Terms.kept (IsSurePool g.B.Terms.fits) g.S.Site.files g.S.Site.may_leave g.S.Site.moment g.S.Site.images_since g.T.Trust.holds g.T.Trust.plan g.T.Trust.options g.T.Trust.run g.T.Trust.due m.away.links n.away.links c.requires.served.first c.args.desk.now c.go_on.new.desk m.under.goes n.under.goes c.requires.of
 
 pub ask_all-requires-clause-manned : goal.ask_all-requires-clause-manned
 ask_all-requires-clause-manned g c κs within =

@@ -21,7 +21,7 @@ pub hear-requires-clause-told : goal.hear-requires-clause-told
 hear-requires-clause-told g c κs within =
     let m = c.requires.served.manned in
     let n = c.start_more.ensures.served c.requires.served.first m in
-    told_by c.start_more.new.desk.plan (records_of c.start_more.new.desk.moves) (ToldOf g.F.Commands.gives g.F.Commands.may_fail g.B.Terms.fits) (of_goes g.T.Terms.trust g.F.Commands.gives g.F.Commands.may_fail g.T.Terms.sources g.S.Site.tells g.T.Terms.kept (IsSurePool g.B.Terms.fits) g.S.Site.files g.S.Site.may_leave g.S.Site.moment g.S.Site.images_since g.T.Trust.holds g.T.Trust.plan g.T.Trust.run g.T.Trust.due m.away.links n.away.links c.requires.served.first c.args.desk.now c.start_more.new.desk m.under.goes n.under.goes c.requires.of) c.requires.told
+    told_by c.start_more.new.desk.plan c.start_more.new.desk.options (records_of c.start_more.new.desk.moves) (ToldOf g.F.Commands.gives g.F.Commands.may_fail g.B.Terms.fits) (of_goes g.T.Terms.trust g.F.Commands.gives g.F.Commands.may_fail g.T.Terms.sources g.S.Site.tells g.T.Terms.kept (IsSurePool g.B.Terms.fits) g.S.Site.files g.S.Site.may_leave g.S.Site.moment g.S.Site.images_since g.T.Trust.holds g.T.Trust.plan g.T.Trust.options g.T.Trust.run g.T.Trust.due m.away.links n.away.links c.requires.served.first c.args.desk.now c.start_more.new.desk m.under.goes n.under.goes c.requires.of) c.requires.told
 
 pub hear-requires-clause-underway : goal.hear-requires-clause-underway
 hear-requires-clause-underway g c κs within =
@@ -41,7 +41,7 @@ round-requires-clause-of g c κs within =
     let m = c.requires.served.manned in
     let s = c.start_more.ensures.served c.requires.served.first m in
     let n = manned_on g.T.Terms.trust g.F.Commands.gives g.F.Commands.may_fail g.T.Terms.sources g.S.Site.tells g.T.Terms.kept (IsSurePool g.B.Terms.fits) g.S.Site.files g.S.Site.may_leave g.S.Site.moment g.S.Site.images_since c.requires.served.first c.start_more.new.desk c.hear.new.desk c.start_more.new.held c.hear.new.held c.start_more.new.pool.waiting c.hear.new.pool.waiting c.start_more.new.pool.heard c.hear.new.pool.heard c.start_more.new.company.seats s (c.hear.ensures.underway s.away c.requires.served.first s.under) in
-    of_goes g.T.Terms.trust g.F.Commands.gives g.F.Commands.may_fail g.T.Terms.sources g.S.Site.tells g.T.Terms.kept (IsSurePool g.B.Terms.fits) g.S.Site.files g.S.Site.may_leave g.S.Site.moment g.S.Site.images_since g.T.Trust.holds g.T.Trust.plan g.T.Trust.run g.T.Trust.due m.away.links n.away.links c.requires.served.first c.args.desk.now c.hear.new.desk m.under.goes n.under.goes c.requires.of
+    of_goes g.T.Terms.trust g.F.Commands.gives g.F.Commands.may_fail g.T.Terms.sources g.S.Site.tells g.T.Terms.kept (IsSurePool g.B.Terms.fits) g.S.Site.files g.S.Site.may_leave g.S.Site.moment g.S.Site.images_since g.T.Trust.holds g.T.Trust.plan g.T.Trust.options g.T.Trust.run g.T.Trust.due m.away.links n.away.links c.requires.served.first c.args.desk.now c.hear.new.desk m.under.goes n.under.goes c.requires.of
 
 pub round-requires-clause-manned : goal.round-requires-clause-manned
 round-requires-clause-manned g c κs within =

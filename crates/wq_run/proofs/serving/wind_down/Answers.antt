@@ -20,7 +20,7 @@ pub hear-requires-clause-told : goal.hear-requires-clause-told
 hear-requires-clause-told g c κs within =
     let m = c.requires.served.manned in
     let n = c.dismiss.ensures.manned c.requires.served.first c.args.pool.now.waiting c.args.pool.now.heard m in
-    told_by c.dismiss.new.desk.plan (records_of c.dismiss.new.desk.moves) (ToldOf g.F.Commands.gives g.F.Commands.may_fail g.B.Terms.fits) (of_goes g.T.Terms.trust g.F.Commands.gives g.F.Commands.may_fail g.T.Terms.sources g.S.Site.tells g.T.Terms.kept (IsSurePool g.B.Terms.fits) g.S.Site.files g.S.Site.may_leave g.S.Site.moment g.S.Site.images_since g.T.Trust.holds g.T.Trust.plan g.T.Trust.run g.T.Trust.due m.away.links n.away.links c.requires.served.first c.args.desk.now c.dismiss.new.desk m.under.goes n.under.goes c.requires.of) c.requires.told
+    told_by c.dismiss.new.desk.plan c.dismiss.new.desk.options (records_of c.dismiss.new.desk.moves) (ToldOf g.F.Commands.gives g.F.Commands.may_fail g.B.Terms.fits) (of_goes g.T.Terms.trust g.F.Commands.gives g.F.Commands.may_fail g.T.Terms.sources g.S.Site.tells g.T.Terms.kept (IsSurePool g.B.Terms.fits) g.S.Site.files g.S.Site.may_leave g.S.Site.moment g.S.Site.images_since g.T.Trust.holds g.T.Trust.plan g.T.Trust.options g.T.Trust.run g.T.Trust.due m.away.links n.away.links c.requires.served.first c.args.desk.now c.dismiss.new.desk m.under.goes n.under.goes c.requires.of) c.requires.told
 
 pub hear-requires-clause-underway : goal.hear-requires-clause-underway
 hear-requires-clause-underway g c κs within =

@@ -26,7 +26,7 @@ pub round-requires-clause-of : goal.round-requires-clause-of
 round-requires-clause-of g c κs within =
     let m = c.requires.manned.manned in
     let n = c.loop.invariant.manned c.requires.manned.first c.requires.manned.waiting c.requires.manned.heard m in
-    of_goes g.T.Terms.trust g.F.Commands.gives g.F.Commands.may_fail g.T.Terms.sources g.S.Site.tells g.T.Terms.kept (IsSurePool g.B.Terms.fits) g.S.Site.files g.S.Site.may_leave g.S.Site.moment g.S.Site.images_since g.T.Trust.holds g.T.Trust.plan g.T.Trust.run g.T.Trust.due m.away.links n.away.links c.requires.manned.first c.args.desk.now c.loop.desk m.under.goes n.under.goes c.requires.of
+    of_goes g.T.Terms.trust g.F.Commands.gives g.F.Commands.may_fail g.T.Terms.sources g.S.Site.tells g.T.Terms.kept (IsSurePool g.B.Terms.fits) g.S.Site.files g.S.Site.may_leave g.S.Site.moment g.S.Site.images_since g.T.Trust.holds g.T.Trust.plan g.T.Trust.options g.T.Trust.run g.T.Trust.due m.away.links n.away.links c.requires.manned.first c.args.desk.now c.loop.desk m.under.goes n.under.goes c.requires.of
 
 pub round-requires-clause-manned : goal.round-requires-clause-manned
 round-requires-clause-manned g c κs within =

@@ -18,7 +18,7 @@ pub visit-requires-clause-valid : goal.visit-requires-clause-valid
 visit-requires-clause-valid g c κs within = valid_then c.requires.manned c.loop-at.invariant.manned c.requires.valid
 
 pub visit-requires-clause-of : goal.visit-requires-clause-of
-visit-requires-clause-of g c κs within = of_manned g.T.Terms.trust g.F.Commands.gives g.F.Commands.may_fail g.T.Terms.sources g.S.Site.tells g.T.Terms.kept (IsSurePool g.B.Terms.fits) g.S.Site.files g.S.Site.may_leave g.S.Site.moment g.S.Site.images_since g.T.Trust.holds g.T.Trust.plan g.T.Trust.run g.T.Trust.due c.args.desk.now c.loop-at.desk c.args.held.now c.loop-at.held c.args.company.now.seats c.loop-at.company.seats c.requires.manned c.loop-at.invariant.manned c.requires.of
+visit-requires-clause-of g c κs within = of_manned g.T.Terms.trust g.F.Commands.gives g.F.Commands.may_fail g.T.Terms.sources g.S.Site.tells g.T.Terms.kept (IsSurePool g.B.Terms.fits) g.S.Site.files g.S.Site.may_leave g.S.Site.moment g.S.Site.images_since g.T.Trust.holds g.T.Trust.plan g.T.Trust.options g.T.Trust.run g.T.Trust.due c.args.desk.now c.loop-at.desk c.args.held.now c.loop-at.held c.args.company.now.seats c.loop-at.company.seats c.requires.manned c.loop-at.invariant.manned c.requires.of
 
 pub visit-requires-clause-manned : goal.visit-requires-clause-manned
 visit-requires-clause-manned g c κs within = is_then c.requires.manned c.loop-at.invariant.manned

@@ -33,7 +33,7 @@ pub hand_out-requires-clause-of : goal.hand_out-requires-clause-of
 hand_out-requires-clause-of g c κs within =
     let is = c.requires.at in
     let next = (begins_by g.T.Terms.trust g.F.Commands.gives g.F.Commands.may_fail g.T.Terms.sources g.S.Site.tells g.T.Terms.kept (IsSurePool g.B.Terms.fits) g.S.Site.files g.S.Site.may_leave g.S.Site.moment g.S.Site.images_since c.args.desk.now c.claim_away.new.desk c.args.held.now c.in-Ok-Taken.attempt c.claim_away.result c.requires.going (c.in-Ok-Taken.is ∙ ap (λ (x : Claim). let r : Result Claim Halt = Ok x in r) c.in-Ok-Taken.field-0-is) (λ away front back first xs waiting heard are u. c.claim_away.ensures.underway away front back first xs waiting heard are u)) is.at.away (is.front ++ c.args.self.now.attempts) is.back is.first is.waiting is.heard (is.at.are ∙ sym (append_assoc is.front c.args.self.now.attempts is.back)) is.at.under in
-    of_goes g.T.Terms.trust g.F.Commands.gives g.F.Commands.may_fail g.T.Terms.sources g.S.Site.tells g.T.Terms.kept (IsSurePool g.B.Terms.fits) g.S.Site.files g.S.Site.may_leave g.S.Site.moment g.S.Site.images_since g.T.Trust.holds g.T.Trust.plan g.T.Trust.run g.T.Trust.due is.at.away.links is.at.away.links is.first c.args.desk.now c.claim_away.new.desk is.at.under.goes next.goes c.requires.of
+    of_goes g.T.Terms.trust g.F.Commands.gives g.F.Commands.may_fail g.T.Terms.sources g.S.Site.tells g.T.Terms.kept (IsSurePool g.B.Terms.fits) g.S.Site.files g.S.Site.may_leave g.S.Site.moment g.S.Site.images_since g.T.Trust.holds g.T.Trust.plan g.T.Trust.options g.T.Trust.run g.T.Trust.due is.at.away.links is.at.away.links is.first c.args.desk.now c.claim_away.new.desk is.at.under.goes next.goes c.requires.of
 
 pub hand_out-requires-clause-fresh : goal.hand_out-requires-clause-fresh
 hand_out-requires-clause-fresh g c κs within =

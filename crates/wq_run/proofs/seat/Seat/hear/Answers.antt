@@ -163,12 +163,12 @@ put_again-requires-clause-at g c κs within = at_then g.T.Terms.trust g.F.Comman
 
 pub close-requires-clause-honest : goal.close-requires-clause-honest
 close-requires-clause-honest g c κs within =
-    due_by g.F.Commands.may_fail c.args.desk.now.plan (records_of c.args.desk.now.moves) c.in-Ok-Finish.attempt (outcomes.Success c.in-Ok-Finish.outs) c.next.new.self.attempts c.requires.of
+    due_by g.F.Commands.may_fail c.args.desk.now.plan c.args.desk.now.options (records_of c.args.desk.now.moves) c.in-Ok-Finish.attempt (outcomes.Success c.in-Ok-Finish.outs) c.next.new.self.attempts c.requires.of
     (λ held. subst (λ (x : Told). TellsDue g.T.Trust.holds g.F.Commands.gives g.F.Commands.may_fail g.L.Link.history (IsFair g.T.Trust.holds g.L.Link.tells g.L.Link.honest) g.T.Trust.plan g.T.Trust.run g.T.Trust.due c.next.new.self x) c.in-Ok-Finish.field-0-is (c.in-Ok-Finish.ensures.due (inr held)) held)
 
 pub close-requires-in-Ok-Fail-clause-honest : goal.close-requires-in-Ok-Fail-clause-honest
 close-requires-in-Ok-Fail-clause-honest g c κs within =
-    due_by g.F.Commands.may_fail c.args.desk.now.plan (records_of c.args.desk.now.moves) c.in-Ok-Fail.attempt (outcomes.Failed c.in-Ok-Fail.why) c.next.new.self.attempts c.requires.of
+    due_by g.F.Commands.may_fail c.args.desk.now.plan c.args.desk.now.options (records_of c.args.desk.now.moves) c.in-Ok-Fail.attempt (outcomes.Failed c.in-Ok-Fail.why) c.next.new.self.attempts c.requires.of
     (λ held. subst (λ (x : Told). TellsDue g.T.Trust.holds g.F.Commands.gives g.F.Commands.may_fail g.L.Link.history (IsFair g.T.Trust.holds g.L.Link.tells g.L.Link.honest) g.T.Trust.plan g.T.Trust.run g.T.Trust.due c.next.new.self x) c.in-Ok-Fail.field-0-is (c.in-Ok-Fail.ensures.due (inr held)) held)
 
 pub close-requires-in-Ok-Lose-clause-honest : goal.close-requires-in-Ok-Lose-clause-honest

@@ -17,8 +17,8 @@ task-requires-clause-inside g c κs within =
 pub provide-requires-clause-asks : goal.provide-requires-clause-asks
 provide-requires-clause-asks g c κs within held =
     let of = c.in-Some.ensures.of in
-    again_asks g.T.Trust.holds g.F.Commands.gives g.F.Commands.may_fail g.L.Link.history (IsFair g.T.Trust.holds g.L.Link.tells g.L.Link.honest) g.T.Trust.plan g.T.Trust.run g.T.Trust.due c.args.self.now c.args.number of.0 of.1 of.2 c.in-Some.task of.3 of.4 (alone_at g.T.Terms.trust g.F.Commands.gives g.F.Commands.may_fail g.T.Terms.sources g.S.Site.tells g.T.Terms.kept (IsSurePool g.B.Terms.fits) g.S.Site.files g.S.Site.may_leave g.S.Site.moment g.S.Site.images_since g.T.Trust.holds g.T.Trust.plan g.T.Trust.run g.T.Trust.due c.args.desk.now c.args.held.now c.args.self.now of.0 of.1 of.2 of.3 c.requires.at)
-    (own_by c.args.desk.now.plan (records_of c.args.desk.now.moves) of.1 c.in-Some.task c.requires.of of.5) (c.requires.was held)
+    again_asks g.T.Trust.holds g.F.Commands.gives g.F.Commands.may_fail g.L.Link.history (IsFair g.T.Trust.holds g.L.Link.tells g.L.Link.honest) g.T.Trust.plan g.T.Trust.run g.T.Trust.due c.args.self.now c.args.number of.0 of.1 of.2 c.in-Some.task of.3 of.4 (alone_at g.T.Terms.trust g.F.Commands.gives g.F.Commands.may_fail g.T.Terms.sources g.S.Site.tells g.T.Terms.kept (IsSurePool g.B.Terms.fits) g.S.Site.files g.S.Site.may_leave g.S.Site.moment g.S.Site.images_since g.T.Trust.holds g.T.Trust.plan g.T.Trust.options g.T.Trust.run g.T.Trust.due c.args.desk.now c.args.held.now c.args.self.now of.0 of.1 of.2 of.3 c.requires.at)
+    (own_by c.args.desk.now.plan c.args.desk.now.options (records_of c.args.desk.now.moves) of.1 c.in-Some.task c.requires.of of.5) (c.requires.was held)
 
 pub returns-in-None : goal.returns-in-None
 returns-in-None g c = record {

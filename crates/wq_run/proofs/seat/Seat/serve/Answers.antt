@@ -33,7 +33,7 @@ hear-requires-clause-valid g c κs within =
     subst IsValid (sym (plan_kept g.T.Terms.trust g.F.Commands.gives g.F.Commands.may_fail g.T.Terms.sources g.S.Site.tells g.T.Terms.kept (IsSurePool g.B.Terms.fits) g.S.Site.files g.S.Site.may_leave g.S.Site.moment g.S.Site.images_since c.args.desk.now c.loop.desk c.args.held.now c.loop.held c.args.self.now c.loop.self c.requires.at c.loop.invariant.keeps)) c.requires.valid
 
 pub hear-requires-clause-of : goal.hear-requires-clause-of
-hear-requires-clause-of g c κs within = of_seat g.T.Terms.trust g.F.Commands.gives g.F.Commands.may_fail g.T.Terms.sources g.S.Site.tells g.T.Terms.kept (IsSurePool g.B.Terms.fits) g.S.Site.files g.S.Site.may_leave g.S.Site.moment g.S.Site.images_since g.T.Trust.holds g.T.Trust.plan g.T.Trust.run g.T.Trust.due c.args.desk.now c.loop.desk c.args.held.now c.loop.held c.args.self.now c.loop.self c.requires.at c.loop.invariant.keeps c.requires.of
+hear-requires-clause-of g c κs within = of_seat g.T.Terms.trust g.F.Commands.gives g.F.Commands.may_fail g.T.Terms.sources g.S.Site.tells g.T.Terms.kept (IsSurePool g.B.Terms.fits) g.S.Site.files g.S.Site.may_leave g.S.Site.moment g.S.Site.images_since g.T.Trust.holds g.T.Trust.plan g.T.Trust.options g.T.Trust.run g.T.Trust.due c.args.desk.now c.loop.desk c.args.held.now c.loop.held c.args.self.now c.loop.self c.requires.at c.loop.invariant.keeps c.requires.of
 
 pub hear-requires-clause-at : goal.hear-requires-clause-at
 hear-requires-clause-at g c κs within = at_then g.T.Terms.trust g.F.Commands.gives g.F.Commands.may_fail g.T.Terms.sources g.S.Site.tells g.T.Terms.kept (IsSurePool g.B.Terms.fits) g.S.Site.files g.S.Site.may_leave g.S.Site.moment g.S.Site.images_since c.args.desk.now c.loop.desk c.args.held.now c.loop.held c.args.self.now c.loop.self c.requires.at c.loop.invariant.keeps
