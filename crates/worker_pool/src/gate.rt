@@ -6,6 +6,9 @@ use flow_types::Job;
 pub trait Gate: Send + Sync + Drop {
     /// Comes back once the job may be run.
     fn pass(&self, job: &Job);
+
+    /// Its report has been put, and may be heard.
+    fn reported(&self) {}
 }
 
 /// Each job passes at once.

@@ -74,6 +74,7 @@ pub fn work_one<B: Terms, F: Commands, W: Wait, R: Runner<F>, G: Gate>(
             ticket,
         },
     );
+    gate.reported();
     Ok(())
 }
 
