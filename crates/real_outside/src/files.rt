@@ -2,7 +2,7 @@
 //! none waits at a pipe.
 ghost use Rattle.std.specs.Prelude.{◌≤◌, length, IfOk};
 
-use std::fs::{File, OpenFile};
+use std::fs::{File, Metadata, OpenFile};
 use std::io::{ErrorKind, Read, Seek, SeekFrom, Write};
 use std::rt::Files;
 use std::{fs, io};
@@ -12,27 +12,27 @@ pub fn is_absent(kind: ErrorKind) -> bool {
     kind == ErrorKind::NotFound || kind == ErrorKind::NotADirectory
 }
 
-/// The length of the file, None where nothing has the name. What is no regular file is an error.
-pub fn file_len<R: Files>(rt: &R, path: &str) -> io::Result<Option<u64>> {
+/// What the system tells of the file, None where nothing has the name. What is no regular file is
+/// an error.
+pub fn regular<R: Files>(rt: &R, path: &str) -> io::Result<Option<Metadata>> {
     match fs::metadata(rt, path) {
-        Ok(data) if data.is_file() => Ok(Some(data.len())),
+        Ok(data) if data.is_file() => Ok(Some(data)),
         Ok(_) => Err(io::Error::from(ErrorKind::InvalidInput)),
         Err(e) if is_absent(e.kind()) => Ok(None),
         Err(e) => Err(e),
     }
 }
 
-/// Fills from the bytes that begin at `at`, as far as the file goes. An absent file has no bytes.
-pub fn read_from<R: Files>(rt: &R, path: &str, at: u64, into: &mut [u8]) -> io::Result<usize>
-    ensures { IfOk result (λ count. count ≤ length into.new) }
-{
-    if file_len(rt, path)?.is_none() {
-        return Ok(0);
+/// The length of the file, None where nothing has the name. What is no regular file is an error.
+pub fn file_len<R: Files>(rt: &R, path: &str) -> io::Result<Option<u64>> {
+    match regular(rt, path)? {
+        Some(data) => Ok(Some(data.len())),
+        None => Ok(None),
     }
-    read_seen(rt, path, at, into)
 }
 
-/// As [`read_from`], where a regular file was just seen.
+/// Fills from the bytes that begin at `at`, as far as the file goes, where a regular file was just
+/// seen.
 pub fn read_seen<R: Files>(rt: &R, path: &str, at: u64, into: &mut [u8]) -> io::Result<usize>
     ensures { IfOk result (λ count. count ≤ length into.new) }
 {
@@ -91,11 +91,8 @@ pub fn set_len<R: Files>(rt: &R, path: &str, len: u64) -> io::Result<()> {
     file.set_len(len)
 }
 
-/// Syncs the file, where it is there.
-pub fn sync_file<R: Files>(rt: &R, path: &str) -> io::Result<()> {
-    if file_len(rt, path)?.is_none() {
-        return Ok(());
-    }
+/// Syncs the file, where a regular one was just seen.
+pub fn sync_seen<R: Files>(rt: &R, path: &str) -> io::Result<()> {
     fs::open(rt, path)?.sync_all()
 }
 
@@ -123,13 +120,14 @@ pub fn folder_of(path: &str) -> (&str, &str) {
 }
 
 /// Syncs a folder, and tells whether it is there.
-pub fn sync_folder<R: Files>(rt: &R, folder: &str) -> io::Result<bool> {
-    match fs::metadata(rt, folder) {
-        Ok(data) if data.is_dir() => {
-            fs::open(rt, folder)?.sync_all()?;
+pub fn sync_folder<R: Files + AllocGlobal>(rt: &R, folder: &str) -> io::Result<bool> {
+    // By such a name nothing but a folder is opened.
+    let itself = format!(in rt.alloc(); "{folder}/.")?;
+    match fs::open(rt, itself.as_str()) {
+        Ok(file) => {
+            file.sync_all()?;
             Ok(true)
         }
-        Ok(_) => Ok(false),
         Err(e) if is_absent(e.kind()) => Ok(false),
         Err(e) => Err(e),
     }

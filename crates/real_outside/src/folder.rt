@@ -1,14 +1,18 @@
 //! Files below the current folder, by path.
 ghost use Rattle.std.specs.Prelude.{◌≤◌, length, IfOk};
 
+use crate::file_id::FileId;
 use crate::files;
 use crate::flow_lock::FlowLock;
+use crate::known_names::KnownNames;
 use crate::leftovers::clear_parts;
 use crate::owner::Owner;
-use crate::parts::Parts;
+use crate::parts::{Parts, Settled, target_of};
+use crate::sharing::{Sharing, is_shared, sharing_of};
 use crate::synced_folders::SyncedFolders;
 use std::collections::BTreeSet;
-use std::fs::File;
+use std::fs::{File, Metadata};
+use std::io::ErrorKind;
 use std::rt::Files;
 use std::{fs, io};
 
@@ -19,6 +23,8 @@ pub struct Folder<'a, R: Files<File = File> + AllocGlobal> {
     lock: FlowLock,
     parts: Parts,
     synced: SyncedFolders,
+    // Which files have the names that were asked for.
+    known: KnownNames,
     // The folders in which what dead programs left was looked for.
     cleared: BTreeSet<String>,
 }
@@ -31,6 +37,7 @@ impl<'a, R: Files<File = File> + AllocGlobal> Drop for Folder<'a, R> {
             lock,
             mut parts,
             synced: _,
+            known: _,
             cleared: _,
         } = self;
         parts.move_all(rt);
@@ -47,49 +54,136 @@ impl<'a, R: Files<File = File> + AllocGlobal> Folder<'a, R> {
             lock: FlowLock::new(),
             parts: Parts::new(rt.alloc()),
             synced: SyncedFolders::new(rt.alloc()),
+            known: KnownNames::new(rt.alloc()),
             cleared: BTreeSet::new(rt.alloc()),
         }
     }
 
     /// The length of the file, None where nothing has the name.
-    pub fn size(&self, path: &str) -> io::Result<Option<u64>> {
-        files::file_len(self.rt, self.parts.place_of(path))
+    pub fn size(&mut self, path: &str) -> io::Result<Option<u64>> {
+        match self.look(path)? {
+            Some(data) => Ok(Some(data.len())),
+            None => Ok(None),
+        }
     }
 
-    /// Fills from the bytes that begin at `at`.
-    pub fn read(&self, path: &str, at: u64, into: &mut [u8]) -> io::Result<usize>
+    /// Fills from the bytes that begin at `at`. An absent file has no bytes.
+    pub fn read(&mut self, path: &str, at: u64, into: &mut [u8]) -> io::Result<usize>
         ensures { IfOk result (λ count. count ≤ length into.new) }
     {
-        files::read_from(self.rt, self.parts.place_of(path), at, into)
+        if self.look(path)?.is_none() {
+            return Ok(0);
+        }
+        files::read_seen(self.rt, self.parts.place_of(path), at, into)
+    }
+
+    // What stands under the name.
+    fn look(&mut self, path: &str) -> io::Result<Option<Metadata>> {
+        let found = files::regular(self.rt, self.parts.place_of(path))?;
+        if !self.parts.has(path) && !self.lock.is_on(path) {
+            self.note(path, found.as_ref())?;
+        }
+        Ok(found)
+    }
+
+    // Keeps in mind which file has the name. An error where that is the log.
+    fn note(&mut self, path: &str, found: Option<&Metadata>) -> io::Result<()> {
+        let Some(data) = found else {
+            self.known.forget(path);
+            return Ok(());
+        };
+        let file = FileId::of(data);
+        if self.lock.is_file(file) {
+            return Err(io::Error::from(ErrorKind::InvalidInput));
+        }
+        self.known.note(self.rt.alloc(), path, file)?;
+        Ok(())
     }
 
     /// Writes at an offset. A file is begun anew by a write at its beginning, and changes then only
-    /// when it is synced.
+    /// when it is synced. The log is written in place, as long as it has its name.
     pub fn write(&mut self, path: &str, at: u64, bytes: &[u8]) -> io::Result<()> {
-        self.begin_change()?;
-        if at == 0 && !self.parts.has(path) && !self.lock.is_on(path) {
-            self.synced.make_for(self.rt, path)?;
-            let (folder, _) = files::folder_of(path);
-            self.clear(folder)?;
-            let synced = &mut self.synced;
-            return self.parts.begin(self.rt, self.owner, synced, path, bytes);
+        if at == 0 && self.lock.is_absent_on(path) {
+            return self.lock.begin_file(self.rt, &mut self.synced, bytes);
         }
-        let done = self.write_in_place(path, at, bytes);
+        self.begin_change()?;
+        if self.lock.is_on(path) {
+            return self.lock.write(self.rt, at, bytes);
+        }
+        if at == 0 && !self.parts.has(path) {
+            return self.begin(path, bytes);
+        }
+        let done = self.write_on(path, at, bytes);
         if done.is_err() {
             self.parts.forget(self.rt, path);
         }
         done
     }
 
+    // Begins a file anew. Where none can be made beside it, it is written in place, unless another
+    // name would change with it.
+    fn begin(&mut self, path: &str, bytes: &[u8]) -> io::Result<()> {
+        self.synced.make_for(self.rt, path)?;
+        let (folder, _) = files::folder_of(path);
+        self.clear(folder)?;
+        let target = target_of(self.rt, &mut self.synced, path)?;
+        let sharing = self.own_place(path, target.old.as_ref())?;
+        match self.parts.begin(self.rt, self.owner, path, target, bytes) {
+            Err(e) if e.kind() == ErrorKind::PermissionDenied && sharing == Sharing::Alone => {
+                self.write_in_place(path, 0, bytes)
+            }
+            begun => begun,
+        }
+    }
+
+    // How the file that is to be replaced stands to the other names. An error where one of them is
+    // the same place, or the log.
+    fn own_place(&mut self, path: &str, old: Option<&Metadata>) -> io::Result<Sharing> {
+        let Some(data) = old else {
+            return Ok(Sharing::Alone);
+        };
+        let file = FileId::of(data);
+        let sharing = sharing_of(self.rt, &self.known, path, file)?;
+        if sharing == Sharing::One || self.lock.is_file(file) {
+            return Err(io::Error::from(ErrorKind::InvalidInput));
+        }
+        self.known.note(self.rt.alloc(), path, file)?;
+        Ok(sharing)
+    }
+
+    fn write_on(&mut self, path: &str, at: u64, bytes: &[u8]) -> io::Result<()> {
+        match self.parts.write(path, at, bytes) {
+            Some(done) => done,
+            None => self.write_in_place(path, at, bytes),
+        }
+    }
+
     fn write_in_place(&mut self, path: &str, at: u64, bytes: &[u8]) -> io::Result<()> {
-        let mut file = self.synced.open(self.rt, self.parts.place_of(path))?;
+        let mut file = self.synced.open(self.rt, path)?;
         files::write_from(&mut file, at, bytes)
     }
 
     // Before each change: no other program may work here, and what dead ones left goes.
     fn begin_change(&mut self) -> io::Result<()> {
-        self.lock.claim(self.rt, &mut self.synced)?;
+        if let Some(log) = self.lock.claim(self.rt, &mut self.synced)? {
+            self.log_alone(log)?;
+        }
         self.clear(".")
+    }
+
+    // No other name that was seen may be the log: it is written in place.
+    fn log_alone(&mut self, log: FileId) -> io::Result<()> {
+        match is_shared(self.rt, &self.known, log) {
+            Ok(false) => Ok(()),
+            Ok(true) => {
+                self.lock.refuse();
+                Err(io::Error::from(ErrorKind::InvalidInput))
+            }
+            Err(e) => {
+                self.lock.refuse();
+                Err(e)
+            }
+        }
     }
 
     // Removes what dead programs left in a folder, the first time.
@@ -105,7 +199,13 @@ impl<'a, R: Files<File = File> + AllocGlobal> Folder<'a, R> {
     /// Sets the length of a file that is there.
     pub fn cut(&mut self, path: &str, len: u64) -> io::Result<()> {
         self.begin_change()?;
-        let done = files::set_len(self.rt, self.parts.place_of(path), len);
+        if self.lock.is_on(path) {
+            return self.lock.cut(self.rt, len);
+        }
+        let done = match self.parts.cut(path, len) {
+            Some(done) => done,
+            None => files::set_len(self.rt, path, len),
+        };
         if done.is_err() {
             self.parts.forget(self.rt, path);
         }
@@ -115,18 +215,39 @@ impl<'a, R: Files<File = File> + AllocGlobal> Folder<'a, R> {
     /// Makes what stands under the name outlive a crash, and puts it in place where it was begun.
     /// Of the folders on the way it syncs those alone in which a name changed since their last sync.
     pub fn sync(&mut self, path: &str) -> io::Result<()> {
-        let settled = self.parts.settle(self.rt, &mut self.synced, path)?;
-        self.lock.share(self.rt, path)?;
-        if !settled {
-            files::sync_file(self.rt, path)?;
+        if self.lock.is_held_on(path) {
+            return self.lock.sync(self.rt, &mut self.synced);
+        }
+        if let Some(settled) = self.parts.settle(self.rt, &mut self.synced, path)? {
+            return self.sync_settled(path, &settled);
+        }
+        self.begin_lock(path)?;
+        if self.look(path)?.is_some() {
+            files::sync_seen(self.rt, path)?;
         }
         self.synced.sync(self.rt, path)
+    }
+
+    fn sync_settled(&mut self, path: &str, settled: &Settled) -> io::Result<()> {
+        self.known.note(self.rt.alloc(), path, settled.file)?;
+        self.begin_lock(path)?;
+        self.synced.sync_to(self.rt, path, settled.target.as_str())
+    }
+
+    // The first name that is synced is the log's, which is none of the others.
+    fn begin_lock(&mut self, path: &str) -> io::Result<()> {
+        self.lock.begin(self.rt, path)?;
+        if self.lock.is_on(path) {
+            self.known.forget(path);
+        }
+        Ok(())
     }
 
     /// Removes the file. The name may be absent.
     pub fn remove(&mut self, path: &str) -> io::Result<()> {
         self.begin_change()?;
         self.parts.forget(self.rt, path);
+        self.known.forget(path);
         match fs::remove_file(self.rt, path) {
             Err(e) if files::is_absent(e.kind()) => Ok(()),
             removed => {

@@ -15,12 +15,15 @@ use std::{io, str};
 ///
 /// What is written at the beginning of a file goes to a file beside it, and takes its place at the
 /// next sync of its name, or when the site is let go: a refused write or a kill leaves the old file.
-/// Such a file is hidden, `.NAME.HOST.PROCESS.makeflow-part`; those that a dead program of this host
-/// and user left are removed.
+/// Such a file is hidden, `.NAME.HOST.PROCESS.makeflow-part`, and locked. Those of this host and user
+/// that no program holds are removed.
 ///
-/// The first file that is synced is the log of a flow. It is written in place, and locked: while one
-/// site changes files, each change by another one with that log is refused. Its calls that change
-/// nothing are served.
+/// The first file that is synced is the log of a flow. It is written in place, as long as it has its
+/// name, and locked from the first change on: while one site changes files, each change by another
+/// one with that log is refused. Calls that change nothing take no lock, and are served.
+///
+/// No two names that were asked for may be one file where one of them is written: a write to a name
+/// that leads where another one does, by a link to a file or a folder, is refused.
 ///
 /// The little memory that paths need is the system's: where it is wanting a call is refused.
 #[derive(Drop)]

@@ -1,12 +1,13 @@
 //! The folder in which one job runs.
 use crate::files::{is_absent, make_folders_of};
 use crate::folder_site::path_of;
+use crate::holding::{hold, take_left};
 use crate::leftovers::maker_of_folder;
-use crate::owner::{Owner, is_dead, user_of};
+use crate::owner::{Owner, user_of};
 use crate::programs::{program, run_program};
 use flow_types::{Given, Job, Name};
 use std::alloc::Global;
-use std::fs::{DirBuilder, DirEntry, OpenFile, Permissions};
+use std::fs::{DirBuilder, DirEntry, File, OpenFile, Permissions};
 use std::io::{ErrorKind, Write};
 use std::os::unix::fs::{DirBuilderExt, MetadataExt, PermissionsExt};
 use std::process::Processes;
@@ -29,27 +30,63 @@ fn temporary<R: Env + AllocGlobal>(rt: &R) -> io::Result<String> {
     Ok(base)
 }
 
+/// A new folder, held: as long as it is, no program takes it for left behind.
+#[derive(Drop)]
+pub struct JobFolder {
+    path: String,
+    held: File,
+}
+
+impl JobFolder {
+    /// Where it is.
+    pub fn path(&self) -> &str {
+        self.path.as_str()
+    }
+}
+
 /// Makes a new folder under the system's temporary folder, for its owner alone. One that is there
 /// already is never taken, so no two jobs share a folder.
-pub fn new_folder<R: Files + AllocGlobal + Env>(rt: &R, owner: &Owner) -> io::Result<String> {
+pub fn new_folder<R: Files<File = File> + AllocGlobal + Env>(
+    rt: &R,
+    owner: &Owner,
+) -> io::Result<JobFolder> {
     let base = temporary(rt)?;
     let (host, process) = (owner.host(), owner.process());
-    let mut private = DirBuilder::new();
-    private.mode(OWNER_ALONE);
     for number in 0..MOST_TRIES {
         let path = format!(in rt.alloc(); "{base}/makeflow-{host}-{process}-{number}")?;
-        match private.create(rt, path.as_str()) {
-            Ok(()) => return Ok(path),
-            Err(e) if e.kind() == ErrorKind::AlreadyExists => {}
-            Err(e) => return Err(e),
+        if let Some(held) = made_at(rt, path.as_str())? {
+            return Ok(JobFolder { path, held });
         }
     }
     Err(io::Error::from(ErrorKind::AlreadyExists))
 }
 
+// A new folder of this path. None where another one is there, or where a program took it for left
+// behind before it was held.
+fn made_at<R: Files<File = File>>(rt: &R, path: &str) -> io::Result<Option<File>> {
+    let mut private = DirBuilder::new();
+    private.mode(OWNER_ALONE);
+    match private.create(rt, path) {
+        Ok(()) => held_at(rt, path),
+        Err(e) if e.kind() == ErrorKind::AlreadyExists => Ok(None),
+        Err(e) => Err(e),
+    }
+}
+
+fn held_at<R: Files<File = File>>(rt: &R, path: &str) -> io::Result<Option<File>> {
+    match fs::open(rt, path) {
+        Ok(folder) => Ok(hold(&folder)?.map(|_| folder)),
+        Err(e) if is_absent(e.kind()) => Ok(None),
+        Err(e) => Err(e),
+    }
+}
+
 /// Removes the folders that programs of this host and user left under the temporary folder when
 /// they were killed. It does what it can.
-pub fn clear_folders<R: Files + AllocGlobal + Env + Processes + Wait>(rt: &R, owner: &Owner) {
+pub fn clear_folders<R: Files<File = File> + AllocGlobal + Env + Processes + Wait>(
+    rt: &R,
+    owner: &Owner,
+) {
     let Some(user) = user_of(rt) else {
         return;
     };
@@ -66,20 +103,23 @@ pub fn clear_folders<R: Files + AllocGlobal + Env + Processes + Wait>(rt: &R, ow
     }
 }
 
-fn clear_folder<R: Files + AllocGlobal + Processes + Wait>(
+fn clear_folder<R: Files<File = File> + AllocGlobal + Processes + Wait>(
     rt: &R,
     owner: &Owner,
     user: u32,
     entry: &DirEntry<&R, Global>,
 ) -> io::Result<()> {
-    let Some(process) = maker_of_folder(entry.file_name(), owner.host()) else {
+    if maker_of_folder(entry.file_name(), owner.host()).is_none() {
         return Ok(());
-    };
-    let data = entry.metadata()?;
-    if data.is_dir() && data.uid() == user && is_dead(rt, process)? {
-        remove_folder(rt, owner, entry.path().as_str())?;
     }
-    Ok(())
+    let data = entry.metadata()?;
+    if !data.is_dir() || data.uid() != user {
+        return Ok(());
+    }
+    match take_left(rt, entry.path().as_str())? {
+        Some(_held) => remove_folder(rt, owner, entry.path().as_str()),
+        None => Ok(()),
+    }
 }
 
 /// Where a remote name stands in the folder.
@@ -157,6 +197,7 @@ fn open_to_owner<R: AllocGlobal + Processes + Wait>(
     folder: &str,
 ) -> io::Result<()> {
     let chmod = program(rt.alloc(), "chmod", &["-R", "u+rwx", folder])?;
-    run_program(rt, owner, chmod)?;
+    // Whether it did what it could shows at the removal.
+    let _ = run_program(rt, owner, chmod);
     Ok(())
 }

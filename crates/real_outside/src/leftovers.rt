@@ -1,7 +1,8 @@
 //! What dead programs left behind.
-use crate::owner::{Owner, is_dead, number_of, user_of};
+use crate::holding::remove_left;
+use crate::owner::{Owner, number_of, user_of};
 use std::alloc::Global;
-use std::fs::DirEntry;
+use std::fs::{DirEntry, File};
 use std::os::unix::fs::MetadataExt;
 use std::rt::Files;
 use std::{fs, io};
@@ -27,7 +28,7 @@ pub fn maker_of_folder(name: &str, host: &str) -> Option<u32> {
 
 /// Removes the part files in a folder that programs of this host and user left there when they were
 /// killed. It does what it can: a folder that can't be read is left as it is.
-pub fn clear_parts<R: Files + AllocGlobal>(rt: &R, owner: &Owner, folder: &str) {
+pub fn clear_parts<R: Files<File = File> + AllocGlobal>(rt: &R, owner: &Owner, folder: &str) {
     let Some(user) = user_of(rt) else {
         return;
     };
@@ -41,18 +42,18 @@ pub fn clear_parts<R: Files + AllocGlobal>(rt: &R, owner: &Owner, folder: &str) 
     }
 }
 
-fn clear_part<R: Files + AllocGlobal>(
+fn clear_part<R: Files<File = File> + AllocGlobal>(
     rt: &R,
     owner: &Owner,
     user: u32,
     entry: &DirEntry<&R, Global>,
 ) -> io::Result<()> {
-    let Some(process) = maker_of_part(entry.file_name(), owner.host()) else {
+    if maker_of_part(entry.file_name(), owner.host()).is_none() {
         return Ok(());
-    };
+    }
     let data = entry.metadata()?;
-    if data.is_file() && data.uid() == user && is_dead(rt, process)? {
-        fs::remove_file(rt, entry.path())?;
+    if data.is_file() && data.uid() == user {
+        remove_left(rt, entry.path().as_str())?;
     }
     Ok(())
 }

@@ -5,17 +5,21 @@
 
 mod commands;
 mod counts;
+mod file_id;
 mod files;
 mod flow_lock;
 mod folder;
 mod folder_site;
+mod holding;
 mod job_folder;
+mod known_names;
 mod leftovers;
 mod outputs;
 mod owner;
 mod parts;
 mod programs;
 mod script;
+mod sharing;
 mod shell_runner;
 mod stdout_sink;
 mod synced_folders;

@@ -8,6 +8,14 @@ use std::{fs, io};
 
 const HOST_NAME: &str = "/proc/sys/kernel/hostname";
 
+// What the system tells of this program, which signals it ignores among it.
+const STATUS: &str = "/proc/self/status";
+
+const IGNORED: &str = "SigIgn:";
+
+// SIGCHLD is the lowest bit of this hexadecimal digit, counted from the last.
+const CHILD_DIGIT: usize = 5;
+
 // The longest name of a host on Linux.
 const MOST_HOST: usize = 64;
 
@@ -20,6 +28,7 @@ const MOST_HOST: usize = 64;
 pub struct Owner {
     host: String,
     process: u32,
+    is_told: bool,
     turns: RwLock<()>,
 }
 
@@ -28,9 +37,11 @@ impl Owner {
     /// name of letters, digits, `-`, `_` and `.`.
     pub fn of<R: Files + AllocGlobal>(rt: &R, process: u32) -> Result<Self, AllocError> {
         let host = host_of(rt)?;
+        let is_told = !ignores_ends(rt);
         Ok(Owner {
             host,
             process,
+            is_told,
             turns: RwLock::new(()),
         })
     }
@@ -43,6 +54,12 @@ impl Owner {
     /// The number of this program.
     pub fn process(&self) -> u32 {
         self.process
+    }
+
+    /// The system tells this program how those end that it starts. It doesn't where SIGCHLD is ignored,
+    /// as the starter of this program may have left it.
+    pub fn is_told(&self) -> bool {
+        self.is_told
     }
 
     /// Waits until no thread starts a program. None does until what is answered is let go.
@@ -67,6 +84,26 @@ fn host_of<R: Files + AllocGlobal>(rt: &R) -> Result<String, AllocError> {
     String::from_str(rt.alloc(), "localhost")
 }
 
+fn ignores_ends<R: Files + AllocGlobal>(rt: &R) -> bool {
+    let Ok(text) = fs::read_to_string(rt, STATUS) else {
+        return false;
+    };
+    for line in text.as_str().lines() {
+        if let Some(signals) = line.strip_prefix(IGNORED) {
+            return has_child(signals.as_bytes());
+        }
+    }
+    false
+}
+
+fn has_child(signals: &[u8]) -> bool {
+    signals.len() >= CHILD_DIGIT
+        && matches!(
+            signals[signals.len() - CHILD_DIGIT],
+            b'1' | b'3' | b'5' | b'7' | b'9' | b'b' | b'd' | b'f'
+        )
+}
+
 fn is_host(name: &str) -> bool {
     !name.is_empty() && name.len() <= MOST_HOST && name.bytes().all(is_host_byte)
 }
@@ -81,13 +118,6 @@ pub fn user_of<R: Files>(rt: &R) -> Option<u32> {
         Ok(data) => Some(data.uid()),
         Err(_) => None,
     }
-}
-
-/// No process of this host has the number. Only where [`user_of`] answers a user.
-pub fn is_dead<R: Files + AllocGlobal>(rt: &R, process: u32) -> io::Result<bool> {
-    let path = format!(in rt.alloc(); "/proc/{process}")?;
-    let lives = fs::exists(rt, path.as_str())?;
-    Ok(!lives)
 }
 
 /// The number that decimal digits spell.

@@ -2,6 +2,7 @@
 use crate::owner::Owner;
 use std::alloc::{AllocError, Global};
 use std::io;
+use std::io::Read;
 use std::process::{Child, Command, ExitStatus, Processes, Stdio};
 use std::sync::Wait;
 
@@ -29,6 +30,24 @@ pub fn run_program<R: Processes + Wait>(
     program: Command,
 ) -> io::Result<ExitStatus> {
     start(rt, owner, program)?.wait()
+}
+
+/// As [`run_program`], where the system doesn't tell how programs end: what it printed.
+pub fn run_printing<R: Processes + Wait>(
+    rt: &R,
+    alloc: Global,
+    owner: &Owner,
+    program: Command,
+) -> io::Result<Vec<u8>> {
+    let mut program = program;
+    program.stdout(Stdio::piped());
+    let mut child = start(rt, owner, program)?;
+    let mut said = Vec::new(alloc);
+    if let Some(mut out) = child.stdout.take() {
+        out.read_to_end(&mut said)?;
+    }
+    let _ = child.wait();
+    Ok(said)
 }
 
 fn start<R: Processes + Wait>(

@@ -6,25 +6,32 @@ use crate::counts::{counted_or_memory, failure_counted};
 use crate::files::folder_of;
 use crate::job_folder::{clear_folders, fill_folder, new_folder, remove_folder};
 use crate::outputs::take_outputs;
-use crate::owner::Owner;
-use crate::programs::{program, run_program};
+use crate::owner::{Owner, number_of};
+use crate::programs::{program, run_printing, run_program};
 use crate::script::{is_long, needs_script, read_script, write_script};
 use flow_types::{Failure, Job, Outcome};
 use outside::{Commands, Fault, Runner};
 use std::alloc::Global;
-use std::io;
+use std::fs::File;
+use std::io::ErrorKind;
 use std::os::unix::process::ExitStatusExt;
 use std::process::{ExitStatus, Processes};
 use std::rt::{Env, Files};
 use std::sync::Wait;
+use std::{io, str};
+
+const SHELL: &str = "/bin/sh";
+
+// A shell that prints how another one ended, for a program that isn't told.
+const RELAY: &str = "\"$0\" -c -- \"$1\" > /dev/null; echo \"$?\"";
 
 // What a shell adds to the number of a signal that ended a command.
 const SIGNALLED: i32 = 128;
 
 /// Runs each job by `sh -c` in a folder of its own under the temporary folder, which no other runner
 /// takes. The folder goes when
-/// the job ends, whatever happened; one that can't be removed is a fault. Before the first job the
-/// folders go that dead programs of this host and user left.
+/// the job ends, whatever happened; one that can't be removed is a fault. It is locked until then,
+/// and before the first job the folders go that programs of this host and user left unlocked.
 #[derive(Drop)]
 pub struct ShellRunner<'a, R> {
     rt: &'a R,
@@ -64,15 +71,33 @@ fn run_told<R: Processes + Wait>(
     job: &Job,
     told: &str,
 ) -> io::Result<i32> {
-    let mut shell = program(alloc, "/bin/sh", &["-c", told])?;
+    let mut shell = if owner.is_told() {
+        program(alloc, SHELL, &["-c", "--", told])?
+    } else {
+        program(alloc, SHELL, &["-c", RELAY, SHELL, told])?
+    };
     for pair in job.env.as_slice() {
         if !is_long(pair) {
             shell.env(pair.name.as_str(), pair.value.as_str())?;
         }
     }
     shell.current_dir(folder)?;
-    let status = run_program(rt, owner, shell)?;
-    Ok(status_of(status))
+    if owner.is_told() {
+        Ok(status_of(run_program(rt, owner, shell)?))
+    } else {
+        status_said(run_printing(rt, alloc, owner, shell)?.as_slice())
+    }
+}
+
+// The status that the outer shell printed.
+fn status_said(said: &[u8]) -> io::Result<i32> {
+    if let Ok(text) = str::from_utf8(said)
+        && let Some(number) = number_of(text.trim())
+        && let Ok(status) = i32::try_from(number)
+    {
+        return Ok(status);
+    }
+    Err(io::Error::from(ErrorKind::InvalidData))
 }
 
 // The status of a shell that reads the command from a file in a folder beside the job's.
@@ -91,7 +116,7 @@ fn run_read<R: Files + Processes + Wait>(
 }
 
 // The command's status.
-fn run_shell<R: Files + Env + Processes + AllocGlobal + Wait>(
+fn run_shell<R: Files<File = File> + Env + Processes + AllocGlobal + Wait>(
     rt: &R,
     owner: &Owner,
     folder: &str,
@@ -101,12 +126,12 @@ fn run_shell<R: Files + Env + Processes + AllocGlobal + Wait>(
         return run_told(rt, rt.alloc(), owner, folder, job, job.command.as_str());
     }
     let beside = new_folder(rt, owner)?;
-    let status = run_read(rt, rt.alloc(), owner, beside.as_str(), folder, job);
-    remove_folder(rt, owner, beside.as_str())?;
+    let status = run_read(rt, rt.alloc(), owner, beside.path(), folder, job);
+    remove_folder(rt, owner, beside.path())?;
     status
 }
 
-fn run_in<R: Files + Env + Processes + AllocGlobal + Wait>(
+fn run_in<R: Files<File = File> + Env + Processes + AllocGlobal + Wait>(
     rt: &R,
     alloc: Global,
     owner: &Owner,
@@ -123,7 +148,7 @@ fn run_in<R: Files + Env + Processes + AllocGlobal + Wait>(
     take_outputs(rt, alloc, folder, job)
 }
 
-fn run_job<R: Files + Env + Processes + AllocGlobal + Wait>(
+fn run_job<R: Files<File = File> + Env + Processes + AllocGlobal + Wait>(
     rt: &R,
     alloc: Global,
     owner: &Owner,
@@ -132,12 +157,12 @@ fn run_job<R: Files + Env + Processes + AllocGlobal + Wait>(
     ensures { IfOk result (IsShaped job.now) }
 {
     let folder = new_folder(rt, owner)?;
-    let outcome = run_in(rt, alloc, owner, folder.as_str(), job);
-    remove_folder(rt, owner, folder.as_str())?;
+    let outcome = run_in(rt, alloc, owner, folder.path(), job);
+    remove_folder(rt, owner, folder.path())?;
     outcome
 }
 
-impl<'a, F: Commands, R: Files + Env + Processes + AllocGlobal + Wait + Sync> Runner<F>
+impl<'a, F: Commands, R: Files<File = File> + Env + Processes + AllocGlobal + Wait + Sync> Runner<F>
     for ShellRunner<'a, R> {
     ghost tells = { λ s job. ⊥ };
 

@@ -65,6 +65,29 @@ impl SyncedFolders {
     /// Syncs each folder on the way to a name, and that of the file to which it is a link, unless
     /// they are synced: a new or a removed name is durable only once the folder that holds it is.
     pub fn sync<R: Files + AllocGlobal>(&mut self, rt: &R, path: &str) -> io::Result<()> {
+        self.sync_way(rt, path)?;
+        match link_target(rt, path)? {
+            Some(target) => self.sync_folder_of(rt, target.as_str()),
+            None => Ok(()),
+        }
+    }
+
+    /// As [`SyncedFolders::sync`], where this is known to be the file of the name.
+    pub fn sync_to<R: Files + AllocGlobal>(
+        &mut self,
+        rt: &R,
+        path: &str,
+        target: &str,
+    ) -> io::Result<()> {
+        self.sync_way(rt, path)?;
+        if target == path {
+            return Ok(());
+        }
+        self.sync_folder_of(rt, target)
+    }
+
+    /// Syncs each folder on the way to a name, unless they are synced.
+    pub fn sync_way<R: Files + AllocGlobal>(&mut self, rt: &R, path: &str) -> io::Result<()> {
         for end in 1..path.len() {
             if let Some((folder, rest)) = path.split_at_checked(end)
                 && rest.starts_with('/')
@@ -72,12 +95,13 @@ impl SyncedFolders {
                 self.sync_one(rt, folder)?;
             }
         }
-        self.sync_one(rt, ".")?;
-        if let Some(target) = link_target(rt, path)? {
-            let (folder, _) = folder_of(target.as_str());
-            self.sync_one(rt, folder)?;
-        }
-        Ok(())
+        self.sync_one(rt, ".")
+    }
+
+    /// Syncs the folder that holds a name, unless it is synced.
+    pub fn sync_folder_of<R: Files + AllocGlobal>(&mut self, rt: &R, path: &str) -> io::Result<()> {
+        let (folder, _) = folder_of(path);
+        self.sync_one(rt, folder)
     }
 
     // A folder that isn't there, or whose sync fails, isn't taken for synced.
