@@ -1,5 +1,5 @@
 -- What holds of the links to the workers, one by one.
-use Rattle.std.proofs.Common.{◌≡◌, ◌<◌, ℕ, ◌+◌, Bool, true, false, List, [], ◌∷◌, ◌++◌, length, get_or, Some, None, Result, Ok, Err, inl, refl, sym, ap, ◌∙◌, subst, append-nil}
+use Rattle.std.proofs.Common.{◌≡◌, ◌<◌, ℕ, ◌+◌, Bool, true, false, List, [], ◌∷◌, ◌++◌, length, get_or, Some, None, Result, Ok, Err, inl, inr, refl, sym, ap, ◌∙◌, subst, append-nil}
 use Rattle.std.specs.Prelude.{◌==◌, nat_lt, position, remove, slice_get, slice_set}
 use Rattle.std.proofs.lemmas.Bool.{eqb-true, ltb-true}
 use Rattle.std.proofs.lemmas.Option.{get_or_from_slice_get, slice_get-get_or}
@@ -8,7 +8,6 @@ use Rattle.std.proofs.lemmas.List.Quantifiers.{position-Some}
 use Rattle.flow_types.specs.declared.messages.Message.{Message}
 use Rattle.flow_types.specs.declared.numbers.LinkNo.{LinkNo}
 use Rattle.links.specs.declared.passing.Passed.{Passed}
-use Rattle.links.specs.declared.passing.Passed.TheVariants.{Sent}
 use Rattle.links.specs.Passings.{received_in, sent_in}
 use Rattle.message_forms.proofs.Parses.{frames_append, framed_append}
 use Rattle.message_forms.specs.Streams.{IsFramed, framed, frames_of}
@@ -16,7 +15,8 @@ use Rattle.foreman_core.specs.declared.acts.Down.{Down}
 use Rattle.foreman_core.specs.Members.{Every, Stands}
 use Rattle.foreman_core.proofs.Members.{every_append, every_nil, every_one, every_remove, every_set, get_stands}
 use Rattle.peer_run.specs.Works.{EarState}
-use Rattle.foreman_run.specs.Lowers.{Gains, IsHeld, Keeps, KeepsWith, LowerState, Parts, over}
+use Rattle.foreman_run.specs.Lowers.{Gains, IsHeld, Keeps, KeepsWith, LowerState, Parts, Went, over}
+use Rattle.foreman_run.specs.Says.{Adds}
 
 -- the one at a place stands in the list
 pub stands_at : {A : Type 0} (xs : List A) (i : ℕ) (d : A) → i < length xs → Stands (get_or xs i d) xs
@@ -37,18 +37,18 @@ module _ {L : Type 0} (tells : Type 0) (history : L → List Passed) (honest : L
 
   -- A message more was sent over a link, whole.
   pub sent_one : (sent : List Down) (old new : LowerState L) (m : Message) → new.link ≡ old.link → new.ear ≡ old.ear → new.gone ≡ old.gone → IsFramed m
-      → (tells → history new.way ≡ Sent (framed m) ∷ history old.way) → Stands (over old.link m) sent → IsHeld tells history sent old → IsHeld tells history sent new
+      → (tells → Adds (framed m) (history old.way) (history new.way)) → Went sent old.link m → IsHeld tells history sent old → IsHeld tells history sent new
   sent_one sent old new m link ear gone fits is there held stays t =
       let p = held (sym gone ∙ stays) t in
       let now = is t in
       record {
         said = p.said ++ m ∷ [];
         said_framed = framed_append p.said (m ∷ []) p.said_framed (fits, tt);
-        are_sent = ap sent_in now ∙ ap (λ (b : List ℕ). b ++ framed m) p.are_sent ∙ ap (λ (w : List ℕ). frames_of p.said ++ w) (sym (append-nil (framed m))) ∙ sym (frames_append p.said (m ∷ []));
-        went = subst (λ (k : LinkNo). Every (λ x. Stands (over k x) sent) (p.said ++ m ∷ [])) (sym link)
-            (every_append (λ x. Stands (over old.link x) sent) p.said (m ∷ []) p.went (every_one (λ x. Stands (over old.link x) sent) m there));
+        are_sent = now.0 ∙ ap (λ (b : List ℕ). b ++ framed m) p.are_sent ∙ ap (λ (w : List ℕ). frames_of p.said ++ w) (sym (append-nil (framed m))) ∙ sym (frames_append p.said (m ∷ []));
+        went = subst (λ (k : LinkNo). Every (Went sent k) (p.said ++ m ∷ [])) (sym link)
+            (every_append (Went sent old.link) p.said (m ∷ []) p.went (every_one (Went sent old.link) m there));
         heard = p.heard;
-        came = record { framed_all = p.came.framed_all; are = ap received_in now ∙ p.came.are ∙ ap (λ (e : EarState). frames_of p.heard ++ e.rest) (sym ear) };
+        came = record { framed_all = p.came.framed_all; are = now.1 ∙ p.came.are ∙ ap (λ (e : EarState). frames_of p.heard ++ e.rest) (sym ear) };
       }
 
   -- a link that is to be left
@@ -69,14 +69,14 @@ module _ {L : Type 0} (tells : Type 0) (history : L → List Passed) (honest : L
 
   -- A message went down to the link at a place.
   pub sent_at : (lowers : List (LowerState L)) (down : Down) (at : ℕ) (old new : LowerState L) → position (λ (l : LowerState L). l.link.0 == down.link.0) lowers ≡ Some at → slice_get lowers at ≡ Some old
-      → ((sent : List Down) → Stands (over old.link down.message) sent → IsHeld tells history sent old → IsHeld tells history sent new) → (honest old.way → honest new.way)
+      → ((sent : List Down) → Went sent old.link down.message → IsHeld tells history sent old → IsHeld tells history sent new) → (honest old.way → honest new.way)
       → KeepsWith tells history honest (down ∷ []) lowers (slice_set lowers at new)
   sent_at lowers down at old new found got held keeps =
       let there = get_stands lowers at old got in
       let link : old.link ≡ down.link = link_at lowers down.link at old found got in
       record {
         held = λ sent all h. every_set (IsHeld tells history sent) lowers at new
-            (held sent (subst (λ (k : LinkNo). Stands (over k down.message) sent) (sym link) (all down (inl_first down))) (h old there)) h;
+            (held sent (inr (subst (λ (k : LinkNo). Stands (over k down.message) sent) (sym link) (all down (inl_first down)))) (h old there)) h;
         honestly = λ h. every_set (λ l. honest l.way) lowers at new (keeps (h old there)) h;
         many = length-set lowers at new;
       }
@@ -100,13 +100,32 @@ module _ {L : Type 0} (tells : Type 0) (history : L → List Passed) (honest : L
         many = length-set lowers at new;
       }
 
+  -- The link at a place changed, and what holds of it stays so.
+  pub kept_there : (inside lowers : List (LowerState L)) (at : ℕ) (old new : LowerState L) → inside ≡ lowers → slice_get lowers at ≡ Some old
+      → ((sent : List Down) → IsHeld tells history sent old → IsHeld tells history sent new) → (honest old.way → honest new.way) → Keeps tells history honest lowers (slice_set inside at new)
+  kept_there inside lowers at old new are got held keeps =
+      let there = get_stands lowers at old got in
+      subst (λ (xs : List (LowerState L)). Keeps tells history honest lowers (slice_set xs at new)) (sym are) (record {
+        held = λ sent h. every_set (IsHeld tells history sent) lowers at new (held sent (h old there)) h;
+        honestly = λ h. every_set (λ l. honest l.way) lowers at new (keeps (h old there)) h;
+        many = length-set lowers at new;
+      })
+
+  -- One change and then another.
+  pub kept_then : (a b c : List (LowerState L)) → Keeps tells history honest a b → Keeps tells history honest b c → Keeps tells history honest a c
+  kept_then a b c x y = record {
+    held = λ sent h. y.held sent (x.held sent h);
+    honestly = λ h. y.honestly (x.honestly h);
+    many = y.many ∙ x.many;
+  }
+
   -- The same in equal lists.
   pub left_there : (inside lowers : List (LowerState L)) (at : ℕ) (old new : LowerState L) → inside ≡ lowers → slice_get lowers at ≡ Some old → new ≡ record { link = old.link; way = old.way; ear = old.ear; gone = true }
       → Keeps tells history honest lowers (slice_set inside at new)
   left_there inside lowers at old new are got is = subst (λ (xs : List (LowerState L)). Keeps tells history honest lowers (slice_set xs at new)) (sym are) (left_at lowers at old new got is)
 
   pub sent_there : (inside lowers : List (LowerState L)) (down : Down) (at : ℕ) (old new : LowerState L) → inside ≡ lowers → position (λ (l : LowerState L). l.link.0 == down.link.0) lowers ≡ Some at → slice_get lowers at ≡ Some old
-      → ((sent : List Down) → Stands (over old.link down.message) sent → IsHeld tells history sent old → IsHeld tells history sent new) → (honest old.way → honest new.way)
+      → ((sent : List Down) → Went sent old.link down.message → IsHeld tells history sent old → IsHeld tells history sent new) → (honest old.way → honest new.way)
       → KeepsWith tells history honest (down ∷ []) lowers (slice_set inside at new)
   sent_there inside lowers down at old new are found got held keeps =
       subst (λ (xs : List (LowerState L)). KeepsWith tells history honest (down ∷ []) lowers (slice_set xs at new)) (sym are) (sent_at lowers down at old new found got held keeps)
@@ -131,7 +150,7 @@ module _ {L : Type 0} (tells : Type 0) (history : L → List Passed) (honest : L
           said = [];
           said_framed = tt;
           are_sent = ap sent_in nothing;
-          went = every_nil (λ m. Stands (over k m) sent);
+          went = every_nil (Went sent k);
           heard = [];
           came = record { framed_all = tt; are = ap received_in nothing };
         }))),

@@ -36,7 +36,7 @@ use Rattle.peer_run.proofs.Going.{frames_len, frames_more}
 use Rattle.foreman_run.specs.declared.stop.Stop.{Stop}
 use Rattle.foreman_run.specs.declared.stop.Stop.TheVariants as stops
 use Rattle.foreman_run.specs.Ends.{FailsBy, IsFound, LeavesHall, MayStop, Stops}
-use Rattle.foreman_run.specs.Lowers.{AnswersBelow, AreHeld, AreHonest, Gains, IsHeld, Keeps, KeepsWith, LowerState, Parts, Passes, over}
+use Rattle.foreman_run.specs.Lowers.{AnswersBelow, AreHeld, AreHonest, Gains, IsHeld, Keeps, KeepsWith, LowerState, Parts, Passes, Went, over}
 use Rattle.foreman_run.specs.Met.{Met, above, below, lost, foreman_of, goes_wrong, has_left, heard_of, hello, led_by, sent_of, told_of}
 use Rattle.foreman_run.specs.Works.{Works}
 use Rattle.foreman_run.proofs.Honest.{answered_more, came_answered, step_may}
@@ -53,6 +53,10 @@ or_none false c e = e
 
 -- ---- links to workers, as more is to go down
 
+went_more : (sent more : List Down) (k : Rattle.flow_types.specs.declared.numbers.LinkNo.LinkNo) (m : Message) → Went sent k m → Went (sent ++ more) k m
+went_more sent more k m (inl is) = inl is
+went_more sent more k m (inr there) = inr (stands_left (over k m) sent more there)
+
 held_one_more : {L : Type 0} (tells : Type 0) (history : L → List Passed) (sent more : List Down) (l : LowerState L) → IsHeld tells history sent l → IsHeld tells history (sent ++ more) l
 held_one_more tells history sent more l is stays t =
     let p = is stays t in
@@ -60,7 +64,7 @@ held_one_more tells history sent more l is stays t =
       said = p.said;
       said_framed = p.said_framed;
       are_sent = p.are_sent;
-      went = λ m there. stands_left (over l.link m) sent more (p.went m there);
+      went = λ m there. went_more sent more l.link m (p.went m there);
       heard = p.heard;
       came = p.came;
     }
@@ -75,7 +79,7 @@ took_one history sent old new link way took p = record {
   said = p.said;
   said_framed = p.said_framed;
   are_sent = ap (λ w. sent_in (history w)) way ∙ p.are_sent;
-  went = λ m there. subst (λ k. Stands (over k m) sent) (sym link) (p.went m there);
+  went = λ m there. subst (λ k. Went sent k m) (sym link) (p.went m there);
   heard = p.heard ++ shown new.ear.body ∷ [];
   came = record {
     framed_all = framed_append p.heard (shown new.ear.body ∷ []) p.came.framed_all (took.0, tt);

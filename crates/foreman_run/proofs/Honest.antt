@@ -6,6 +6,7 @@ use Rattle.flow_types.specs.declared.job.Job.{Job}
 use Rattle.flow_types.specs.declared.job.Outcome.{Outcome}
 use Rattle.flow_types.specs.declared.job.Outcome.TheVariants as outcomes
 use Rattle.flow_types.specs.declared.job.Task.{Task}
+use Rattle.flow_types.specs.declared.messages.Key.{Key}
 use Rattle.flow_types.specs.declared.messages.Message.{Message}
 use Rattle.flow_types.specs.declared.messages.Message.TheVariants as messages
 use Rattle.flow_types.specs.declared.numbers.AttemptNo.{AttemptNo}
@@ -25,7 +26,7 @@ use Rattle.foreman_core.specs.Right.{IsAsked, IsOwned, IsRightAfter, IsRightDown
 use Rattle.foreman_core.specs.Steps.{Led, renumbered}
 use Rattle.peer_run.specs.Says.{Each}
 use Rattle.peer_run.specs.Works.{EarState}
-use Rattle.foreman_run.specs.Lowers.{AnswersBelow, IsAnswered, Passes, over}
+use Rattle.foreman_run.specs.Lowers.{AnswersBelow, IsAnswered, Passes, Went, over}
 use Rattle.foreman_run.specs.Met.{Met, foreman_of, heard_of, led_by, sent_of, told_of}
 use Rattle.foreman_run.proofs.Runs.{every_each, runs_right, step_right}
 
@@ -117,19 +118,29 @@ module _ (gives : Function) (may_fail : Job → Failure → Type 0) where
 
   -- ---- from below
 
+  -- a task that went down over a link is no probe
+  task_went : (sent : List Down) (k : LinkNo) (task : Task) → Went sent k (messages.Task task) → Stands (over k (messages.Task task)) sent
+  task_went sent k task (inl is) = absurd (let wrong : ⊥ = cc is in wrong)
+  task_went sent k task (inr there) = there
+
+  -- nor is a content
+  put_went : (sent : List Down) (k : LinkNo) (key : Key) (content : List ℕ) → Went sent k (messages.Put key content) → Stands (over k (messages.Put key content)) sent
+  put_went sent k key content (inl is) = absurd (let wrong : ⊥ = cc is in wrong)
+  put_went sent k key content (inr there) = there
+
   -- A message that came over an honest link is answered there.
   pub came_answered : (history : List Passed) (ear : EarState) (k : LinkNo) (sent : List Down) (m : Message) → Passes history ear k sent
       → IsHonestSoFar gives may_fail (sent_in history) (received_in history) → Carries (received_in history) m → AnswersBelow gives may_fail sent (over k m)
   came_answered history ear k sent m passes honest carried number outcome is ran =
       let a : Answers gives may_fail (sent_in history) number outcome = honest number outcome (subst (Carries (received_in history)) is carried) ran in
-      let went : (x : Message) → Carries (sent_in history) x → Stands (over k x) sent =
+      let went : (x : Message) → Carries (sent_in history) x → Went sent k x =
       λ x c. passes.went x (stands_of x passes.said ((rows_carry_their_own passes.said x passes.said_framed).0 (subst (λ b. Carries b x) passes.are_sent c))) in
       record {
         task = a.task;
         of_attempt = a.of_attempt;
-        asked = went (messages.Task a.task) a.asked;
+        asked = task_went sent k a.task (went (messages.Task a.task) a.asked);
         contents = a.contents;
-        were_put = λ f has. let put = a.were_put f has in (put.0, put.1, went (messages.Put (key_of a.task.run f) put.0) put.2);
+        were_put = λ f has. let put = a.were_put f has in (put.0, put.1, put_went sent k (key_of a.task.run f) put.0 (went (messages.Put (key_of a.task.run f) put.0) put.2));
         ends_so = a.ends_so;
       }
 

@@ -1,18 +1,28 @@
 -- Several messages that are said one after the other.
-use Rattle.std.proofs.Common.{◌≡◌, ◌<◌, ℕ, zero, suc, ◌+◌, List, [], ◌∷◌, ◌++◌, length, take, drop, get_or, Result, Ok, Err, refl, sym, ap, ◌∙◌, subst, append_assoc, append-nil, arith}
-use Rattle.std.proofs.lemmas.List.{take_more, take-append-drop}
+use Rattle.std.proofs.Common.{◌≡◌, ◌≤◌, ◌<◌, ℕ, zero, suc, ◌+◌, List, [], ◌∷◌, ◌++◌, length, take, drop, get_or, Result, Ok, Err, refl, sym, ap, ◌∙◌, subst, append_assoc, append-nil, arith}
+use Rattle.std.specs.Prelude.{OnOk}
+use Rattle.std.proofs.lemmas.List.{length-append, take_more, take-append-drop}
 use Rattle.flow_types.specs.declared.job.Failure.{Failure}
 use Rattle.flow_types.specs.declared.job.Job.{Job}
+use Rattle.byteorder.specs.Endian.{big_bytes}
+use Rattle.byte_fields.specs.Spelling.{counted}
+use Rattle.flow_types.specs.declared.messages.Key.{Key}
 use Rattle.flow_types.specs.declared.messages.Message.{Message}
+use Rattle.flow_types.specs.declared.messages.Message.TheVariants as messages
 use Rattle.flow_types.specs.Serial.{Function}
 use Rattle.links.specs.declared.passing.Passed.{Passed}
 use Rattle.links.specs.Passings.{Transmits, received_in, sent_in}
 use Rattle.links.specs.Peers.{IsRightLink, MaySay, Says}
 use Rattle.message_forms.proofs.Parses.{frames_append}
-use Rattle.message_forms.specs.Streams.{framed, frames_of}
+use Rattle.message_forms.specs.Streams.{IsFramed, framed, frames_of}
+use Rattle.wq_messages.specs.Spelling.{IsKey, key_bytes, most_body, spelling}
 use Rattle.outside.specs.declared.fault.Fault.{Fault}
 use Rattle.peer_run.specs.Says.{Each, SaysAll, SendsAll}
 use Rattle.peer_run.proofs.Sends.{sends_one}
+use Rattle.peer_run.proofs.Sizes.{len, spelled_len}
+use Rattle.peers.specs.Sends.{put_head}
+use Rattle.peers.proofs.Sending.{put_parts}
+use Rattle.foreman_run.specs.Says.{Adds}
 
 -- what holds of each holds of the one at a place
 pub each_at : (P : Message → Type 0) (ms : List Message) (i : ℕ) (d : Message) → i < length ms → Each P ms → P (get_or ms i d)
@@ -92,3 +102,44 @@ module _ (gives : Function) (may_fail : Job → Failure → Type 0) (tells : Typ
             (sends_less (take i ms ++ m ∷ []) (drop (i + 1) ms) h0 h2 fault (sends_then (take i ms) (m ∷ []) h0 h1 h2 r (s.sent t) (sends_one r m h1 h2 (one.1 t))))),
         (λ said t right may. one.0 (said ++ take i ms) t (s.said said t right may) (may_now ms i d h0 h1 lt s t may)),
       )
+
+-- ---- a Put in two calls
+
+put_len : (key : Key) (content : List ℕ) → length (spelling (messages.Put key content)) ≡ 17 + length content
+put_len key content = omega (
+  arith,
+  spelled_len (messages.Put key content),
+  length-append (key_bytes key) (counted content),
+  length-append (big_bytes 8 key.run) (big_bytes 4 key.file.0),
+  length-append (big_bytes 4 (length content)) content,
+  len 8 key.run,
+  len 4 key.file.0,
+  len 4 (length content),
+)
+
+-- A content that can be told fits a frame.
+pub put_short : (key : Key) (content : List ℕ) → length (spelling (messages.Put key content)) ≤ most_body → 17 + length content ≤ most_body
+put_short key content short = omega (arith, short, put_len key content)
+
+pub put_fits : (key : Key) (content : List ℕ) → IsKey key → 17 + length content ≤ most_body → IsFramed (messages.Put key content)
+put_fits key content is short = ((is, omega (arith, short)), omega (arith, short, put_len key content))
+
+-- The head went out, and then the content.
+pub put_adds : (key : Key) (content head : List ℕ) (old mid new : List Passed) → head ≡ put_head key (length content) → (let r : Result (Unit {0}) Fault = Ok tt in Transmits r head old mid)
+    → (let r : Result (Unit {0}) Fault = Ok tt in Transmits r content mid new) → Adds (framed (messages.Put key content)) old new
+put_adds key content head old mid new is first second =
+    let whole : head ++ content ≡ framed (messages.Put key content) = ap (λ (h : List ℕ). h ++ content) is ∙ put_parts key content in (
+      ap sent_in second ∙ ap (λ (w : List ℕ). w ++ content) (ap sent_in first) ∙ append_assoc (sent_in old) head content ∙ ap (λ (w : List ℕ). sent_in old ++ w) whole,
+      ap received_in second ∙ ap received_in first,
+    )
+
+-- The same, whatever came of the content.
+pub put_sent : (r : Result (Unit {0}) Fault) (key : Key) (content head : List ℕ) (old mid new : List Passed) → head ≡ put_head key (length content)
+    → (let first : Result (Unit {0}) Fault = Ok tt in Transmits first head old mid) → Transmits r content mid new → OnOk r (Adds (framed (messages.Put key content)) old new)
+put_sent (Ok x) key content head old mid new is first second = put_adds key content head old mid new is first second
+put_sent (Err fault) key content head old mid new is first second = tt
+
+-- One frame went out, whatever came of it.
+pub frame_sent : (r : Result (Unit {0}) Fault) (m : Message) (bytes : List ℕ) (old new : List Passed) → bytes ≡ framed m → Transmits r bytes old new → OnOk r (Adds (framed m) old new)
+frame_sent (Ok x) m bytes old new is out = (ap sent_in out ∙ ap (λ (b : List ℕ). sent_in old ++ b) is, ap received_in out)
+frame_sent (Err fault) m bytes old new is out = tt

@@ -6,6 +6,7 @@ use Rattle.flow_types.specs.declared.numbers.AttemptNo.{AttemptNo}
 use Rattle.flow_types.specs.declared.job.Outcome.{Outcome}
 use Rattle.flow_types.specs.declared.job.Outcome.TheVariants as outcomes
 use Rattle.flow_types.specs.declared.job.Task.{Task}
+use Rattle.flow_types.specs.declared.messages.Key.{Key}
 use Rattle.flow_types.specs.declared.messages.Message.{Message}
 use Rattle.flow_types.specs.declared.messages.Message.TheVariants as messages
 use Rattle.message_forms.specs.Streams.{AreFramed, IsFramed}
@@ -26,6 +27,9 @@ totals_told f =
 
 pub cancel_told : (attempt : AttemptNo) → CanBeTold (messages.Cancel attempt)
 cancel_told attempt = (tt, omega (arith, spelled_len (messages.Cancel attempt), len 8 attempt.0))
+
+pub unlink_told : (key : Key) → CanBeTold (messages.Unlink key)
+unlink_told key = (tt, omega (arith, spelled_len (messages.Unlink key), length-append (big_bytes 8 key.run) (big_bytes 4 key.file.0), len 8 key.run, len 4 key.file.0))
 
 pub bye_told : CanBeTold messages.Bye
 bye_told = (tt, omega (arith, spelled_len messages.Bye))

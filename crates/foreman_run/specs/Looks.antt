@@ -1,10 +1,11 @@
--- What a look at the link to the parent came to.
+-- What a look at a link came to.
 use Rattle.std.specs.Prelude.{Bool, true, false}
-use Rattle.foreman_run.specs.declared.parent.Look.{Look}
-use Rattle.foreman_run.specs.declared.parent.Look.TheVariants.{Nothing, Something, Over}
+use Rattle.foreman_run.specs.declared.look.Look.{Look}
+use Rattle.foreman_run.specs.declared.look.Look.TheVariants.{Nothing, Bytes, Message, Over}
 
 -- the work is over
 abbrev pub is_over : Look → Bool
 is_over Nothing = false
-is_over Something = false
+is_over Bytes = false
+is_over Message = false
 is_over Over = true

@@ -1,9 +1,10 @@
 -- A foreman's links to its workers.
-use Rattle.std.specs.Prelude.{◌≡◌, ◌+◌, ℕ, Bool, false, List, length}
+use Rattle.std.specs.Prelude.{◌≡◌, ◌⊎◌, ◌+◌, ℕ, Bool, false, List, length}
 use Rattle.flow_types.specs.declared.job.Failure.{Failure}
 use Rattle.flow_types.specs.declared.job.Job.{Job}
 use Rattle.flow_types.specs.declared.job.Outcome.{Outcome}
 use Rattle.flow_types.specs.declared.job.Task.{Task}
+use Rattle.flow_types.specs.declared.messages.Key.{Key}
 use Rattle.flow_types.specs.declared.messages.Message.{Message}
 use Rattle.flow_types.specs.declared.messages.Message.TheVariants as messages
 use Rattle.flow_types.specs.declared.numbers.AttemptNo.{AttemptNo}
@@ -31,13 +32,26 @@ pub record LowerState (L : Type 0) : Type 0 where
 abbrev pub over : LinkNo → Message → Down
 over k m = record { link = k; message = m }
 
+-- a key that no content has
+abbrev pub no_key : Key
+no_key = record { run = 18446744073709551615; file = record { 0 = 4294967295 } }
+
+-- what is sent to a worker to see whether it is still there: it changes nothing
+abbrev pub probe : Message
+probe = messages.Unlink no_key
+
+-- A message is a probe, or was to go down there.
+abbrev pub Went : List Down → LinkNo → Message → Type 0
+Went sent k m = (m ≡ probe) ⊎ Stands (over k m) sent
+
 -- What passed over a link of this number, by all that was to go down: what was sent are the frames of
--- messages that were to go down there, and what came are frames of messages and the bytes left.
+-- probes and of messages that were to go down there, and what came are frames of messages and the
+-- bytes left.
 pub record Passes (history : List Passed) (ear : EarState) (k : LinkNo) (sent : List Down) : Type 0 where
   pub said : List Message
   pub said_framed : AreFramed said
   pub are_sent : sent_in history ≡ frames_of said
-  pub went : Every (λ m. Stands (over k m) sent) said
+  pub went : Every (Went sent k) said
   pub heard : List Message
   pub came : IsStream (received_in history) heard ear.rest
 

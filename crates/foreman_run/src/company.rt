@@ -6,15 +6,19 @@ ghost use Rattle.peer_run.specs.Says.{CanBeTold};
 ghost use Rattle.foreman_run.specs.Says.{CanGoDown};
 
 use crate::lower::Lower;
-use flow_types::LinkNo;
+use flow_types::{LinkNo, Rows};
 use foreman_core::Down;
 use links::Link;
 use outside::Commands;
 use std::alloc::Global;
+use std::collections::VecDeque;
 use std::marker::Model;
 
 /// The most workers that a foreman has at once.
 const MOST_WORKERS: usize = 32;
+
+/// The most links at once: as many as there may be workers, and eight more that wait for their Hello.
+const MOST_LINKS: usize = 40;
 
 /// The links to the workers, in the order in which they came.
 #[derive(Drop)]
@@ -44,10 +48,18 @@ impl<F: Commands, L: Link<F>> Company<F, L> {
         }
     }
 
+    // How many workers have said their Hello.
+    fn workers(&self) -> usize {
+        self.lowers
+            .iter()
+            .filter(|lower| lower.is_greeted())
+            .count()
+    }
+
     /// The number of the next link. While as many are there as may be, and once each number was given,
     /// there is none.
     pub fn next(&self) -> Option<LinkNo> {
-        if self.lowers.len() >= MOST_WORKERS {
+        if self.lowers.len() >= MOST_LINKS || self.workers() >= MOST_WORKERS {
             return None;
         }
         let number = self.numbered.checked_add(1)?;
@@ -91,24 +103,49 @@ impl<F: Commands, L: Link<F>> Company<F, L> {
     }
 
     // Sends a message down, where there is its link.
-    fn send(&mut self, alloc: Global, down: &Down)
-        requires told { CanBeTold down.now.message }
-        ensures { KeepsWith L.tells L.history L.honest (down.now ∷ []) self.old self.new }
+    fn send(&mut self, alloc: Global, down: Down)
+        requires told { CanBeTold down.message }
+        ensures { KeepsWith L.tells L.history L.honest (down ∷ []) self.old self.new }
     {
-        if let Some(at) = self.place(down.link) {
+        let Down { link, message } = down;
+        if let Some(at) = self.place(link) {
             if let Some(lower) = self.lowers.get_mut(at) {
-                lower.send(alloc, &down.message);
+                lower.send(alloc, message);
             }
         }
     }
 
     /// Sends these messages down, in order.
-    pub fn send_all(&mut self, alloc: Global, downs: &[Down])
-        requires told { CanGoDown downs.now }
-        ensures { KeepsWith L.tells L.history L.honest downs.now self.old self.new }
+    pub fn send_all(&mut self, alloc: Global, downs: Rows<Down>)
+        requires told { CanGoDown downs }
+        ensures { KeepsWith L.tells L.history L.honest downs self.old self.new }
     {
-        for down in downs {
+        let mut left = VecDeque::from(downs.into_vec());
+        while let Some(down) = left.pop_front() {
             self.send(alloc, down);
+        }
+    }
+
+    // A second has passed at the link at a place.
+    fn check_at(&mut self, alloc: Global, at: usize)
+        ensures { Keeps L.tells L.history L.honest self.old self.new }
+    {
+        let Some(lower) = self.lowers.get_mut(at) else {
+            return;
+        };
+        lower.check(alloc);
+    }
+
+    /// At a turn, a second has passed at each link: what waits is sent on, and links are to be left
+    /// whose workers are gone or never came.
+    pub fn check(&mut self, alloc: Global, turn: bool)
+        ensures { Keeps L.tells L.history L.honest self.old self.new }
+    {
+        if !turn {
+            return;
+        }
+        for at in 0..self.count() {
+            self.check_at(alloc, at);
         }
     }
 

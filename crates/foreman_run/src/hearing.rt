@@ -8,6 +8,7 @@ ghost use Rattle.foreman_run.specs.Heard.{Hears};
 ghost use Rattle.foreman_run.specs.Works.{IsAtWork, Works};
 
 use crate::company::Company;
+use crate::look::Look;
 use crate::lower::Lower;
 use crate::parent::perform;
 use crate::stop::Stop;
@@ -19,7 +20,8 @@ use peer_run::Halt;
 use peers::honest_links_were_honest;
 use std::alloc::Global;
 
-/// What the next message of a worker asks for, if a whole one is there.
+/// What the next message of a worker asks for, if a whole one is there. A worker that can't run what
+/// it is asked for is left instead, so that what runs there is placed anew.
 fn hear<F: Commands, L: Link<F>>(
     core: &mut ForemanCore,
     lower: &mut Lower<F, L>,
@@ -28,7 +30,7 @@ fn hear<F: Commands, L: Link<F>>(
     ensures way { lower.new.way ≡ lower.old.way }
     ensures hears { Hears L.tells L.history core.old core.new lower.old lower.new result }
 {
-    if !lower.advance() {
+    if !lower.advance() || lower.tires() {
         return Ok(None);
     }
     let link = lower.link();
@@ -38,16 +40,16 @@ fn hear<F: Commands, L: Link<F>>(
     }
 }
 
-/// Does what the next message of the worker at a place asks for, or takes the bytes that are there.
-/// It answers whether there was anything.
+/// Does what the next message of the worker at a place asks for, or takes the bytes that are there,
+/// if there are some or it is a turn to ask for them.
 pub(crate) fn hear_at<F: Commands, U: Link<F>, L: Link<F>>(
     alloc: Global,
     link: &mut U,
     core: &mut ForemanCore,
     company: &mut Company<F, L>,
     at: usize,
-    waits: bool,
-) -> Result<bool, Stop>
+    turn: bool,
+) -> Result<Look, Stop>
     requires works { (ear : EarState)
         × IsAtWork F.gives F.may_fail U.tells L.tells L.history L.honest
         (way_of U.history U.is_closed U.count link.old) ear core.old company.old }
@@ -64,15 +66,15 @@ pub(crate) fn hear_at<F: Commands, U: Link<F>, L: Link<F>>(
 {
     honest_links_were_honest::<F, L>();
     let Some(lower) = company.lowers.get_mut(at) else {
-        return Ok(false);
+        return Ok(Look::Nothing);
     };
     let acts = match hear(core, lower) {
         Ok(Some(acts)) => acts,
-        Ok(None) => return Ok(lower.listen(alloc, waits)),
+        Ok(None) => return Ok(Look::of(lower.listen(alloc, turn))),
         Err(_) => return Err(Stop::Left(Halt::Memory)),
     };
     match perform(alloc, link, company, acts) {
-        Ok(()) => Ok(true),
+        Ok(()) => Ok(Look::Message),
         Err(stop) => Err(stop),
     }
 }

@@ -102,13 +102,13 @@ fn wait<F: Commands, H: Hall<F>>(
     }
 }
 
-/// Lets in who has come, or waits for somebody, and answers whether anybody came. While as many are
-/// there as may be nobody is asked for.
+/// Lets in who has come, and at a turn asks in any case, and answers whether anybody came. While as
+/// many are there as may be nobody is asked for.
 pub(crate) fn meet<F: Commands, H: Hall<F>>(
     alloc: Global,
     company: &mut Company<F, H::Way>,
     hall: &mut H,
-    waits: bool,
+    turn: bool,
 ) -> Result<bool, Stop>
     requires listens { H.listens hall.old }
     ensures gains { Gains H.Way.tells H.Way.history H.Way.honest (H.honest hall.old) company.old
@@ -123,7 +123,7 @@ pub(crate) fn meet<F: Commands, H: Hall<F>>(
     let Some(link) = company.next() else {
         return Ok(false);
     };
-    if !hall.ready() && !waits {
+    if !hall.ready() && !turn {
         return Ok(false);
     }
     wait::<F, H>(alloc, company, hall, link)
@@ -208,7 +208,7 @@ fn farewell<F: Commands, H: Hall<F>>(
 {
     let mut lower = lower;
     if is_over {
-        lower.send(alloc, &Message::Bye);
+        lower.send(alloc, Message::Bye);
     }
     let link = lower.link();
     hand_back::<F, H>(alloc, hall, link, lower.into_way()).is_ok()

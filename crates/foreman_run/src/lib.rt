@@ -2,9 +2,11 @@
 //! is.
 #![tactic(auto)]
 
+mod care;
 mod company;
 mod hearing;
 mod hosting;
+mod look;
 mod lower;
 mod parent;
 mod rounds;

@@ -1,20 +1,34 @@
 //! A link to a worker.
 ghost use Rattle.std.specs.Prelude.{◌≡◌, [], false, true, List, None, IfOk, IfErr, Ok};
 ghost use Rattle.foreman_core.specs.declared.acts.Down.{Down as DownValue};
-ghost use Rattle.foreman_core.specs.Members.{Stands};
 ghost use Rattle.peer_run.specs.Ends.{Advanced};
 ghost use Rattle.peer_run.specs.Says.{CanBeTold};
 ghost use Rattle.wq_messages.specs.Views.{HasMessage, shown};
-ghost use Rattle.foreman_run.specs.Lowers.{IsHeld, over};
+ghost use Rattle.foreman_run.specs.Lowers.{IsHeld, Went, probe};
 
+use crate::care::Care;
 use crate::voice::send;
-use flow_types::{LinkNo, Message};
+use flow_types::{FileNo, Key, LinkNo, Message};
 use links::{Got, Link};
 use outside::Commands;
 use peer_run::Ear;
 use std::alloc::Global;
 use std::marker::{Model, PhantomData};
 use wq_messages::View;
+
+/// How many seconds in a row a worker may take no byte of what waits for it.
+const MOST_STUCK_SECONDS: u64 = 600;
+
+// What a worker is sent to see whether it is still there. It changes nothing.
+fn probe() -> Message
+    ensures { result ≡ probe }
+{
+    let key = Key {
+        run: u64::MAX,
+        file: FileNo(u32::MAX),
+    };
+    Message::Unlink { key }
+}
 
 /// A link to a worker, under its number, and whether it is to be left.
 #[derive(Drop)]
@@ -23,6 +37,7 @@ pub(crate) struct Lower<F: Commands, L: Link<F>> {
     way: L,
     ear: Ear,
     gone: bool,
+    care: Care,
     of: PhantomData<F>,
 }
 
@@ -54,6 +69,7 @@ impl<F: Commands, L: Link<F>> Lower<F, L> {
                 way,
                 ear,
                 gone: false,
+                care: Care::new(alloc),
                 of: PhantomData,
             }),
             Err(_) => Err(way),
@@ -88,36 +104,43 @@ impl<F: Commands, L: Link<F>> Lower<F, L> {
         self.way
     }
 
+    /// Whether its first message came.
+    pub fn is_greeted(&self) -> bool {
+        self.care.is_greeted()
+    }
+
     /// Sends a message, unless the link is to be left. Where that fails it is.
-    pub fn send(&mut self, alloc: Global, message: &Message)
-        requires told { CanBeTold message.now }
+    pub fn send(&mut self, alloc: Global, message: Message)
+        requires told { CanBeTold message }
         ensures link { self.new.link ≡ self.old.link }
-        ensures held { (sent : List DownValue) → Stands (over self.old.link message.now) sent
+        ensures held { (sent : List DownValue) → Went sent self.old.link message
             → IsHeld L.tells L.history sent self.old → IsHeld L.tells L.history sent self.new }
         ensures honest { L.honest self.old.way → L.honest self.new.way }
     {
         if self.gone {
             return;
         }
+        self.care.send(&message);
         match send(alloc, &mut self.way, message) {
             Ok(()) => {}
             Err(_) => self.gone = true,
         }
     }
 
-    /// Takes the bytes that are there, if there are some or it is to wait for them, and answers
+    /// Takes the bytes that are there, if there are some or it is a turn to ask for them, and answers
     /// whether there was anything. Where it closes or fails it is to be left.
-    pub fn listen(&mut self, alloc: Global, waits: bool) -> bool
+    pub fn listen(&mut self, alloc: Global, turn: bool) -> bool
         ensures link { self.new.link ≡ self.old.link }
         ensures held { (sent : List DownValue)
             → IsHeld L.tells L.history sent self.old → IsHeld L.tells L.history sent self.new }
         ensures honest { L.honest self.old.way → L.honest self.new.way }
     {
-        if self.gone || (!self.way.ready() && !waits) {
+        if self.gone || (!self.way.ready() && !turn) {
             return false;
         }
         match self.way.recv(alloc) {
             Ok(Got::Piece(piece)) => {
+                self.care.take(piece.as_slice().len());
                 if self.ear.feed(piece.as_slice()).is_err() {
                     self.gone = true;
                 }
@@ -131,8 +154,48 @@ impl<F: Commands, L: Link<F>> Lower<F, L> {
         }
     }
 
+    // Sends on what waits. Where it has waited too long the link is to be left.
+    fn push_on(&mut self)
+        ensures link { self.new.link ≡ self.old.link }
+        ensures held { (sent : List DownValue)
+            → IsHeld L.tells L.history sent self.old → IsHeld L.tells L.history sent self.new }
+        ensures honest { L.honest self.old.way → L.honest self.new.way }
+    {
+        if self.way.flush(MOST_STUCK_SECONDS).is_err() {
+            self.gone = true;
+        }
+    }
+
+    // Sees whether a worker is still there to which nothing went for long.
+    fn see(&mut self, alloc: Global)
+        ensures link { self.new.link ≡ self.old.link }
+        ensures held { (sent : List DownValue)
+            → IsHeld L.tells L.history sent self.old → IsHeld L.tells L.history sent self.new }
+        ensures honest { L.honest self.old.way → L.honest self.new.way }
+    {
+        if self.care.pass_second() && self.way.behind() == 0 {
+            self.send(alloc, probe());
+        }
+    }
+
+    /// A second has passed: sends on what waits, sees whether the worker is still there, and answers
+    /// whether the link is to be left.
+    pub fn check(&mut self, alloc: Global)
+        ensures link { self.new.link ≡ self.old.link }
+        ensures held { (sent : List DownValue)
+            → IsHeld L.tells L.history sent self.old → IsHeld L.tells L.history sent self.new }
+        ensures honest { L.honest self.old.way → L.honest self.new.way }
+    {
+        if self.care.is_late(self.way.idles()) {
+            self.gone = true;
+            return;
+        }
+        self.push_on();
+        self.see(alloc);
+    }
+
     /// Takes the next message, and answers whether a whole one was there. Where what is there is
-    /// none the link is to be left.
+    /// none, or can't become the first one, the link is to be left.
     pub fn advance(&mut self) -> bool
         ensures link { self.new.link ≡ self.old.link }
         ensures way { self.new.way ≡ self.old.way }
@@ -145,12 +208,31 @@ impl<F: Commands, L: Link<F>> Lower<F, L> {
             return false;
         }
         match self.ear.advance() {
-            Ok(taken) => taken,
+            Ok(true) => true,
+            Ok(false) => {
+                self.gone = self.care.is_stranger();
+                false
+            }
             Err(_) => {
                 self.gone = true;
                 false
             }
         }
+    }
+
+    /// Notes the message that was taken last, and answers whether the worker can't run what it is
+    /// asked for. Then the link is to be left.
+    pub fn tires(&mut self) -> bool
+        requires { HasMessage self.old.ear.body }
+        ensures kept { result ≡ false → self.new ≡ self.old }
+        ensures left { result ≡ true → self.new ≡ record self.old { gone = true } }
+    {
+        let head = self.ear.heard().head();
+        if self.care.hear(head) {
+            self.gone = true;
+            return true;
+        }
+        false
     }
 
     /// The message that was taken last.

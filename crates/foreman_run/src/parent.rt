@@ -11,6 +11,7 @@ ghost use Rattle.foreman_run.specs.Says.{CanGoDown};
 ghost use Rattle.foreman_run.specs.Works.{IsAtWork, Works};
 
 use crate::company::Company;
+use crate::look::Look;
 use crate::stop::Stop;
 use crate::voice::say_all;
 use flow_types::Message;
@@ -21,25 +22,11 @@ use peer_run::{Ear, Halt};
 use std::alloc::Global;
 use wq_messages::PeerFault;
 
-/// What a look at the link to the parent came to.
-#[derive(Clone, Copy, Debug, PartialEq, Eq)]
-pub enum Look {
-    /// Nothing was there.
-    Nothing,
-    /// Something was there.
-    Something,
-    /// The work is over.
-    Over,
-}
+/// The most messages of one link in a round.
+pub(crate) const MOST_MESSAGES: usize = 64;
 
-impl Look {
-    // What it came to that isn't the end of the work.
-    fn of(did: bool) -> Look
-        ensures { is_over result ≡ false }
-    {
-        if did { Look::Something } else { Look::Nothing }
-    }
-}
+/// How many seconds in a row the parent may take nothing of what waits for it: as many as it likes.
+const ANY_PATIENCE: u64 = 1_000_000_000;
 
 /// Says what a step says upward, sends what goes down, and leaves the link that is to be left.
 pub(crate) fn perform<F: Commands, U: Link<F>, L: Link<F>>(
@@ -70,7 +57,7 @@ pub(crate) fn perform<F: Commands, U: Link<F>, L: Link<F>>(
     if let Err(fault) = say_all(alloc, link, up.as_slice()) {
         return Err(Stop::of(fault));
     }
-    company.send_all(alloc, down.as_slice());
+    company.send_all(alloc, down);
     company.leave(leave);
     Ok(())
 }
@@ -113,13 +100,37 @@ fn obey<F: Commands, U: Link<F>, L: Link<F>>(
     }
 }
 
-/// Takes the bytes that are there, where less than a message was, if there are some or it is to wait
-/// for them, and answers whether there was anything.
+/// At a turn, sends on what waits for the parent. It is never too slow.
+pub(crate) fn push_on<F: Commands, U: Link<F>, L: Link<F>>(
+    link: &mut U,
+    turn: bool,
+) -> Result<(), Stop>
+    ensures goes { (trusted : Bool) (cap faults : ℕ) (ear : EarState) (core : Foreman)
+        (lowers : List (LowerState L))
+        → Works F.gives F.may_fail U.tells trusted L.tells L.history L.honest cap faults
+        (way_of U.history U.is_closed U.count link.old) ear core lowers [] [] false
+        → Goes result (λ _. Works F.gives F.may_fail U.tells trusted L.tells L.history L.honest
+        cap faults (way_of U.history U.is_closed U.count link.new) ear core lowers [] [] false)
+        (Stops F.gives F.may_fail U.tells trusted cap faults
+        (way_of U.history U.is_closed U.count link.new)) }
+    ensures left { LeavesParent result }
+{
+    if !turn {
+        return Ok(());
+    }
+    match link.flush(ANY_PATIENCE) {
+        Ok(_) => Ok(()),
+        Err(fault) => Err(Stop::of(fault)),
+    }
+}
+
+/// Takes the bytes that are there, where less than a message was, if there are some or it is a turn to
+/// ask for them, and answers whether there was anything.
 fn listen<F: Commands, U: Link<F>, L: Link<F>>(
     alloc: Global,
     link: &mut U,
     ear: &mut Ear,
-    waits: bool,
+    turn: bool,
 ) -> Result<bool, Stop>
     requires { ear.old.stop ≡ None }
     ensures goes { (trusted : Bool) (cap faults : ℕ) (before : EarState) (core : Foreman)
@@ -132,7 +143,7 @@ fn listen<F: Commands, U: Link<F>, L: Link<F>>(
         (way_of U.history U.is_closed U.count link.new)) }
     ensures left { LeavesParent result }
 {
-    if !link.ready() && !waits {
+    if !link.ready() && !turn {
         return Ok(false);
     }
     match link.recv(alloc) {
@@ -146,14 +157,15 @@ fn listen<F: Commands, U: Link<F>, L: Link<F>>(
     }
 }
 
-/// Does what the parent's next message asks for, or takes the bytes that are there.
-pub(crate) fn attend<F: Commands, U: Link<F>, L: Link<F>>(
+/// Does what the parent's next message asks for, or takes the bytes that are there, if there are some
+/// or it is a turn to ask for them.
+fn attend<F: Commands, U: Link<F>, L: Link<F>>(
     alloc: Global,
     link: &mut U,
     ear: &mut Ear,
     core: &mut ForemanCore,
     company: &mut Company<F, L>,
-    waits: bool,
+    turn: bool,
 ) -> Result<Look, Stop>
     requires works { IsAtWork F.gives F.may_fail U.tells L.tells L.history L.honest
         (way_of U.history U.is_closed U.count link.old) ear.old core.old company.old }
@@ -172,13 +184,47 @@ pub(crate) fn attend<F: Commands, U: Link<F>, L: Link<F>>(
     match ear.next(alloc) {
         Ok(Some(message)) => match obey(alloc, link, core, company, message, at) {
             Ok(true) => Ok(Look::Over),
-            Ok(false) => Ok(Look::Something),
+            Ok(false) => Ok(Look::Message),
             Err(stop) => Err(stop),
         },
-        Ok(None) => match listen::<F, U, L>(alloc, link, ear, waits) {
+        Ok(None) => match listen::<F, U, L>(alloc, link, ear, turn) {
             Ok(did) => Ok(Look::of(did)),
             Err(stop) => Err(stop),
         },
         Err(halt) => Err(Stop::Left(halt)),
     }
+}
+
+/// Does what the parent's next messages ask for, and then takes the bytes that are there. However many
+/// messages there are, it takes only so many.
+pub(crate) fn attend_some<F: Commands, U: Link<F>, L: Link<F>>(
+    alloc: Global,
+    link: &mut U,
+    ear: &mut Ear,
+    core: &mut ForemanCore,
+    company: &mut Company<F, L>,
+    turn: bool,
+) -> Result<Look, Stop>
+    requires works { IsAtWork F.gives F.may_fail U.tells L.tells L.history L.honest
+        (way_of U.history U.is_closed U.count link.old) ear.old core.old company.old }
+    ensures goes { (trusted : Bool) (cap faults : ℕ)
+        → Works F.gives F.may_fail U.tells trusted L.tells L.history L.honest cap faults
+        (way_of U.history U.is_closed U.count link.old) ear.old core.old company.old [] [] false
+        → Goes result (λ look. Works F.gives F.may_fail U.tells trusted L.tells L.history L.honest
+        cap faults (way_of U.history U.is_closed U.count link.new) ear.new core.new company.new
+        [] [] (is_over look))
+        (Stops F.gives F.may_fail U.tells trusted cap faults
+        (way_of U.history U.is_closed U.count link.new)) }
+    ensures left { LeavesParent result }
+    ensures many { length company.new ≡ length company.old }
+{
+    let mut did = false;
+    for _ in 0..MOST_MESSAGES {
+        match attend(alloc, link, ear, core, company, turn) {
+            Ok(Look::Message) => did = true,
+            Ok(look) => return Ok(look.after(did)),
+            Err(stop) => return Err(stop),
+        }
+    }
+    Ok(Look::Message)
 }

@@ -9,7 +9,8 @@ ghost use Rattle.foreman_run.specs.Works.{IsAtWork, Works};
 use crate::company::Company;
 use crate::hearing::hear_at;
 use crate::hosting::{lose_next, meet};
-use crate::parent::{Look, attend};
+use crate::look::Look;
+use crate::parent::{MOST_MESSAGES, attend_some, push_on};
 use crate::stop::Stop;
 use foreman_core::ForemanCore;
 use links::{Hall, Link};
@@ -18,58 +19,64 @@ use peer_run::{Ear, Halt};
 use std::alloc::Global;
 use std::sync::Wait;
 
-/// The most looks in a row that find nothing before each link, and the place where workers come, is
-/// waited for once. A look that finds nothing takes a millisecond.
-const PATIENCE: u32 = 1_000;
+/// How many milliseconds a round that found nothing is followed by at most, while nothing comes.
+const LONGEST_REST: u64 = 250;
 
-/// The most looks in a row that find something before it is asked who has come.
-const MOST_BUSY: u32 = 64;
+/// A turn comes once in so many milliseconds.
+const TURN: u64 = 1_000;
 
-/// How many looks in a row found nothing, and how many found something.
+/// The most bytes that may wait for the parent while workers are heard, who would add to them.
+const MOST_BEHIND: u64 = 67_108_864;
+
+/// How many milliseconds went by since the last turn, and whether the last round found anything.
 #[derive(Drop)]
 struct Pace {
-    idle: u32,
-    busy: u32,
+    passed: u64,
+    did: bool,
 }
 
 impl Pace {
     fn new() -> Pace {
-        Pace { idle: 0, busy: 0 }
+        Pace {
+            passed: 0,
+            did: false,
+        }
     }
 
-    // Whether it is time to wait for each link once; then the looks are counted anew.
-    fn waits(&mut self) -> bool {
-        if self.idle < PATIENCE {
+    // Whether it is a turn. However long it is overdue, it is one.
+    fn is_turn(&mut self) -> bool {
+        if self.passed < TURN {
             return false;
         }
-        self.idle = 0;
+        self.passed %= TURN;
         true
     }
 
-    // Whether it is time to ask who has come, where a look found something or not.
-    fn asks(&mut self, did: bool) -> bool {
-        if did {
-            self.idle = 0;
-            self.busy = self.busy.saturating_add(1);
-        } else {
-            self.idle = self.idle.saturating_add(1);
-            self.busy = MOST_BUSY;
-        }
-        if self.busy < MOST_BUSY {
-            return false;
-        }
-        self.busy = 0;
-        true
+    // Whether the round found anything.
+    fn note(&mut self, did: bool) {
+        self.did = did;
+    }
+
+    // How long to wait at most.
+    fn rest(&self) -> u64 {
+        if self.did { 0 } else { LONGEST_REST }
+    }
+
+    // So many milliseconds went by.
+    fn pass(&mut self, millis: u64) {
+        self.passed = self.passed.saturating_add(millis);
     }
 }
 
-/// Hears each worker once, and answers whether any told something.
-fn hear_all<F: Commands, U: Link<F>, L: Link<F>>(
+/// Does what the next messages of the worker at a place ask for, and then takes the bytes that are
+/// there. However many messages there are, it takes only so many.
+fn hear_some<F: Commands, U: Link<F>, L: Link<F>>(
     alloc: Global,
     parent: &mut U,
     core: &mut ForemanCore,
     company: &mut Company<F, L>,
-    waits: bool,
+    at: usize,
+    turn: bool,
 ) -> Result<bool, Stop>
     requires works { (ear : EarState)
         × IsAtWork F.gives F.may_fail U.tells L.tells L.history L.honest
@@ -86,8 +93,45 @@ fn hear_all<F: Commands, U: Link<F>, L: Link<F>>(
     ensures many { length company.new ≡ length company.old }
 {
     let mut did = false;
+    for _ in 0..MOST_MESSAGES {
+        match hear_at(alloc, parent, core, company, at, turn) {
+            Ok(Look::Message) => did = true,
+            Ok(look) => return Ok(look.after(did).did()),
+            Err(stop) => return Err(stop),
+        }
+    }
+    Ok(true)
+}
+
+/// Hears each worker once, and answers whether any told something. While the parent is far behind it
+/// hears none.
+fn hear_all<F: Commands, U: Link<F>, L: Link<F>>(
+    alloc: Global,
+    parent: &mut U,
+    core: &mut ForemanCore,
+    company: &mut Company<F, L>,
+    turn: bool,
+) -> Result<bool, Stop>
+    requires works { (ear : EarState)
+        × IsAtWork F.gives F.may_fail U.tells L.tells L.history L.honest
+        (way_of U.history U.is_closed U.count parent.old) ear core.old company.old }
+    ensures goes { (trusted : Bool) (cap faults : ℕ) (ear : EarState)
+        → Works F.gives F.may_fail U.tells trusted L.tells L.history L.honest cap faults
+        (way_of U.history U.is_closed U.count parent.old) ear core.old company.old [] [] false
+        → Goes result (λ _. Works F.gives F.may_fail U.tells trusted L.tells L.history L.honest
+        cap faults (way_of U.history U.is_closed U.count parent.new) ear core.new company.new
+        [] [] false)
+        (Stops F.gives F.may_fail U.tells trusted cap faults
+        (way_of U.history U.is_closed U.count parent.new)) }
+    ensures left { LeavesParent result }
+    ensures many { length company.new ≡ length company.old }
+{
+    if parent.behind() > MOST_BEHIND {
+        return Ok(false);
+    }
+    let mut did = false;
     for at in 0..company.count() {
-        match hear_at(alloc, parent, core, company, at, waits) {
+        match hear_some(alloc, parent, core, company, at, turn) {
             Ok(heard) => did = did || heard,
             Err(stop) => return Err(stop),
         }
@@ -130,15 +174,15 @@ fn lose_all<F: Commands, U: Link<F>, H: Hall<F>>(
     Ok(did)
 }
 
-/// Hears each worker once, and leaves the links that are to be left. It answers whether there was
-/// anything.
+/// Looks after each worker at a turn, hears it once, and leaves the links that are to be left. It
+/// answers whether there was anything.
 fn tend<F: Commands, U: Link<F>, H: Hall<F>>(
     alloc: Global,
     parent: &mut U,
     core: &mut ForemanCore,
     company: &mut Company<F, H::Way>,
     hall: &mut H,
-    waits: bool,
+    turn: bool,
 ) -> Result<bool, Stop>
     requires works { (ear : EarState)
         × IsAtWork F.gives F.may_fail U.tells H.Way.tells H.Way.history H.Way.honest
@@ -157,7 +201,8 @@ fn tend<F: Commands, U: Link<F>, H: Hall<F>>(
     ensures listens { H.listens hall.old → H.listens hall.new }
     ensures honest { H.honest hall.old → H.honest hall.new }
 {
-    match hear_all(alloc, parent, core, company, waits) {
+    company.check(alloc, turn);
+    match hear_all(alloc, parent, core, company, turn) {
         Ok(heard) => match lose_all(alloc, parent, core, company, hall) {
             Ok(lost) => Ok(heard || lost),
             Err(stop) => Err(stop),
@@ -173,9 +218,7 @@ fn host<F: Commands, U: Link<F>, H: Hall<F>>(
     core: &mut ForemanCore,
     company: &mut Company<F, H::Way>,
     hall: &mut H,
-    pace: &mut Pace,
-    busy: bool,
-    waits: bool,
+    turn: bool,
 ) -> Result<bool, Stop>
     requires works { (ear : EarState)
         × IsAtWork F.gives F.may_fail U.tells H.Way.tells H.Way.history H.Way.honest
@@ -196,14 +239,11 @@ fn host<F: Commands, U: Link<F>, H: Hall<F>>(
     ensures listens { H.listens hall.new }
     ensures honest { H.honest hall.old → H.honest hall.new }
 {
-    let did = match tend(alloc, parent, core, company, hall, waits) {
+    let did = match tend(alloc, parent, core, company, hall, turn) {
         Ok(did) => did,
         Err(stop) => return Err(stop),
     };
-    if !pace.asks(busy || did) && !waits {
-        return Ok(did);
-    }
-    match meet::<F, H>(alloc, company, hall, waits) {
+    match meet::<F, H>(alloc, company, hall, turn) {
         Ok(came) => Ok(did || came),
         Err(stop) => Err(stop),
     }
@@ -238,20 +278,25 @@ fn round<F: Commands, U: Link<F>, H: Hall<F>>(
     ensures listens { H.listens hall.new }
     ensures honest { H.honest hall.old → H.honest hall.new }
 {
-    let waits = pace.waits();
-    // Where nobody more is asked for it is the parent that a look waits for.
-    let rests = company.next().is_none() && pace.idle > 0;
-    let look = match attend(alloc, parent, ear, core, company, waits || rests) {
+    let turn = pace.is_turn();
+    if let Err(stop) = push_on::<F, U, H::Way>(parent, turn) {
+        return Err(stop);
+    }
+    let look = match attend_some(alloc, parent, ear, core, company, turn) {
         Ok(look) => look,
         Err(stop) => return Err(stop),
     };
     let busy = match look {
         Look::Over => return Ok(true),
-        Look::Something => true,
+        Look::Message => true,
+        Look::Bytes => true,
         Look::Nothing => false,
     };
-    match host(alloc, parent, core, company, hall, pace, busy, waits) {
-        Ok(_) => Ok(false),
+    match host(alloc, parent, core, company, hall, turn) {
+        Ok(did) => {
+            pace.note(busy || did);
+            Ok(false)
+        }
         Err(stop) => Err(stop),
     }
 }
@@ -283,7 +328,7 @@ pub(crate) fn serve<W: Wait, F: Commands, U: Link<F>, H: Hall<F>>(
     for _ in rt.forever() {
         match round(alloc, parent, ear, core, company, hall, &mut pace) {
             Ok(true) => return Stop::Left(Halt::Bye),
-            Ok(false) => {}
+            Ok(false) => pace.pass(hall.rest(pace.rest())),
             Err(stop) => return stop,
         }
     }

@@ -64,3 +64,32 @@ fn a_hall_and_a_dial_in_memory_take_their_steps(rt: HostRuntime) -> Result<(), F
     assert!(rt; Dial::<Blank>::dial(&mut dial, alloc, "host", 9123).is_err());
     Ok(())
 }
+
+// A link that is idle, lets two bytes wait to go out, and fails a flush.
+fn link_behind(alloc: Global) -> Result<MemLink, Fail> {
+    let given = Bytes::of(alloc, b"abc")?;
+    let steps = vec![in alloc;
+        LinkStep::Idle,
+        LinkStep::Behind,
+        LinkStep::Behind,
+        LinkStep::FailFlush,
+        LinkStep::Give(given),
+    ]?;
+    Ok(MemLink::new(alloc, Rows::of(steps)))
+}
+
+#[test]
+fn a_link_in_memory_is_behind_by_its_steps(rt: HostRuntime) -> Result<(), Fail> {
+    let alloc = rt.alloc();
+    let mut link = link_behind(alloc)?;
+    assert!(rt; !Link::<Blank>::ready(&mut link));
+    assert!(rt; matches!(Link::<Blank>::recv(&mut link, alloc)?, Got::Idle));
+    assert!(rt; matches!(Link::<Blank>::recv(&mut link, alloc)?, Got::Idle));
+    assert_eq!(rt; Link::<Blank>::behind(&link), 1);
+    assert_eq!(rt; Link::<Blank>::flush(&mut link, 9), Ok(1));
+    assert_eq!(rt; Link::<Blank>::flush(&mut link, 9), Ok(1));
+    assert_eq!(rt; Link::<Blank>::flush(&mut link, 9), Err(Fault::Failed));
+    assert_eq!(rt; Link::<Blank>::behind(&link), 0);
+    assert!(rt; Link::<Blank>::ready(&mut link));
+    Ok(())
+}

@@ -1,57 +1,78 @@
-//! What is sent comes whole.
-use crate::ends::{first_port, hear, meet, open};
+//! A send waits for nobody, and what is sent comes whole.
+use crate::ends::{Ends, SOON, message, new_ends};
 use links::Link;
 use mem_outside::Blank;
-use real_links::{TcpDial, TcpHall, TcpLink};
-use std::alloc::{AllocError, Global};
+use outside::Fault;
+use real_links::TcpLink;
 use std::rt::HostRuntime;
 use std::test::Fail;
-use std::thread::{self, Threads};
+use std::time::Instant;
 
-// A message that no piece and no buffer of a socket holds.
-const LONG: u32 = 8_000_000;
+// Messages that no piece and no buffer of a socket holds: eight and sixteen megabytes.
+const LONG: u32 = 7;
 
-// How often an end may be idle in a row: some seconds.
-const IDLES: u64 = 500;
+const VERY_LONG: u32 = 8;
 
-fn long_message(alloc: Global) -> Result<Vec<u8>, AllocError> {
-    let mut bytes = Vec::new(alloc);
-    for place in 0..LONG {
-        bytes.push((place % 251) as u8)?;
-    }
-    Ok(bytes)
-}
+// In how many flushes in a row the other end may take nothing, and how many there are at most.
+const PATIENCE: u64 = 3;
 
-// Sends from one end while another thread hears at the other. Whether all came as it was sent.
-fn comes_whole<R: AllocGlobal + Threads>(
-    rt: &R,
-    from: &mut TcpLink,
-    to: &mut TcpLink,
-    bytes: &[u8],
-) -> bool {
+const FLUSHES: u64 = 100;
+
+#[test]
+fn a_send_waits_for_nobody_and_comes_whole(rt: HostRuntime) -> Result<(), Fail> {
     let alloc = rt.alloc();
-    let (sent, heard) = thread::join(
-        rt,
-        || Link::<Blank>::send(from, bytes).is_ok(),
-        || hear(alloc, to, bytes.len(), IDLES),
-    );
-    match heard {
-        Some(heard) => sent && heard.as_slice() == bytes,
-        None => false,
-    }
+    let mut ends = new_ends(&rt, 0)?;
+    let bytes = message(alloc, VERY_LONG)?;
+    let start = Instant::now(&rt)?;
+    Link::<Blank>::send(&mut ends.given, bytes.as_slice())?;
+    assert!(rt; start.elapsed(&rt)?.as_millis() < u128::from(SOON));
+    assert!(rt; Link::<Blank>::behind(&ends.given) > 0);
+    ends.hear(alloc, bytes.as_slice(), false);
+    assert_eq!(rt; ends.at_dialled, bytes.len());
+    assert_eq!(rt; Link::<Blank>::behind(&ends.given), 0);
+    assert_eq!(rt; Link::<Blank>::flush(&mut ends.given, 1), Ok(0));
+    Ok(())
 }
 
 #[test]
-fn a_long_message_comes_whole_either_way(rt: HostRuntime) -> Result<(), Fail> {
+fn long_messages_go_either_way_at_once(rt: HostRuntime) -> Result<(), Fail> {
     let alloc = rt.alloc();
-    let mut hall = TcpHall::new(&rt, alloc);
-    let mut dial = TcpDial::new(&rt);
-    let port = open(&mut hall, first_port(&rt, 0))?;
-    let (mut dialled, mut given) = meet(alloc, &mut hall, &mut dial, port)?;
-    let bytes = long_message(alloc)?;
-    assert!(rt; comes_whole(&rt, &mut dialled, &mut given, bytes.as_slice()));
-    assert!(rt; comes_whole(&rt, &mut given, &mut dialled, bytes.as_slice()));
-    assert_eq!(rt; Link::<Blank>::faults(&dialled), 0);
-    assert_eq!(rt; Link::<Blank>::faults(&given), 0);
+    let mut ends = new_ends(&rt, 1)?;
+    let bytes = message(alloc, LONG)?;
+    Link::<Blank>::send(&mut ends.given, bytes.as_slice())?;
+    Link::<Blank>::send(&mut ends.dialled, bytes.as_slice())?;
+    ends.hear(alloc, bytes.as_slice(), true);
+    assert_eq!(rt; ends.at_dialled, bytes.len());
+    assert_eq!(rt; ends.at_given, bytes.len());
+    assert_eq!(rt; Link::<Blank>::faults(&ends.dialled), 0);
+    assert_eq!(rt; Link::<Blank>::faults(&ends.given), 0);
+    Ok(())
+}
+
+// How many flushes go well before one fails.
+fn good_flushes(link: &mut TcpLink) -> u64 {
+    for count in 0..FLUSHES {
+        if Link::<Blank>::flush(link, PATIENCE).is_err() {
+            return count;
+        }
+    }
+    FLUSHES
+}
+
+#[test]
+fn a_peer_that_takes_nothing_fails_a_flush(rt: HostRuntime) -> Result<(), Fail> {
+    let alloc = rt.alloc();
+    let Ends {
+        mut given,
+        dialled: _silent,
+        ..
+    } = new_ends(&rt, 2)?;
+    let bytes = message(alloc, VERY_LONG)?;
+    Link::<Blank>::send(&mut given, bytes.as_slice())?;
+    let good = good_flushes(&mut given);
+    assert!(rt; PATIENCE <= good && good < FLUSHES);
+    assert_eq!(rt; Link::<Blank>::faults(&given), 1);
+    assert_eq!(rt; Link::<Blank>::behind(&given), 0);
+    assert_eq!(rt; Link::<Blank>::send(&mut given, b"abc"), Err(Fault::Failed));
     Ok(())
 }

@@ -1,5 +1,5 @@
 -- A session as a machine: which keys are known, which attempts are open, and what a message means.
-use Rattle.std.specs.Prelude.{◌≡◌, ◌⊎◌, ℕ, ◌+◌, ◌==◌, Bool, false, nat_lt, if◌then◌else◌, List, [], ◌∷◌, ◌++◌, map, position, remove, slice_get, slice_set, is_some, Option, Some, None, Result, Ok, Err, ⊤}
+use Rattle.std.specs.Prelude.{◌≡◌, ◌⊎◌, ℕ, ◌+◌, ◌==◌, Bool, true, false, nat_lt, if◌then◌else◌, List, [], ◌∷◌, ◌++◌, map, position, remove, slice_get, slice_set, is_some, Option, Some, None, Result, Ok, Err, ⊤}
 use Rattle.std.specs.List.{AllByRecursion}
 use Rattle.flow_types.specs.declared.numbers.AttemptNo.{AttemptNo}
 use Rattle.flow_types.specs.declared.numbers.FileNo.{FileNo}
@@ -26,6 +26,12 @@ pub record State : Type 0 where
   pub stage : Stage
   pub known : List Key
   pub attempts : List Open
+
+-- the hello is still to come: no message came
+abbrev pub awaits_hello : Stage → Bool
+awaits_hello stages.New = true
+awaits_hello stages.Greeted = false
+awaits_hello stages.Broken = false
 
 -- ---- open attempts
 

@@ -7,7 +7,7 @@ ghost use Rattle.link_session.specs.declared.session.Stage.TheVariants as stages
 ghost use Rattle.link_session.specs.declared.word.SessionFault.TheVariants as faults;
 ghost use Rattle.link_session.specs.Keys.{contains_key, forgotten, key_of, lacking};
 ghost use Rattle.link_session.specs.Laws.{ClosesItsAttempt};
-ghost use Rattle.link_session.specs.Sessions.{Comes, breaks, closed_where, ended_at, greets, hears, is_open, lacked_at, missed_at, place, started, told};
+ghost use Rattle.link_session.specs.Sessions.{Comes, awaits_hello, breaks, closed_where, ended_at, greets, hears, is_open, lacked_at, missed_at, place, started, told};
 
 use crate::fits::{has_files, may_end};
 use crate::known::{copy_of, forget, forget_all, learn_all};
@@ -94,6 +94,13 @@ impl Session {
             known,
             attempts,
         })
+    }
+
+    /// Whether the hello is still to come: no message came.
+    pub fn awaits_hello(&self) -> bool
+        ensures { result ≡ awaits_hello self.now.stage }
+    {
+        matches!(self.stage, Stage::New)
     }
 
     /// Whether the attempt is open.

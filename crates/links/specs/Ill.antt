@@ -12,7 +12,7 @@ use Rattle.flow_types.specs.declared.messages.Message.TheVariants.{Hello, Put, T
 use Rattle.flow_types.specs.declared.messages.Message.TheVariants.{Missing, Cancel, Unlink, Totals}
 use Rattle.flow_types.specs.declared.messages.Message.TheVariants.{Bye}
 use Rattle.flow_types.specs.Plans.{files_of, contains_number, most_bytes}
-use Rattle.message_forms.specs.Streams.{BeginsWith, Carries, Leaves}
+use Rattle.message_forms.specs.Streams.{BeginsWith, Carries, Leaves, framed}
 use Rattle.outside.specs.Jobs.{AllFit, NamesOutput}
 use Rattle.links.specs.Honesty.{HasRun}
 
@@ -58,10 +58,17 @@ Suits t (Done attempt outcome) = attempt ≡ t.attempt → OutcomeFits t outcome
 Suits t (Missing attempt files) = attempt ≡ t.attempt → TakesIn t files
 Suits t _ = Unit {0}
 
--- What came up leaves the grammar, or is out of turn.
+-- These bytes are the beginning of the message's frame, or begin with it.
+abbrev pub MayBegin : List ℕ → Message → Type 0
+MayBegin bytes m = (more behind : List ℕ) × (bytes ++ more ≡ framed m ++ behind)
+
+-- What came up leaves the grammar, or is out of turn: also where not even a first part of it is a
+-- hello's.
 pub data Misspeaks (down up : List ℕ) : Type 0 where
   broken : (messages : List Message) → Leaves up messages → Misspeaks down up
   no_hello : (m : Message) → BeginsWith up (m ∷ []) → (IsHello m → ⊥) → Misspeaks down up
+  stranger : ((total largest : Amounts) (cache : ℕ)
+      → MayBegin up (Hello total largest cache) → ⊥) → Misspeaks down up
   hello_again : (m hello : Message) → (between : List Message) → IsHello hello
       → BeginsWith up (m ∷ between ++ hello ∷ []) → Misspeaks down up
   goes_down : (m : Message) → Carries up m → GoesDown m → Misspeaks down up

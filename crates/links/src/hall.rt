@@ -6,7 +6,7 @@ ghost use Rattle.flow_types.specs.declared.numbers.LinkNo.{LinkNo as LinkNoValue
 ghost use Rattle.outside.specs.Causes.{HasCause};
 ghost use Rattle.links.specs.Halls.{IsFresh, Gives, IfLink, IsIdle};
 
-use crate::{Came, Link};
+use crate::{Came, Link, Ring};
 use flow_types::{LinkNo, Memory};
 use outside::{Commands, Fault};
 use std::alloc::Global;
@@ -82,8 +82,16 @@ pub trait Hall<F: Commands>: Send + Drop {
     fn ready(&mut self) -> bool
         ensures { self.new ≡ self.old };
 
-    /// Ends the link's connection and keeps the link, with its number if it has one. Where there is
-    /// no memory it is lost.
+    /// Waits until a peer comes, one of its links has news or takes bytes again, or whatever else
+    /// ends its waits, as a ringer that was made of it, but no longer than so many milliseconds. It
+    /// may return at any time. It answers how many milliseconds went by since it last answered, or
+    /// else since it was made.
+    fn rest(&mut self, millis: u64) -> u64
+        ensures { self.new ≡ self.old };
+
+    /// Ends the link's connection, once what it took has gone out or some seconds have passed, and
+    /// keeps the link, with its number if it has one. Where there is no memory it is lost. It waits
+    /// for nobody.
     fn back(&mut self, alloc: Global, link: Option<LinkNo>, way: Self::Way) -> Result<(), Memory>
         ensures ok { OnOk result (got self.new ≡ got self.old ++ (link, way) ∷ []) }
         ensures err { OnErr result (got self.new ≡ got self.old) }
@@ -115,6 +123,9 @@ pub trait Dial<F: Commands>: Send + Drop {
     /// The links that it makes.
     type Way: Link<F>;
 
+    /// What ends a wait of it from another thread.
+    type Ringer: Ring;
+
     /// A count that rises at each failure.
     ghost count: { Self → ℕ };
 
@@ -123,6 +134,16 @@ pub trait Dial<F: Commands>: Send + Drop {
         ensures fresh { IfOk result
             (IsFresh Self.Way.history Self.Way.count Self.Way.idle_count Self.Way.is_closed) }
         ensures cause { HasCause (count self.old) (count self.new) result };
+
+    /// Waits until one of its links has news or takes bytes again, or one of its ringers rings, but
+    /// no longer than so many milliseconds. It may return at any time. It answers how many
+    /// milliseconds went by since it last answered, or else since it was made.
+    fn rest(&mut self, millis: u64) -> u64
+        ensures { self.new ≡ self.old };
+
+    /// A ringer that ends its waits. None where the system has none, or no memory.
+    fn ringer(&mut self) -> Option<Self::Ringer>
+        ensures { self.new ≡ self.old };
 
     /// The count of failures.
     fn faults(&self) -> u64

@@ -6,6 +6,7 @@ ghost use Rattle.std.specs.Prelude.{◌≡◌, IfOk, length};
 use master_run::makeflow_top;
 use real_links::TcpHall;
 use real_outside::{FolderSite, Owner, ShellRunner, StdoutSink, System, SystemClock};
+use ringing::Ringing;
 use std::alloc::AllocError;
 use std::env::VarError;
 use std::io::ErrorKind;
@@ -75,6 +76,7 @@ fn main(rt: HostRuntime) -> ExitCode {
         return ExitCode::from(OUT_OF_MEMORY);
     };
     let mut hall = TcpHall::new(&rt, rt.alloc());
+    let gate = Ringing::new(&OpenGate, hall.ringer());
     let mut out = StdoutSink::new(&rt);
     let ended = makeflow_top::<System, _, _, _, _, _, _, _>(
         &rt,
@@ -84,9 +86,10 @@ fn main(rt: HostRuntime) -> ExitCode {
         site,
         &mut hall,
         runners.as_mut_slice(),
-        &OpenGate,
+        &gate,
         &SystemClock::new(&rt),
         &mut out,
     );
+    hall.part();
     ExitCode::from(ended.status)
 }

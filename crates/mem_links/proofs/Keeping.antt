@@ -19,7 +19,7 @@ use Rattle.links.specs.Passings.{received_in, sent_in}
 use Rattle.message_forms.specs.Streams.{IsFramed, framed, frames_of}
 use Rattle.mem_links.specs.declared.mem_link.LinkStep.{LinkStep}
 use Rattle.mem_links.specs.declared.mem_link.LinkStep.TheVariants as steps
-use Rattle.mem_links.specs.MemLinks.{HandsOut, Idles, LinkState, Sends, SendsBy, Takes, awaits_send, fresh_link, serving_link}
+use Rattle.mem_links.specs.MemLinks.{Flushes, HandsOut, Idles, LinkState, Sends, SendsBy, Takes, awaits_send, fresh_link, serving_link, waits}
 use Rattle.mem_links.specs.Servers.{Comes, Hears, ServerState, answers, given, hello, keys_put, new_server}
 use Rattle.mem_links.specs.Serving.{AreBlank, HasAtLeast, IsHonestLink, IsServing, IsSureLink, OffersLink}
 use Rattle.mem_links.proofs.Answering.{answers_append}
@@ -438,6 +438,47 @@ pub recv_offers : (least : Amounts) (old new : LinkState) (result : Result Got F
 recv_offers least old new result step is =
     let kept = recv_keeps old new result is.serves step in
     serves_offers least new kept.serving (kept.offers least is.enough)
+
+-- a link that serves is never behind
+waits_none : (ms : List Message) (ss : List LinkStep) → ss ≡ given ms → waits ss ≡ 0
+waits_none [] ss same = ap waits same
+waits_none (m ∷ ms) ss same = ap waits same
+
+pub behind_none : (gives : Function) (may_fail : Job → Failure → Type 0) (s : LinkState)
+    (count : ℕ) → count ≡ waits s.steps → IsSureLink gives may_fail s → count ≡ 0
+behind_none gives may_fail s count counted is =
+    counted ∙ waits_none is.honest.serves.left s.steps is.honest.serves.steps_are
+
+flush_same : (ms : List Message) (ss : List LinkStep) (old new : LinkState)
+    (result : Result ℕ Fault) → ss ≡ given ms → Flushes ss old result new
+    → (result ≡ Ok 0) × (new ≡ old)
+flush_same [] ss old new result same step =
+    subst (λ (x : List LinkStep). Flushes x old result new) same step
+flush_same (m ∷ ms) ss old new result same step =
+    subst (λ (x : List LinkStep). Flushes x old result new) same step
+
+flushed : (old new : LinkState) (result : Result ℕ Fault) → Flushes old.steps old result new
+    → IsServing old → (result ≡ Ok 0) × (new ≡ old)
+flushed old new result step is =
+    flush_same is.left old.steps old new result is.steps_are step
+
+pub flush_honest : (gives : Function) (may_fail : Job → Failure → Type 0) (old new : LinkState)
+    (result : Result ℕ Fault) → Flushes old.steps old result new
+    → IsHonestLink gives may_fail old → IsHonestLink gives may_fail new
+flush_honest gives may_fail old new result step is =
+    subst (IsHonestLink gives may_fail) (sym (flushed old new result step is.serves).1) is
+
+pub flush_sure : (gives : Function) (may_fail : Job → Failure → Type 0) (old new : LinkState)
+    (result : Result ℕ Fault) → Flushes old.steps old result new
+    → IsSureLink gives may_fail old → IsSureLink gives may_fail new × (result ≡ Ok 0)
+flush_sure gives may_fail old new result step is =
+    let same = flushed old new result step is.honest.serves in
+    (subst (IsSureLink gives may_fail) (sym same.1) is, same.0)
+
+pub flush_offers : (least : Amounts) (old new : LinkState) (result : Result ℕ Fault)
+    → Flushes old.steps old result new → OffersLink least old → OffersLink least new
+flush_offers least old new result step is =
+    subst (OffersLink least) (sym (flushed old new result step is.serves).1) is
 
 -- a link that was made so offers what it was made with
 pub made_offers : (total : Amounts) (cache : ℕ) (frame : List ℕ) (server : ServerState)

@@ -1,5 +1,5 @@
 -- Halls and dials in memory, by the steps that they take.
-use Rattle.std.specs.Prelude.{◌≡◌, ◌≤◌, ℕ, ◌+◌, Bool, false, List, [], ◌∷◌, ◌++◌}
+use Rattle.std.specs.Prelude.{◌≡◌, ◌≤◌, ℕ, ◌+◌, Bool, true, false, List, [], ◌∷◌, ◌++◌}
 use Rattle.std.specs.Prelude.{Option, Result, Ok, Err}
 use Rattle.flow_types.specs.declared.lists.Memory.{Memory}
 use Rattle.flow_types.specs.declared.job.Failure.{Failure}
@@ -72,6 +72,12 @@ WaitsBy [] old result new = GivesNone [] old result new
 WaitsBy (steps.Link link ∷ rest) old result new = GivesLink link rest old result new
 WaitsBy (steps.Idle ∷ rest) old result new = GivesNone rest old result new
 WaitsBy (steps.Fail ∷ rest) old result new = FailsWait rest old result new
+
+-- the first step is more than that nobody comes
+abbrev pub has_news : List HallStep → Bool
+has_news (steps.Link link ∷ rest) = true
+has_news (steps.Fail ∷ rest) = true
+has_news _ = false
 
 -- each link of these steps has this
 abbrev pub EachLink : (LinkState → Type 0) → List HallStep → Type 0

@@ -46,6 +46,26 @@ abbrev pub awaits_send : List LinkStep → Bool
 awaits_send (steps.FailSend ∷ rest) = true
 awaits_send _ = false
 
+-- the first step is for another call than recv
+abbrev pub awaits_call : List LinkStep → Bool
+awaits_call (steps.FailSend ∷ rest) = true
+awaits_call (steps.Behind ∷ rest) = true
+awaits_call (steps.FailFlush ∷ rest) = true
+awaits_call _ = false
+
+-- the first step is more than that nothing comes
+abbrev pub has_news : List LinkStep → Bool
+has_news (steps.Give (b ∷ bs) ∷ rest) = true
+has_news (steps.Close ∷ rest) = true
+has_news (steps.Fail ∷ rest) = true
+has_news _ = false
+
+-- how many bytes wait to go out
+abbrev pub waits : List LinkStep → ℕ
+waits (steps.Behind ∷ rest) = 1
+waits (steps.FailFlush ∷ rest) = 1
+waits _ = 0
+
 -- the bytes that the first step gives, if it gives any
 abbrev pub next_given : List LinkStep → Option (List ℕ)
 next_given (steps.Give [] ∷ rest) = None
@@ -79,6 +99,8 @@ Takes (steps.Close ∷ rest) old result new =
     (result ≡ Ok got.Closed) × (new ≡ record old { steps = rest; closed = true })
 Takes (steps.Fail ∷ rest) old result new = Fails (record old { steps = rest }) result new
 Takes (steps.FailSend ∷ rest) old result new = Idles old result new
+Takes (steps.Behind ∷ rest) old result new = Idles old result new
+Takes (steps.FailFlush ∷ rest) old result new = Idles old result new
 
 -- the steps behind the first
 abbrev pub behind : List LinkStep → List LinkStep
@@ -106,3 +128,17 @@ SendsBy true bytes old (Err faults.Failed) new =
 SendsBy true bytes old (Err faults.Memory) new = new ≡ record old { steps = behind old.steps }
 SendsBy false bytes old (Ok x) new = Sends old.server bytes old new
 SendsBy false bytes old (Err fault) new = (fault ≡ faults.Memory) × (new ≡ old)
+
+-- the failure was counted, or the count is at its last value
+abbrev pub FailsFlush : Result ℕ Fault → LinkState → LinkState → Type 0
+FailsFlush (Ok left) old new = ⊥
+FailsFlush (Err faults.Failed) old new = new ≡ record old { faults = old.faults + 1 }
+FailsFlush (Err faults.Memory) old new = new ≡ old
+
+-- What a call of flush answers, and leaves.
+abbrev pub Flushes : List LinkStep → LinkState → Result ℕ Fault → LinkState → Type 0
+Flushes (steps.Behind ∷ rest) old result new =
+    (result ≡ Ok (waits rest)) × (new ≡ record old { steps = rest })
+Flushes (steps.FailFlush ∷ rest) old result new =
+    FailsFlush result (record old { steps = rest }) new
+Flushes _ old result new = (result ≡ Ok 0) × (new ≡ old)

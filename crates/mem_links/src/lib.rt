@@ -7,6 +7,7 @@ mod laws;
 mod mem_dial;
 mod mem_hall;
 mod mem_link;
+mod no_ringer;
 mod server;
 mod traffic;
 
@@ -14,3 +15,4 @@ pub use laws::a_link_that_serves_is_sure;
 pub use mem_dial::{DialStep, MemDial};
 pub use mem_hall::{HallStep, MemHall};
 pub use mem_link::{LinkStep, MemLink};
+pub use no_ringer::NoRinger;

@@ -1,9 +1,10 @@
 //! A dial in memory, by a list of its answers.
-ghost use Rattle.std.specs.Prelude.{◌≡◌, IfOk};
+ghost use Rattle.std.specs.Prelude.{◌≡◌, None, IfOk};
 ghost use Rattle.outside.specs.Causes.{HasCause};
 ghost use Rattle.mem_links.specs.MemHalls.{AreFreshLinks, IsUnused, DialsBy};
 
 use crate::mem_link::MemLink;
+use crate::no_ringer::NoRinger;
 use flow_types::Rows;
 use links::Dial;
 use outside::{Commands, Fault, failed};
@@ -53,6 +54,8 @@ impl MemDial {
 impl<F: Commands> Dial<F> for MemDial {
     type Way = MemLink;
 
+    type Ringer = NoRinger;
+
     ghost count = { λ dial. dial.faults };
 
     fn dial(&mut self, _alloc: Global, _host: &str, _port: u16) -> Result<MemLink, Fault>
@@ -64,6 +67,20 @@ impl<F: Commands> Dial<F> for MemDial {
             Some(DialStep::Link(link)) => Ok(link),
             Some(DialStep::Fail) | None => Err(failed(&mut self.faults)),
         }
+    }
+
+    fn rest(&mut self, millis: u64) -> u64
+        ensures millis { result ≡ millis }
+        ensures dial { self.new ≡ self.old }
+    {
+        millis
+    }
+
+    fn ringer(&mut self) -> Option<NoRinger>
+        ensures none { result ≡ None }
+        ensures dial { self.new ≡ self.old }
+    {
+        None
     }
 
     fn faults(&self) -> u64

@@ -1,8 +1,9 @@
 //! A hall in memory, by a list of its answers.
-ghost use Rattle.std.specs.Prelude.{◌≡◌, true, is_ok};
+ghost use Rattle.std.specs.Prelude.{◌≡◌, None, true, is_ok};
 ghost use Rattle.outside.specs.Causes.{HasCause};
 ghost use Rattle.links.specs.Halls.{Gives, IfLink};
 ghost use Rattle.mem_links.specs.MemHalls.{new_hall, AreFresh, IsUnused, WaitsBy, KeepsLink};
+ghost use Rattle.mem_links.specs.MemHalls.{has_news};
 ghost use Rattle.mem_links.specs.MemHalls.{EachLink, IsManned, IsStaffed};
 ghost use Rattle.mem_links.specs.Serving.{IsHonestLink, IsSureLink};
 
@@ -131,10 +132,17 @@ impl<F: Commands> Hall<F> for MemHall {
     }
 
     fn ready(&mut self) -> bool
-        ensures answer { result ≡ true }
+        ensures answer { result ≡ has_news self.old.steps }
         ensures hall { self.new ≡ self.old }
     {
-        true
+        matches!(self.steps.front(), Some(HallStep::Link(_) | HallStep::Fail))
+    }
+
+    fn rest(&mut self, millis: u64) -> u64
+        ensures millis { result ≡ millis }
+        ensures hall { self.new ≡ self.old }
+    {
+        millis
     }
 
     fn back(&mut self, _alloc: Global, link: Option<LinkNo>, way: MemLink) -> Result<(), Memory>

@@ -1,5 +1,5 @@
 //! A link in memory, by a list of its answers.
-ghost use Rattle.std.specs.Prelude.{◌≡◌, ◌≤◌, [], ◌∷◌, Some, true, is_ok, if◌then◌else◌};
+ghost use Rattle.std.specs.Prelude.{◌≡◌, ◌≤◌, [], ◌∷◌, Some, Ok, is_ok, if◌then◌else◌};
 ghost use Rattle.std.specs.Prelude.{IfOk, IsErrOf, OnOk, OnErr};
 ghost use Rattle.std.specs.Option.{option_copied};
 ghost use Rattle.flow_types.specs.declared.numbers.Amounts.{Amounts};
@@ -10,7 +10,8 @@ ghost use Rattle.message_forms.specs.Streams.{IsFramed};
 ghost use Rattle.links.specs.Passings.{sent_in, received_in, Transmits, Receives, IsFull};
 ghost use Rattle.links.specs.Passings.{idles_after, closed_after};
 ghost use Rattle.mem_links.specs.MemLinks.{fresh_link, new_link, serving_link};
-ghost use Rattle.mem_links.specs.MemLinks.{awaits_send, next_given};
+ghost use Rattle.mem_links.specs.MemLinks.{awaits_call, awaits_send, next_given};
+ghost use Rattle.mem_links.specs.MemLinks.{has_news, waits, Flushes};
 ghost use Rattle.mem_links.specs.MemLinks.{Idles, Takes, Sends, SendsBy};
 ghost use Rattle.mem_links.specs.declared.mem_link.LinkStep.TheVariants as steps;
 ghost use Rattle.mem_links.specs.Servers.{hello};
@@ -39,6 +40,11 @@ pub enum LinkStep {
     Fail,
     /// The next `send` fails, and sends nothing. Until then the link is idle.
     FailSend,
+    /// A byte waits to go out, which the other end takes at the next `flush`. Until then the link is
+    /// idle.
+    Behind,
+    /// The next `flush` fails. Until then a byte waits to go out, and the link is idle.
+    FailFlush,
 }
 
 /// A link that takes its steps one after the other, and is idle after the last. Where it serves,
@@ -175,7 +181,7 @@ impl MemLink {
         ensures closed { self.new.closed ≡ closed_after result self.old.closed }
         ensures cause { HasCause self.old.faults self.new.faults result }
     {
-        if first_awaits_send(&self.steps) {
+        if first_awaits_call(&self.steps) {
             return self.idle();
         }
         if let Some(bytes) = first_given(&self.steps) {
@@ -192,6 +198,23 @@ impl MemLink {
             }
             Some(LinkStep::Fail) => Err(failed(&mut self.faults)),
             _ => self.idle(),
+        }
+    }
+
+    // Takes one of the bytes that wait to go out, or fails where the first step says so.
+    fn flush_step(&mut self) -> Result<u64, Fault>
+        ensures step { Flushes self.old.steps self.old result self.new }
+        ensures history { self.new.history ≡ self.old.history }
+        ensures idles { self.new.idles ≡ self.old.idles }
+        ensures closed { self.new.closed ≡ self.old.closed }
+        ensures cause { HasCause self.old.faults self.new.faults result }
+    {
+        if count_behind(&self.steps) == 0 {
+            return Ok(0);
+        }
+        match self.steps.pop_front() {
+            Some(LinkStep::FailFlush) => Err(failed(&mut self.faults)),
+            _ => Ok(count_behind(&self.steps)),
         }
     }
 
@@ -246,6 +269,45 @@ impl<F: Commands> Link<F> for MemLink {
         self.transmit(bytes)
     }
 
+    fn hand(&mut self, bytes: Bytes) -> Result<(), Fault>
+        ensures step { SendsBy (awaits_send self.old.steps) bytes self.old result self.new }
+        ensures history { Transmits result bytes self.old.history self.new.history }
+        ensures idles { self.new.idles ≡ (if is_ok result then 0 else self.old.idles) }
+        ensures closed { self.new.closed ≡ self.old.closed }
+        ensures honest { IsHonestLink F.gives F.may_fail self.old
+            → IsHonestLink F.gives F.may_fail self.new }
+        ensures sure { IsSureLink F.gives F.may_fail self.old
+            → IsSureLink F.gives F.may_fail self.new × (IsErrOf result Fault.Failed → ⊥) }
+        ensures offers { (amounts : Amounts)
+            → OffersLink amounts self.old → OffersLink amounts self.new }
+        ensures cause { HasCause self.old.faults self.new.faults result }
+    {
+        self.transmit(bytes.as_slice())
+    }
+
+    fn behind(&self) -> u64
+        ensures answer { result ≡ waits self.now.steps }
+        ensures sure { IsSureLink F.gives F.may_fail self.now → result ≡ 0 }
+    {
+        count_behind(&self.steps)
+    }
+
+    fn flush(&mut self, _patience: u64) -> Result<u64, Fault>
+        ensures step { Flushes self.old.steps self.old result self.new }
+        ensures history { self.new.history ≡ self.old.history }
+        ensures idles { self.new.idles ≡ self.old.idles }
+        ensures closed { self.new.closed ≡ self.old.closed }
+        ensures honest { IsHonestLink F.gives F.may_fail self.old
+            → IsHonestLink F.gives F.may_fail self.new }
+        ensures sure { IsSureLink F.gives F.may_fail self.old
+            → IsSureLink F.gives F.may_fail self.new × (result ≡ Ok 0) }
+        ensures offers { (amounts : Amounts)
+            → OffersLink amounts self.old → OffersLink amounts self.new }
+        ensures cause { HasCause self.old.faults self.new.faults result }
+    {
+        self.flush_step()
+    }
+
     fn recv(&mut self, _alloc: Global) -> Result<Got, Fault>
         ensures step { Takes self.old.steps self.old result self.new }
         ensures history { Receives result self.old.history self.new.history }
@@ -266,10 +328,10 @@ impl<F: Commands> Link<F> for MemLink {
     }
 
     fn ready(&mut self) -> bool
-        ensures answer { result ≡ true }
+        ensures answer { result ≡ has_news self.old.steps }
         ensures link { self.new ≡ self.old }
     {
-        true
+        first_is_news(&self.steps)
     }
 
     fn faults(&self) -> u64
@@ -295,6 +357,37 @@ fn first_awaits_send(steps: &VecDeque<LinkStep>) -> bool
     ensures { result ≡ awaits_send steps.now.items }
 {
     matches!(steps.front(), Some(LinkStep::FailSend))
+}
+
+// Whether the first of the steps is for another call than `recv`.
+fn first_awaits_call(steps: &VecDeque<LinkStep>) -> bool
+    ensures { result ≡ awaits_call steps.now.items }
+{
+    matches!(
+        steps.front(),
+        Some(LinkStep::FailSend | LinkStep::Behind | LinkStep::FailFlush)
+    )
+}
+
+// Whether a `recv` answers more than that nothing came.
+fn first_is_news(steps: &VecDeque<LinkStep>) -> bool
+    ensures { result ≡ has_news steps.now.items }
+{
+    match steps.front() {
+        Some(LinkStep::Give(bytes)) => !bytes.as_slice().is_empty(),
+        Some(LinkStep::Close | LinkStep::Fail) => true,
+        _ => false,
+    }
+}
+
+// How many bytes wait to go out.
+fn count_behind(steps: &VecDeque<LinkStep>) -> u64
+    ensures { result ≡ waits steps.now.items }
+{
+    match steps.front() {
+        Some(LinkStep::Behind | LinkStep::FailFlush) => 1,
+        _ => 0,
+    }
 }
 
 // What the first of the steps gives, if it gives anything.

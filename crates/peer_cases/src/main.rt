@@ -1,10 +1,10 @@
 //! Whole calls of `worker_top` over a link in memory.
 //!
 //! A case is a script. `COMMAND => makes CONTENT`, `=> status N` or `=> fails` say what the runner
-//! answers; `give HEX`, `idle`, `close`, `fail` and `failsend` are what the link does next, and
-//! `nolink` is a dial that fails; `sinkfails` is a sink whose write fails. `work WORD..` makes a
-//! call with these words. It is answered by the status, the cause and all that was printed, and by
-//! what was sent, a frame a line.
+//! answers; `give HEX`, `idle`, `close`, `fail`, `failsend`, `behind` and `failflush` are what the
+//! link does next, and `nolink` is a dial that fails; `sinkfails` is a sink whose write fails.
+//! `work WORD..` makes a call with these words. It is answered by the status, the cause and all that
+//! was printed, and by what was sent, a frame a line.
 #![tactic(auto)]
 
 mod answers;

@@ -61,6 +61,8 @@ impl Scene {
             "close" => Ok(Some(LinkStep::Close)),
             "fail" => Ok(Some(LinkStep::Fail)),
             "failsend" => Ok(Some(LinkStep::FailSend)),
+            "behind" => Ok(Some(LinkStep::Behind)),
+            "failflush" => Ok(Some(LinkStep::FailFlush)),
             _ => Ok(None),
         }
     }

@@ -222,6 +222,46 @@ module _ (gives : Function) (may_fail : Job → Failure → Type 0) (tells told 
         later = omega (arith, w.later, later);
       }
 
+  -- What was said goes out, and nothing else passes.
+  pub goes_out : (old new : Way) (ear : EarState) (core : Worker) (waiting : List Start) (heard : Tally) (left : Bool)
+      → (tells → new.history ≡ old.history) → new.closed ≡ old.closed → old.faults ≤ new.faults
+      → Works gives may_fail tells told fits first faults old ear core waiting heard left → Works gives may_fail tells told fits first faults new ear core waiting heard left
+  goes_out old new ear core waiting heard left is closed later w =
+      let down : tells → received_in new.history ≡ received_in old.history = λ t. ap received_in (is t) in
+      record {
+        past = w.past;
+        core_is = w.core_is;
+        in_order = w.in_order;
+        heard_is = w.heard_is;
+        left_is = w.left_is;
+        running = w.running;
+        going = w.going;
+        framed_all = w.framed_all;
+        fed_is = w.fed_is;
+        stream = λ t. down t ∙ w.stream t;
+        rows = λ t. subst (λ (d : List ℕ). AllRows (WasPut d) core.cache.rows) (sym (down t)) (w.rows t);
+        asked = λ t. subst (λ (d : List ℕ). AreAsked d waiting) (sym (down t)) (w.asked t);
+        sent = λ t. ap sent_in (is t) ∙ w.sent t;
+        right = λ t trusted. subst (λ (h : List Passed). IsRightLink gives may_fail h (said_of first w.past)) (sym (is t)) (w.right t trusted);
+        closed = closed ∙ w.closed;
+        later = omega (arith, w.later, later);
+      }
+
+  -- It couldn't go out.
+  pub goes_not_out : (old new : Way) (ear : EarState) (core : Worker) (waiting : List Start) (heard : Tally) (left : Bool) (halt : Halt)
+      → (tells → new.history ≡ old.history) → new.closed ≡ old.closed → old.faults ≤ new.faults → FailsBy faults new halt
+      → Works gives may_fail tells told fits first faults old ear core waiting heard left → Breaks gives may_fail tells told fits first faults new heard left halt
+  goes_not_out old new ear core waiting heard left halt is closed later fails w =
+      let gone = goes_out old new ear core waiting heard left is closed later w in
+      record {
+        past = gone.past;
+        waiting = waiting;
+        stands = stands_now new ear core waiting heard left gone;
+        left_is = gone.left_is;
+        closed = gone.closed;
+        why = fails;
+      }
+
   -- the stream with the message that was taken
   stream_more : (ear next : EarState) (past : List Met) (down : List ℕ) (m : Message) → Takes ear (Ok (Some m)) next → down ≡ frames_of (heard_of past) ++ ear.rest
       → down ≡ frames_of (heard_of past ++ m ∷ []) ++ next.rest

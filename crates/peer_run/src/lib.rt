@@ -4,6 +4,8 @@
 mod cause;
 mod ear;
 mod halt;
+mod lingers;
+mod pace;
 mod pool;
 mod printing;
 mod top;
@@ -13,6 +15,7 @@ mod work;
 pub use cause::PeerCause;
 pub use ear::Ear;
 pub use halt::Halt;
+pub use lingers::Lingers;
 pub use printing::tell;
 pub use top::{PeerEnded, worker_top};
 pub use voice::say;

@@ -15,10 +15,11 @@ ghost use Rattle.peer_run.specs.Works.{AtWork, IsShapedPool, way_of};
 
 use crate::Halt;
 use crate::ear::Ear;
+use crate::pace::Pace;
 use crate::voice::say;
 use crate::work::{halt_by, serve};
 use flow_types::Amounts;
-use links::Link;
+use links::{Dial, Link};
 use outside::{Commands, Runner};
 use std::alloc::Global;
 use std::marker::Brand;
@@ -28,13 +29,14 @@ use worker_core::WorkerCore;
 use worker_pool::{Gate, Line, Pool, Terms, Ticket, Tickets, Token, new_tickets, work_all};
 
 // As `serve`, and then ends the waits of the runners.
-fn serve_and_close<B: Terms, W: Wait, F: Commands, L: Link<F>>(
+fn serve_and_close<B: Terms, W: Wait, F: Commands, L: Link<F>, D: Dial<F>>(
     rt: &W,
     alloc: Global,
     link: &mut L,
     ear: &mut Ear,
     core: &mut WorkerCore,
     pool: &mut Pool<B>,
+    pace: &mut Pace<'_, D>,
 ) -> Halt
     requires shaped { IsShapedPool B.fits }
     requires works { (first : WorkerValue) × (faults : ℕ)
@@ -49,7 +51,7 @@ fn serve_and_close<B: Terms, W: Wait, F: Commands, L: Link<F>>(
         (way_of L.history L.is_closed L.count link.new) pool.new.heard result }
     ensures line { pool.new.line ≡ pool.old.line }
 {
-    let halt = serve(rt, alloc, link, ear, core, pool);
+    let halt = serve(rt, alloc, link, ear, core, pool, pace);
     pool.close();
     halt
 }
@@ -62,6 +64,7 @@ fn serve_beside<
     L: Link<F>,
     R: Runner<F>,
     G: Gate,
+    D: Dial<F>,
 >(
     rt: &W,
     alloc: Global,
@@ -73,6 +76,7 @@ fn serve_beside<
     pool: &mut Pool<B>,
     runners: &mut [R],
     gate: &G,
+    pace: &mut Pace<'_, D>,
 ) -> Halt
     requires some { 0 < length runners.old }
     requires token { IsPassOf line.now.reports token.old
@@ -124,7 +128,7 @@ fn serve_beside<
                 → HasLeft F.gives F.may_fail L.tells B.fits first faults
                 (way_of L.history L.is_closed L.count link.exit.now) pool.exit.now.heard result }
             ensures line { pool.exit.now.line ≡ pool.entry.now.line }
-        { serve_and_close::<B, W, F, L>(rt, alloc, link, ear, core, pool) },
+        { serve_and_close::<B, W, F, L, D>(rt, alloc, link, ear, core, pool, pace) },
     );
     halt
 }
@@ -137,6 +141,7 @@ fn serve_in<
     L: Link<F>,
     R: Runner<F>,
     G: Gate,
+    D: Dial<F>,
 >(
     rt: &W,
     alloc: Global,
@@ -147,6 +152,7 @@ fn serve_in<
     core: &mut WorkerCore,
     runners: &mut [R],
     gate: &G,
+    pace: &mut Pace<'_, D>,
 ) -> Halt
     requires tickets { (pass.table_id ≡ B.tickets) × IsPassOf tickets pass × (view pass ≡ fresh) }
     requires some { 0 < length runners.old }
@@ -166,15 +172,15 @@ fn serve_in<
         return Halt::Memory;
     };
     let (mut pool, mut other) = Pool::new(&line, tickets, pass, token);
-    let halt = serve_beside::<B, W, F, L, R, G>(
-        rt, alloc, &line, &mut other, link, ear, core, &mut pool, runners, gate,
+    let halt = serve_beside::<B, W, F, L, R, G, D>(
+        rt, alloc, &line, &mut other, link, ear, core, &mut pool, runners, gate, pace,
     );
     pool.end(rt, other);
     halt
 }
 
 // A worker that has said its hello.
-fn serve_all<W: Threads + Wait + Sync, F: Commands, L: Link<F>, R: Runner<F>, G: Gate>(
+fn serve_all<W: Threads + Wait + Sync, F: Commands, L: Link<F>, R: Runner<F>, G: Gate, D: Dial<F>>(
     rt: &W,
     alloc: Global,
     link: &mut L,
@@ -182,6 +188,7 @@ fn serve_all<W: Threads + Wait + Sync, F: Commands, L: Link<F>, R: Runner<F>, G:
     core: &mut WorkerCore,
     runners: &mut [R],
     gate: &G,
+    pace: &mut Pace<'_, D>,
 ) -> Halt
     requires some { 0 < length runners.old }
     requires works { (first : WorkerValue) × WorksWith F.gives F.may_fail L.tells R.tells R.sure
@@ -195,12 +202,21 @@ fn serve_all<W: Threads + Wait + Sync, F: Commands, L: Link<F>, R: Runner<F>, G:
     let Ok((tickets, pass)) = new_tickets(alloc) else {
         return Halt::Memory;
     };
-    serve_in::<Brand, W, F, L, R, G>(rt, alloc, tickets, pass, link, ear, core, runners, gate)
+    serve_in::<Brand, W, F, L, R, G, D>(
+        rt, alloc, tickets, pass, link, ear, core, runners, gate, pace,
+    )
 }
 
 /// Says hello over a link over which nothing has passed, with these amounts and a cache of so many
 /// bytes, and serves until the work is over or it can't go on.
-pub(crate) fn work<W: Threads + Wait + Sync, F: Commands, L: Link<F>, R: Runner<F>, G: Gate>(
+pub(crate) fn work<
+    W: Threads + Wait + Sync,
+    F: Commands,
+    L: Link<F>,
+    R: Runner<F>,
+    G: Gate,
+    D: Dial<F>,
+>(
     rt: &W,
     alloc: Global,
     link: &mut L,
@@ -208,6 +224,7 @@ pub(crate) fn work<W: Threads + Wait + Sync, F: Commands, L: Link<F>, R: Runner<
     cap: u64,
     runners: &mut [R],
     gate: &G,
+    pace: &mut Pace<'_, D>,
 ) -> Halt
     requires some { 0 < length runners.old }
     requires new { IsFresh L.history L.count L.idle_count L.is_closed link.old }
@@ -220,7 +237,7 @@ pub(crate) fn work<W: Threads + Wait + Sync, F: Commands, L: Link<F>, R: Runner<
         return Halt::Memory;
     };
     match say(alloc, link, &core.hello()) {
-        Ok(()) => serve_all(rt, alloc, link, &mut ear, &mut core, runners, gate),
+        Ok(()) => serve_all(rt, alloc, link, &mut ear, &mut core, runners, gate, pace),
         Err(fault) => halt_by(fault),
     }
 }

@@ -6,12 +6,14 @@ ghost use Rattle.peer_run.specs.Causes.{cause_of, line_of, status_of};
 ghost use Rattle.peer_run.specs.Ended.{EndsBy, IsPrinted};
 ghost use Rattle.peer_run.specs.Works.{way_of};
 
+use crate::pace::Pace;
 use crate::pool::work;
 use crate::printing::tell;
 use crate::{Halt, PeerCause};
 use command_words::{WordsFault, read_worker_words};
 use links::{Dial, Link};
 use outside::{Commands, Fault, Runner, Sink};
+use ringing::Ringing;
 use std::alloc::Global;
 use std::sync::Wait;
 use std::thread::Threads;
@@ -88,7 +90,20 @@ fn work_for<F: Commands, W: Threads + Wait + Sync, D: Dial<F>, R: Runner<F>, G: 
         }
     };
     let cap = options.cache as u64 * 1_048_576;
-    let halt = work(rt, alloc, &mut link, options.total, cap, runners, gate);
+    let ringer = dial.ringer();
+    let told = ringer.is_some();
+    let gate = Ringing::new(gate, ringer);
+    let mut pace = Pace::new(dial, told);
+    let halt = work(
+        rt,
+        alloc,
+        &mut link,
+        options.total,
+        cap,
+        runners,
+        &gate,
+        &mut pace,
+    );
     let cause = cause_of(link.faults(), halt);
     Left {
         cause,

@@ -44,7 +44,7 @@ pub fn say<F: Commands, L: Link<F>>(
 {
     let body = write_message(alloc, message)?;
     let bytes = frame_of(alloc, body.as_slice())?;
-    link.send(bytes.as_slice())
+    link.hand(bytes)
 }
 
 /// Says the one message that there may be.

@@ -10,20 +10,22 @@ ghost use Rattle.peer_run.specs.Works.{AtWork, EarState, IsRunning, IsShapedPool
 
 use crate::Halt;
 use crate::ear::Ear;
+use crate::pace::Pace;
 use crate::voice::say_first;
 use flow_types::{Message, Start};
-use links::{Got, Link};
+use links::{Dial, Got, Link};
 use outside::{Commands, Fault};
 use std::alloc::Global;
 use std::sync::Wait;
-use std::thread::Parker;
-use std::time::Duration;
 use worker_core::{Acts, WorkerCore};
 use worker_pool::{Pool, Terms};
 use wq_messages::PeerFault;
 
-// How long a worker with jobs waits before it looks again for a message or a job's end.
-const PAUSE_MILLIS: u64 = 1;
+// How many seconds the parent may take no byte of what is there for it. Nobody is left for being slow.
+const PATIENCE: u64 = 1_000_000_000;
+
+// The same, once the parent has said that the work is over.
+const LAST_PATIENCE: u64 = 20;
 
 pub(crate) fn halt_by(fault: Fault) -> Halt
     ensures link { fault ≡ Fault.Failed → result ≡ Halt.Link }
@@ -85,7 +87,7 @@ fn obey<B: Terms, W: Wait, F: Commands, L: Link<F>>(
     Ok(bye)
 }
 
-/// Takes the bytes that are there, or waits a while for some.
+/// Takes the bytes that are there, if there are some.
 fn listen<B: Terms, F: Commands, L: Link<F>>(
     alloc: Global,
     link: &mut L,
@@ -112,26 +114,34 @@ fn listen<B: Terms, F: Commands, L: Link<F>>(
     }
 }
 
-// Whether jobs are out, and nothing is there to be heard over the link.
-fn is_quiet<B: Terms, F: Commands, L: Link<F>>(link: &mut L, pool: &Pool<B>) -> bool
+// What a look at a link found.
+#[derive(Clone, Copy)]
+struct Glance {
+    // Something is there to be heard.
+    ready: bool,
+    // Some of what the link took went out.
+    sent: bool,
+}
+
+// Sends on what the link took, and looks whether something is there to be heard.
+fn look<F: Commands, L: Link<F>>(link: &mut L) -> Glance
     ensures { link.new ≡ link.old }
 {
-    pool.out() > 0 && !link.ready()
+    let behind = link.behind();
+    let ready = link.ready();
+    let sent = link.behind() != behind;
+    Glance { ready, sent }
 }
 
-// Waits for a moment. Nobody wakes it.
-fn pause<W: Wait>(rt: &W) {
-    Parker::new().park_timeout(rt, Duration::from_millis(PAUSE_MILLIS));
-}
-
-/// Waits a while for bytes, where less than a message is there. While jobs are out it waits for a
-/// moment alone, since one may end before bytes come.
-fn await_more<B: Terms, W: Wait, F: Commands, L: Link<F>>(
-    rt: &W,
+/// Takes the bytes that are there, or else rests, where less than a message is there. At a turn it
+/// asks for bytes in any case.
+fn await_more<B: Terms, F: Commands, L: Link<F>, D: Dial<F>>(
     alloc: Global,
     link: &mut L,
     ear: &mut Ear,
-    pool: &Pool<B>,
+    pace: &mut Pace<'_, D>,
+    out: usize,
+    turn: bool,
 ) -> Result<(), Halt>
     requires { ear.old.stop ≡ None }
     ensures goes { (first : WorkerValue) (faults : ℕ) (before : EarState) (core : WorkerValue)
@@ -143,22 +153,27 @@ fn await_more<B: Terms, W: Wait, F: Commands, L: Link<F>>(
         (HasLeft F.gives F.may_fail L.tells B.fits first faults
         (way_of L.history L.is_closed L.count link.new) heard) }
 {
-    if is_quiet::<B, F, L>(link, pool) {
-        pause(rt);
-        return Ok(());
+    let Glance { ready, sent } = look::<F, L>(link);
+    if ready || turn {
+        return listen::<B, F, L>(alloc, link, ear);
     }
-    listen::<B, F, L>(alloc, link, ear)
+    if !sent {
+        pace.rest::<F>(out);
+    }
+    Ok(())
 }
 
-/// Does what the next message asks for, or waits a while for more bytes, and answers whether the
-/// work is over.
-fn attend<B: Terms, W: Wait, F: Commands, L: Link<F>>(
+/// Does what the next message asks for, or waits for more bytes, and answers whether the work is
+/// over.
+fn attend<B: Terms, W: Wait, F: Commands, L: Link<F>, D: Dial<F>>(
     rt: &W,
     alloc: Global,
     link: &mut L,
     ear: &mut Ear,
     core: &mut WorkerCore,
     pool: &mut Pool<B>,
+    pace: &mut Pace<'_, D>,
+    turn: bool,
 ) -> Result<bool, Halt>
     requires room { length pool.old.waiting < 64 }
     requires going { ear.old.stop ≡ None }
@@ -176,7 +191,7 @@ fn attend<B: Terms, W: Wait, F: Commands, L: Link<F>>(
     let at = ear.at();
     match ear.next(alloc) {
         Ok(Some(message)) => obey(rt, alloc, link, core, pool, message, at),
-        Ok(None) => match await_more(rt, alloc, link, ear, pool) {
+        Ok(None) => match await_more::<B, F, L, D>(alloc, link, ear, pace, pool.out(), turn) {
             Ok(()) => Ok(false),
             Err(halt) => Err(halt),
         },
@@ -225,15 +240,50 @@ fn leaving(left: bool, halt: Halt) -> Halt
     }
 }
 
-/// Hears messages and the ends of jobs until the work is over and all jobs have ended, or until it
-/// can't go on.
-pub(crate) fn serve<B: Terms, W: Wait, F: Commands, L: Link<F>>(
+/// At a turn it sends on what the link took. The parent is left where it took nothing for too long.
+fn send_on<B: Terms, F: Commands, L: Link<F>>(
+    link: &mut L,
+    turn: bool,
+    left: bool,
+) -> Result<(), Halt>
+    ensures goes { (first : WorkerValue) (faults : ℕ) (ear : EarState) (core : WorkerValue)
+        (waiting : List StartValue) (heard : Tally)
+        → AtWork F.gives F.may_fail L.tells B.fits first faults
+        (way_of L.history L.is_closed L.count link.old) ear core waiting heard left
+        → Goes result (λ _. AtWork F.gives F.may_fail L.tells B.fits first faults
+        (way_of L.history L.is_closed L.count link.new) ear core waiting heard left)
+        (HasBroken F.gives F.may_fail L.tells B.fits first faults
+        (way_of L.history L.is_closed L.count link.new) heard left) }
+{
+    if !turn {
+        return Ok(());
+    }
+    let patience = if left { LAST_PATIENCE } else { PATIENCE };
+    match link.flush(patience) {
+        Ok(_) => Ok(()),
+        Err(fault) => Err(halt_by(fault)),
+    }
+}
+
+// Sends on what the link took, and rests where nothing went. It hears nothing.
+fn rest<F: Commands, L: Link<F>, D: Dial<F>>(link: &mut L, pace: &mut Pace<'_, D>, out: usize)
+    ensures { link.new ≡ link.old }
+{
+    if !look::<F, L>(link).sent {
+        pace.rest::<F>(out);
+    }
+}
+
+/// Hears messages and the ends of jobs until the work is over, all jobs have ended and what was said
+/// has gone out, or until it can't go on.
+pub(crate) fn serve<B: Terms, W: Wait, F: Commands, L: Link<F>, D: Dial<F>>(
     rt: &W,
     alloc: Global,
     link: &mut L,
     ear: &mut Ear,
     core: &mut WorkerCore,
     pool: &mut Pool<B>,
+    pace: &mut Pace<'_, D>,
 ) -> Halt
     requires shaped { IsShapedPool B.fits }
     requires works { (first : WorkerValue) × (faults : ℕ)
@@ -250,22 +300,26 @@ pub(crate) fn serve<B: Terms, W: Wait, F: Commands, L: Link<F>>(
 {
     let mut left = false;
     for _ in rt.forever() {
-        let Some(seen) = pool.seen() else {
+        if pool.seen().is_none() {
             return Halt::Memory;
-        };
+        }
         match hear::<B, F, L>(alloc, link, core, pool) {
             Ok(true) => continue,
             Ok(false) => {}
             Err(halt) => return leaving(left, halt),
         }
-        if left && pool.out() == 0 {
+        let turn = pace.has_turn();
+        if let Err(halt) = send_on::<B, F, L>(link, turn, left) {
+            return leaving(left, halt);
+        }
+        if left && pool.out() == 0 && link.behind() == 0 {
             return Halt::Bye;
         }
         if left || pool.out() >= 64 {
-            pool.rest(rt, seen);
+            rest::<F, L, D>(link, pace, pool.out());
             continue;
         }
-        match attend(rt, alloc, link, ear, core, pool) {
+        match attend(rt, alloc, link, ear, core, pool, pace, turn) {
             Ok(bye) => left = bye,
             Err(halt) => return halt,
         }

@@ -8,3 +8,4 @@ pub mod Calm
 pub mod Providing
 pub mod Owing
 pub mod Receiving
+pub mod Strangers

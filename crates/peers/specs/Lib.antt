@@ -3,3 +3,4 @@ pub mod Serves
 pub mod Sends
 pub mod Hears
 pub mod Provides
+pub mod Strangers

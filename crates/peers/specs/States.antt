@@ -1,5 +1,6 @@
 -- What a peer is to a contract, and what a call leaves of its link.
-use Rattle.std.specs.Prelude.{◌≡◌, ◌≤◌, ◌<◌, ◌+◌, ℕ, Bool, true, List, [], ◌++◌, Result, IfErr, OnOk}
+use Rattle.std.specs.Prelude.{◌≡◌, ◌≤◌, ◌<◌, ◌+◌, ◌-◌, ◌^◌, ℕ, Bool, true, List, [], ◌++◌, Result, IfErr, OnOk}
+use Rattle.flow_types.specs.declared.messages.Key.{Key}
 use Rattle.flow_types.specs.declared.numbers.Amounts.{Amounts}
 use Rattle.links.specs.declared.passing.Passed.{Passed}
 use Rattle.links.specs.Honesty.{OwesNothing}
@@ -25,6 +26,10 @@ new_session run = record { run = run; stage = stages.New; known = []; attempts =
 -- a peer at this link, from which nothing came
 abbrev pub new_peer : {L : Type 0} → L → ℕ → PeerState L
 new_peer way run = record { way = way; feed = at_rest [] []; session = new_session run }
+
+-- a key that no content has, since no flow has so many files
+abbrev pub no_key : Key
+no_key = record { run = 2 ^ 64 - 1; file = record { 0 = 2 ^ 32 - 1 } }
 
 -- What is promised of a link goes on over a call.
 pub record GoesOn {L : Type 0} (honest sure : L → Type 0) (offers : L → Amounts → Type 0)

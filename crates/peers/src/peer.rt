@@ -1,5 +1,5 @@
 //! A peer at its link.
-ghost use Rattle.std.specs.Prelude.{◌≡◌, ◌≤◌, [], false, true, None, Some, List, Option, Ok, IfOk, IfErr, OnOk, OnErr, length};
+ghost use Rattle.std.specs.Prelude.{◌≡◌, ◌≤◌, [], false, true, None, Some, List, Option, Ok, IsOk, IfOk, IfErr, OnOk, OnErr, length};
 ghost use Rattle.byte_fields.specs.Laws.{IsBytes};
 ghost use Rattle.flow_types.specs.declared.job.Task.{Task as TaskValue};
 ghost use Rattle.flow_types.specs.declared.messages.Message.{Message as Said};
@@ -8,6 +8,7 @@ ghost use Rattle.flow_types.specs.Plans.{most_bytes};
 ghost use Rattle.link_session.specs.Keys.{contains_key, forgotten, key_of, lacking};
 ghost use Rattle.link_session.specs.Sessions.{closed_where, is_open, place, started};
 ghost use Rattle.links.specs.Honesty.{IsOrderly};
+ghost use Rattle.links.specs.Ill.{Misspeaks};
 ghost use Rattle.links.specs.Passings.{received_in, sent_in};
 ghost use Rattle.message_forms.specs.Streams.{IsAmong};
 ghost use Rattle.wq_frames.specs.Frames.{front, part};
@@ -18,11 +19,12 @@ ghost use Rattle.peers.specs.Provides.{Provides};
 ghost use Rattle.peers.specs.Sends.{ServesAfter, ServesWhere, StaysServed};
 ghost use Rattle.peers.specs.Serves.{IsNew, IsSettled, IsStillOwed, Serves};
 ghost use Rattle.peers.specs.States.{GoesOn, MayListen, MaySend, OnlyMemory, ReceivesOn, Rests};
-ghost use Rattle.peers.specs.States.{Settled, new_peer};
+ghost use Rattle.peers.specs.States.{Settled, new_peer, no_key};
+ghost use Rattle.peers.specs.Strangers.{is_stranger, may_greet};
 
 use crate::voice::{say, say_put};
 use crate::{Leave, Listened, Told};
-use flow_types::{AttemptNo, FileNo, Key, Memory, Message, Rows, Task};
+use flow_types::{AttemptNo, Bytes, FileNo, Key, Memory, Message, Rows, Task};
 use link_session::{Session, SessionFault};
 use links::{Got, Link};
 use outside::Commands;
@@ -49,6 +51,23 @@ impl<F: Commands, L: Link<F>> Model for Peer<F, L> {
     ghost view = { λ p. record { way = p.way; feed = p.feeder; session = p.session } };
 
     ghost invariant = { λ p. IsBytes p.feeder.rest };
+}
+
+// Whether bytes begin as a hello's frame does, as far as they came: a length of 35, and the kind 1.
+fn may_greet(bytes: &[u8]) -> bool
+    ensures { result ≡ may_greet bytes.now }
+{
+    let head = b"\x00\x00\x00\x23\x01";
+    let first = &bytes[..bytes.len().min(head.len())];
+    head.as_slice().starts_with(first)
+}
+
+// Whether no message was heard in the session, and these bytes, which came, can't begin with a
+// hello.
+fn is_strange(session: &Session, bytes: &[u8]) -> bool
+    ensures { result ≡ is_stranger session.now.stage bytes.now }
+{
+    session.awaits_hello() && !may_greet(bytes)
 }
 
 // Takes a piece, and lets go of the message heard last.
@@ -133,6 +152,31 @@ impl<F: Commands, L: Link<F>> Peer<F, L> {
             → result ≡ false }
     {
         self.session.has(attempt)
+    }
+
+    /// How many bytes the link took that haven't gone out.
+    pub fn behind(&self) -> u64
+        ensures sure { L.sure self.now.way → result ≡ 0 }
+    {
+        self.way.behind()
+    }
+
+    /// Whether no message was heard and the bytes that came can't begin with a hello. Their first
+    /// five tell it, long before a whole frame is there.
+    pub fn is_stranger(&self) -> bool
+        ensures exactly { result ≡ is_stranger self.now.session.stage self.now.feed.rest }
+        ensures stranger { (said heard : List Said) → L.tells
+            → Serves F.gives F.may_fail (L.history self.now.way) self.now.feed self.now.session
+            said heard None
+            → result ≡ true
+            → Misspeaks (sent_in (L.history self.now.way)) (received_in (L.history self.now.way)) }
+        ensures sure { (said heard : List Said) → L.tells
+            → Serves F.gives F.may_fail (L.history self.now.way) self.now.feed self.now.session
+            said heard None
+            → IsOrderly (sent_in (L.history self.now.way)) (received_in (L.history self.now.way))
+            → result ≡ false }
+    {
+        is_strange(&self.session, self.feeder.rest())
     }
 
     /// Whether `listen` would answer at once with more than that nothing came.
@@ -220,15 +264,16 @@ impl<F: Commands, L: Link<F>> Peer<F, L> {
         self.session.start(task)
     }
 
-    /// Puts a content. It isn't copied. After an error the link is to be left.
-    pub fn put(&mut self, alloc: Global, key: Key, content: &[u8]) -> Result<(), Leave>
-        requires short { length content.now ≤ most_bytes }
+    /// Puts a content. It is handed over, so that what the link can't send at once isn't copied.
+    /// After an error the link is to be left.
+    pub fn put(&mut self, alloc: Global, key: Key, content: Bytes) -> Result<(), Leave>
+        requires short { length content ≤ most_bytes }
         ensures feed { self.new.feed ≡ self.old.feed }
         ensures session { self.new.session ≡ self.old.session }
         ensures serves { (said heard : List Said) (waiting : Option TaskValue) → L.tells
             → Serves F.gives F.may_fail (L.history self.old.way) self.old.feed self.old.session
             said heard waiting
-            → ServesAfter F.gives F.may_fail (messages.Put key content.now) said heard waiting
+            → ServesAfter F.gives F.may_fail (messages.Put key content) said heard waiting
             result (L.history self.new.way) self.new.feed self.new.session }
         ensures kept { L.tells → ReceivesOn (L.history self.old.way) (L.history self.new.way) }
         ensures on { GoesOn L.honest L.sure L.offers self.old.way self.new.way }
@@ -329,6 +374,53 @@ impl<F: Commands, L: Link<F>> Peer<F, L> {
             Ok(()) => Ok(true),
             Err(leave) => Err(leave),
         }
+    }
+
+    /// Sends on what the link took. It is to be called about once a second. After an error the link
+    /// is to be left: so it is where in so many calls in a row the peer took nothing.
+    pub fn flush(&mut self, patience: u64) -> Result<(), Leave>
+        ensures feed { self.new.feed ≡ self.old.feed }
+        ensures session { self.new.session ≡ self.old.session }
+        ensures same { L.tells → L.history self.new.way ≡ L.history self.old.way }
+        ensures serves { (said heard : List Said) (waiting : Option TaskValue) → L.tells
+            → Serves F.gives F.may_fail (L.history self.old.way) self.old.feed self.old.session
+            said heard waiting
+            → Serves F.gives F.may_fail (L.history self.new.way) self.new.feed self.new.session
+            said heard waiting }
+        ensures kept { L.tells → ReceivesOn (L.history self.old.way) (L.history self.new.way) }
+        ensures on { GoesOn L.honest L.sure L.offers self.old.way self.new.way }
+        ensures idles { L.idle_count self.new.way ≡ L.idle_count self.old.way }
+        ensures closed { L.is_closed self.new.way ≡ L.is_closed self.old.way }
+        ensures cause { MaySend (L.count self.old.way) (L.count self.new.way) result }
+        ensures sure { L.sure self.old.way → IsOk result }
+    {
+        match self.way.flush(patience) {
+            Ok(_) => Ok(()),
+            Err(fault) => Err(Leave::of(fault)),
+        }
+    }
+
+    /// Says something that changes nothing, an Unlink of a key that no content has, so that the
+    /// system notices where the peer is gone. After an error the link is to be left.
+    pub fn probe(&mut self, alloc: Global) -> Result<(), Leave>
+        ensures feed { self.new.feed ≡ self.old.feed }
+        ensures session { self.new.session ≡ self.old.session }
+        ensures serves { (said heard : List Said) (waiting : Option TaskValue) → L.tells
+            → Serves F.gives F.may_fail (L.history self.old.way) self.old.feed self.old.session
+            said heard waiting
+            → ServesAfter F.gives F.may_fail (messages.Unlink no_key) said heard waiting
+            result (L.history self.new.way) self.new.feed self.new.session }
+        ensures kept { L.tells → ReceivesOn (L.history self.old.way) (L.history self.new.way) }
+        ensures on { GoesOn L.honest L.sure L.offers self.old.way self.new.way }
+        ensures closed { L.is_closed self.new.way ≡ L.is_closed self.old.way }
+        ensures cause { MaySend (L.count self.old.way) (L.count self.new.way) result }
+        ensures sure { L.sure self.old.way → OnlyMemory result }
+    {
+        let key = Key {
+            run: u64::MAX,
+            file: FileNo(u32::MAX),
+        };
+        say(alloc, &mut self.way, &Message::Unlink { key })
     }
 
     /// Tells the peer that the work is over. After an error the link is to be left.

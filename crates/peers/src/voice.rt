@@ -41,7 +41,7 @@ pub(crate) fn say<F: Commands, L: Link<F>>(
 {
     let body = write_message(alloc, message)?;
     let bytes = frame_of(alloc, body.as_slice())?;
-    match way.send(bytes.as_slice()) {
+    match way.hand(bytes) {
         Ok(()) => Ok(()),
         Err(fault) => Err(Leave::of(fault)),
     }
@@ -62,26 +62,27 @@ fn head_of(alloc: Global, key: Key, length: u32) -> Result<Bytes, Memory>
     Ok(Bytes::from_vec(out))
 }
 
-/// Says a Put. The content goes out as it stands, behind the rest of the frame, and isn't copied.
+/// Says a Put. The content is handed over as it stands, behind the rest of the frame, and isn't
+/// copied.
 pub(crate) fn say_put<F: Commands, L: Link<F>>(
     alloc: Global,
     way: &mut L,
     key: Key,
-    content: &[u8],
+    content: Bytes,
 ) -> Result<(), Leave>
-    requires short { length content.now ≤ most_bytes }
-    ensures sends { L.tells → Sends result (messages.Put key content.now) (L.history way.old)
+    requires short { length content ≤ most_bytes }
+    ensures sends { L.tells → Sends result (messages.Put key content) (L.history way.old)
         (L.history way.new) }
     ensures on { GoesOn L.honest L.sure L.offers way.old way.new }
     ensures closed { L.is_closed way.new ≡ L.is_closed way.old }
     ensures cause { MaySend (L.count way.old) (L.count way.new) result }
     ensures sure { L.sure way.old → OnlyMemory result }
 {
-    let head = head_of(alloc, key, content.len() as u32)?;
+    let head = head_of(alloc, key, content.as_slice().len() as u32)?;
     if let Err(fault) = way.send(head.as_slice()) {
         return Err(Leave::of(fault));
     }
-    match way.send(content) {
+    match way.hand(content) {
         Ok(()) => Ok(()),
         Err(fault) => Err(Leave::of(fault)),
     }

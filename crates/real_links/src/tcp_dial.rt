@@ -1,41 +1,86 @@
 //! A dial over sockets.
 ghost use Rattle.std.specs.Prelude.{◌≡◌, false, IfOk};
 
+use crate::place::{Members, Place, TcpRinger};
+use crate::tcp_hall::TcpHall;
 use crate::tcp_link::TcpLink;
 use links::Dial;
 use outside::{Commands, Fault, failed};
 use std::alloc::Global;
 use std::io::{self, ErrorKind};
-use std::net::{Net, TcpStream, ToSocketAddrs};
+use std::marker::Model;
+use std::net::{Net, TcpListener, TcpStream, ToSocketAddrs};
+use std::rt::Clock;
 use std::time::Duration;
 
 // How long each address of a host may take to answer.
 const CONNECT_SECONDS: u64 = 1;
 
-/// Connects to hosts by their names or addresses.
+/// Connects to hosts by their names or addresses. Contracts see its count of failures.
 #[derive(Drop)]
 pub struct TcpDial<'a, R> {
     rt: &'a R,
+    place: Place,
+    members: Members,
     faults: u64,
 }
 
-impl<'a, R: Net<Stream = TcpStream>> TcpDial<'a, R> {
+impl<'a, R> Model for TcpDial<'a, R> {
+    ghost use Rattle.std.specs.Prelude.{ℕ};
+
+    ghost Value = { ℕ };
+
+    ghost view = { λ dial. dial.faults };
+}
+
+impl<'a, R: Net<Listener = TcpListener, Stream = TcpStream> + Clock> TcpDial<'a, R> {
     /// A dial that has made no link yet.
-    pub fn new(rt: &'a R) -> TcpDial<'a, R> {
-        TcpDial { rt, faults: 0 }
+    pub fn new(rt: &'a R, alloc: Global) -> TcpDial<'a, R> {
+        let place = Place::new(rt, alloc);
+        let members = place.members();
+        TcpDial {
+            rt,
+            place,
+            members,
+            faults: 0,
+        }
+    }
+
+    /// The same, whose links a hall's waits are for, and not its own.
+    pub fn beside(rt: &'a R, alloc: Global, hall: &TcpHall<'a, R>) -> TcpDial<'a, R> {
+        TcpDial {
+            rt,
+            place: Place::new(rt, alloc),
+            members: hall.members(),
+            faults: 0,
+        }
     }
 }
 
-impl<'a, F: Commands, R: Net<Stream = TcpStream> + Sync> Dial<F> for TcpDial<'a, R> {
+impl<'a, F, R> Dial<F> for TcpDial<'a, R>
+where
+    F: Commands,
+    R: Net<Listener = TcpListener, Stream = TcpStream> + Clock + Sync,
+{
     type Way = TcpLink;
 
-    ghost count = { λ dial. dial.faults };
+    type Ringer = TcpRinger;
 
-    fn dial(&mut self, _alloc: Global, host: &str, port: u16) -> Result<TcpLink, Fault> {
-        match linked(self.rt, host, port) {
+    ghost count = { λ dial. dial };
+
+    fn dial(&mut self, alloc: Global, host: &str, port: u16) -> Result<TcpLink, Fault> {
+        match linked(self.rt, alloc, &self.members, host, port) {
             Ok(link) => Ok(link),
             Err(_) => Err(failed(&mut self.faults)),
         }
+    }
+
+    fn rest(&mut self, millis: u64) -> u64 {
+        self.place.rest(self.rt, millis)
+    }
+
+    fn ringer(&mut self) -> Option<TcpRinger> {
+        self.place.ringer()
     }
 
     fn faults(&self) -> u64 {
@@ -43,10 +88,18 @@ impl<'a, F: Commands, R: Net<Stream = TcpStream> + Sync> Dial<F> for TcpDial<'a,
     }
 }
 
-fn linked<R: Net<Stream = TcpStream>>(rt: &R, host: &str, port: u16) -> io::Result<TcpLink>
+fn linked<R: Net<Stream = TcpStream>>(
+    rt: &R,
+    alloc: Global,
+    members: &Members,
+    host: &str,
+    port: u16,
+) -> io::Result<TcpLink>
     ensures { IfOk result (λ link. link ≡ (false, (0, 0))) }
 {
-    TcpLink::over(connect(rt, host, port)?)
+    let stream = connect(rt, host, port)?;
+    members.add(&stream);
+    TcpLink::over(alloc, stream)
 }
 
 // Tries each address of the host in turn.

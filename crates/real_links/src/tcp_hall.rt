@@ -1,6 +1,8 @@
 //! A hall over a listening socket.
 ghost use Rattle.std.specs.Prelude.{◌≡◌, [], true, false, IfOk, IfSome};
 
+use crate::last::Lasts;
+use crate::place::{Members, Place, TcpRinger};
 use crate::tcp_link::TcpLink;
 use flow_types::{LinkNo, Memory};
 use links::{Came, Hall};
@@ -10,21 +12,24 @@ use std::io::{self, ErrorKind};
 use std::marker::Model;
 use std::net::{Net, TcpListener, TcpStream};
 use std::rt::Clock;
-use std::thread;
-use std::time::Duration;
 
-// How long a look sleeps that finds nobody.
-const PAUSE_MILLIS: u64 = 1;
+// The most waits for last words, each no longer than this.
+const LAST_WAITS: u32 = 100_000;
+
+const LAST_MILLIS: u64 = 250;
 
 /// Where peers come. It waits for none of them. Contracts see whether it listens, the links that
 /// were handed back, and its counts.
 #[derive(Drop)]
 pub struct TcpHall<'a, R: Net<Listener = TcpListener, Stream = TcpStream> + Clock> {
     rt: &'a R,
+    alloc: Global,
+    place: Place,
     listener: Option<TcpListener>,
     // Who has come and wasn't given yet.
     came: Option<TcpStream>,
     got: Vec<(Option<LinkNo>, TcpLink)>,
+    lasts: Lasts,
     given: u64,
     faults: u64,
     idles: u64,
@@ -50,12 +55,50 @@ impl<'a, R: Net<Listener = TcpListener, Stream = TcpStream> + Clock> TcpHall<'a,
     pub fn new(rt: &'a R, alloc: Global) -> TcpHall<'a, R> {
         TcpHall {
             rt,
+            alloc,
+            place: Place::new(rt, alloc),
             listener: None,
             came: None,
             got: Vec::new(alloc),
+            lasts: Lasts::new(alloc),
             given: 0,
             faults: 0,
             idles: 0,
+        }
+    }
+
+    /// What ends its waits from another thread. None where the system has none, or no memory.
+    pub fn ringer(&self) -> Option<TcpRinger> {
+        self.place.ringer()
+    }
+
+    // For a dial whose links this hall's waits are for.
+    pub(crate) fn members(&self) -> Members {
+        self.place.members()
+    }
+
+    // Waits, and sends on for the links that were handed back before and after it.
+    fn pause(&mut self, millis: u64) -> u64
+        ensures { self.new ≡ self.old }
+    {
+        self.lasts.send_on(0);
+        let passed = self.place.rest(self.rt, millis);
+        self.lasts.send_on(passed);
+        passed
+    }
+
+    /// Waits until the links that were handed back have sent what they took and their other ends
+    /// have ended, no longer than ten seconds for the one and two more for the other. Where the hall
+    /// is dropped without this call, what waits to go out is lost. To be called by the program, at
+    /// its end.
+    pub fn part(&mut self)
+        ensures { self.new ≡ self.old }
+    {
+        for _ in 0..LAST_WAITS {
+            if !self.lasts.send_on(0) {
+                return;
+            }
+            self.pause(LAST_MILLIS);
         }
     }
 
@@ -69,7 +112,10 @@ impl<'a, R: Net<Listener = TcpListener, Stream = TcpStream> + Clock> TcpHall<'a,
             None => accepted(self.listener.as_ref())?,
         };
         match came {
-            Some(stream) => Ok(Some(TcpLink::over(stream)?)),
+            Some(stream) => {
+                self.place.add(&stream);
+                Ok(Some(TcpLink::over(self.alloc, stream)?))
+            }
             None => Ok(None),
         }
     }
@@ -105,6 +151,7 @@ where
     fn listen(&mut self, port: u16) -> Result<(), Fault> {
         match bound(self.rt, port) {
             Ok(listener) => {
+                self.place.add(&listener);
                 self.listener = Some(listener);
                 Ok(())
             }
@@ -134,10 +181,7 @@ where
             return true;
         }
         match accepted(self.listener.as_ref()) {
-            Ok(None) => {
-                thread::sleep(self.rt, Duration::from_millis(PAUSE_MILLIS));
-                false
-            }
+            Ok(None) => false,
             Ok(came) => {
                 self.came = came;
                 true
@@ -146,13 +190,22 @@ where
         }
     }
 
+    fn rest(&mut self, millis: u64) -> u64 {
+        self.pause(millis)
+    }
+
     fn back(
         &mut self,
         _alloc: Global,
         link: Option<LinkNo>,
         mut way: TcpLink,
     ) -> Result<(), Memory> {
-        way.end();
+        let owes = way.owes();
+        let last = way.part();
+        // Who never joined and is owed nothing has no last words to wait for.
+        if owes || link.is_some() {
+            self.lasts.keep(last);
+        }
         match self.got.push((link, way)) {
             Ok(()) => Ok(()),
             Err(_) => Err(Memory),
@@ -185,12 +238,22 @@ fn accepted(listener: Option<&TcpListener>) -> io::Result<Option<TcpStream>> {
     };
     match listener.accept() {
         Ok((stream, _)) => Ok(Some(stream)),
-        Err(e) if has_nobody(e.kind()) => Ok(None),
+        Err(e) if has_nobody(&e) => Ok(None),
         Err(e) => Err(e),
     }
 }
 
-// Nobody has come, or who came is gone again.
-fn has_nobody(kind: ErrorKind) -> bool {
-    matches!(kind, ErrorKind::WouldBlock | ErrorKind::ConnectionAborted)
+// Nobody has come, or who came is gone again, or nobody can come now.
+fn has_nobody(e: &io::Error) -> bool {
+    match e.raw_os_error() {
+        Some(number) => PASSING.contains(&number),
+        None => e.kind() == ErrorKind::WouldBlock,
+    }
 }
+
+// What `accept` answers that passes by itself, by Linux's numbers: EINTR, EAGAIN, EPERM, EPROTO,
+// ENONET, ENFILE, EMFILE, EOPNOTSUPP, ENOPROTOOPT, ENETDOWN, ENETUNREACH, ECONNABORTED, ENOBUFS,
+// ETIMEDOUT, EHOSTDOWN and EHOSTUNREACH.
+const PASSING: [i32; 16] = [
+    4, 11, 1, 71, 64, 23, 24, 95, 92, 100, 101, 103, 105, 110, 112, 113,
+];

@@ -163,7 +163,7 @@ fn puts(alloc: Global, peer: &mut Met, text: &str) -> Result<String, AllocError>
     if content.len() > MOST_CONTENT {
         return said(alloc, "too long");
     }
-    shown_sent(alloc, peer.put(alloc, key, content.as_slice()), "put")
+    shown_sent(alloc, peer.put(alloc, key, Bytes::from_vec(content)), "put")
 }
 
 fn shown_either(

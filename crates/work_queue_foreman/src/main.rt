@@ -3,6 +3,7 @@
 #![tactic(auto)]
 
 use foreman_run::foreman_top;
+use peer_run::PeerEnded;
 use real_links::{TcpDial, TcpHall};
 use real_outside::{StdoutSink, System};
 use std::alloc::AllocError;
@@ -35,13 +36,22 @@ fn main(rt: HostRuntime) -> ExitCode {
         return ExitCode::from(OUT_OF_MEMORY);
     };
     let mut out = StdoutSink::new(&rt);
+    // One wait is for the parent and for the workers: the hall's.
+    let mut hall = TcpHall::new(&rt, rt.alloc());
+    let mut dial = TcpDial::beside(&rt, rt.alloc(), &hall);
     let ended = foreman_top::<System, _, _, _, _>(
         &rt,
         rt.alloc(),
         words.as_slice(),
-        &mut TcpDial::new(&rt),
-        &mut TcpHall::new(&rt, rt.alloc()),
+        &mut dial,
+        &mut hall,
         &mut out,
     );
-    ExitCode::from(ended.status)
+    let PeerEnded { status, link, .. } = ended;
+    // What was said last may still be on its way.
+    if let Some(mut link) = link {
+        link.send_last(&rt);
+    }
+    hall.part();
+    ExitCode::from(status)
 }

@@ -4,7 +4,7 @@
 ghost use Rattle.std.specs.Prelude.{◌≡◌, ◌≤◌, IfOk, length};
 
 use command_words::read_worker_words;
-use peer_run::worker_top;
+use peer_run::{Lingers, PeerEnded, worker_top};
 use real_links::TcpDial;
 use real_outside::{Owner, ShellRunner, StdoutSink, System};
 use std::alloc::AllocError;
@@ -44,12 +44,12 @@ fn runners_of<'a, R: AllocGlobal>(
     rt: &'a R,
     owner: &'a Owner,
     jobs: usize,
-) -> Result<Vec<ShellRunner<'a, R>>, AllocError>
+) -> Result<Vec<Lingers<'a, R, ShellRunner<'a, R>>>, AllocError>
     ensures { IfOk result (λ runners. length runners.items ≡ jobs) }
 {
     let mut runners = Vec::new(rt.alloc());
     for _ in 0..jobs {
-        runners.push(ShellRunner::new(rt, owner))?;
+        runners.push(Lingers::new(rt, ShellRunner::new(rt, owner)))?;
     }
     Ok(runners)
 }
@@ -73,14 +73,18 @@ fn main(rt: HostRuntime) -> ExitCode {
         return ExitCode::from(OUT_OF_MEMORY);
     };
     let mut out = StdoutSink::new(&rt);
-    let ended = worker_top::<System, _, _, _, _, _>(
+    let PeerEnded { status, link, .. } = worker_top::<System, _, _, _, _, _>(
         &rt,
         rt.alloc(),
         words.as_slice(),
-        &mut TcpDial::new(&rt),
+        &mut TcpDial::new(&rt, rt.alloc()),
         runners.as_mut_slice(),
         &OpenGate,
         &mut out,
     );
-    ExitCode::from(ended.status)
+    // What the worker said last may still have to go out.
+    if let Some(mut link) = link {
+        link.send_last(&rt);
+    }
+    ExitCode::from(status)
 }

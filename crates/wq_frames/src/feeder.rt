@@ -105,6 +105,13 @@ impl Feeder {
         self.buffer.len()
     }
 
+    /// The bytes that no frame took yet.
+    pub fn rest(&self) -> &[u8]
+        ensures { result.now ≡ self.now.rest }
+    {
+        self.buffer.as_slice()
+    }
+
     // No message comes from now on.
     fn stop_at(&mut self, fault: FeedFault) -> Result<bool, FeedFault>
         ensures answer { result ≡ Err fault }

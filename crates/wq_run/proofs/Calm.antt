@@ -46,7 +46,7 @@ use Rattle.peers.specs.declared.leave.Leave.TheVariants as leaves
 use Rattle.peers.specs.declared.told.Told.{Told}
 use Rattle.peers.specs.declared.told.Told.TheVariants as tell
 use Rattle.peers.specs.Hears.{Hears, IsCalm, Means, ServesOn, Tells}
-use Rattle.peers.specs.Provides.{Provides, ProvidesAsked, ProvidesHeard, ProvidesOpened, ProvidesPut, keys_of}
+use Rattle.peers.specs.Provides.{Provides, ProvidesAsked, ProvidesHeard, ProvidesOpened, ProvidesPut, ProvidesSaid, keys_of}
 use Rattle.peers.specs.Serves.{IsNew, Serves}
 use Rattle.peers.specs.States.{GoesOn, PeerState}
 use Rattle.peers.proofs.Serving.{among_or}
@@ -235,6 +235,13 @@ no_put key content t is = true≢false (ap is_task is)
     is_task (messages.Task x) = true
     is_task m = false
 
+no_unlink : (key : Key) (t : Task) → messages.Task t ≡ messages.Unlink key → ⊥
+no_unlink key t is = true≢false (ap is_task is)
+  where
+    is_task : Message → Bool
+    is_task (messages.Task x) = true
+    is_task m = false
+
 module _ {L : Type 0} (gives : Function) (may_fail : Job → Failure → Type 0) (history : L → List Passed) (sure : L → Type 0) where
   abbrev Tended : PeerState L → List Message → List Message → Option Task → List Key → Type 0
   Tended p said heard waiting left = IsTended gives may_fail history sure p said heard waiting left
@@ -288,6 +295,20 @@ module _ {L : Type 0} (gives : Function) (may_fail : Job → Failure → Type 0)
       by_place : IsAmong (messages.Task t) said ⊎ (messages.Task t ≡ m) → IsUpTo newest t.attempt
       by_place (inl is) = was t is
       by_place (inr is) = own t is
+
+  -- a word was said that changes nothing
+  pub sure_word : (s : SeatState L) (p : PeerState L) (key : Key) → ProvidesSaid → p.session ≡ s.peer.session
+      → ((said heard : List Message) (waiting : Option Task) → Served s.peer said heard waiting → Served p (said ++ (messages.Unlink key ∷ [])) heard waiting) → (sure s.peer.way → sure p.way) → Sure s → Sure (record s { peer = p })
+  sure_word s p key goes same serves on is = record {
+    said = is.said ++ (messages.Unlink key ∷ []);
+    heard = is.heard;
+    tended = record {
+      serves = serves is.said is.heard None is.tended.serves;
+      provides = subst (λ (x : State). Provides x.known (is.said ++ (messages.Unlink key ∷ [])) None []) (sym same) (goes s.peer.session.known [] is.said None (messages.Unlink key) (no_unlink key) is.tended.provides);
+      surely = on is.tended.surely;
+    };
+    older = older_more s.newest is.said (messages.Unlink key) (λ t wrong. absurd (no_unlink key t wrong)) is.older;
+  }
 
   -- one more of the inputs was put
   pub sure_put : (s : SeatState L) (p : PeerState L) (key : Key) (content : List ℕ) (task : Task) (left : List Key) → ProvidesPut → p.session ≡ s.peer.session

@@ -4,6 +4,7 @@ pub mod Shares
 pub mod Closes
 pub mod TaskShort
 pub mod Tasks
+pub mod Tending
 pub mod Splits
 pub mod Counting
 pub mod Asks

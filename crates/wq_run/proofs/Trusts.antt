@@ -318,6 +318,22 @@ module _ {L : Type 0} (holds : Type 0) (gives : Function) (may_fail : Job → Fa
     spoken = put_spoken s p key content was.said was.heard None stays is was.spoken (puts was.said was.heard None was.spoken.honestly was.spoken.serves) (on was.spoken.honestly);
   }
 
+  task_no_unlink : (key : Key) (t : Task) → messages.Task t ≡ messages.Unlink key → ⊥
+  task_no_unlink key t is = true≢false (ap is_task is)
+    where
+      is_task : Message → Bool
+      is_task (messages.Task x) = true
+      is_task m = false
+
+  -- a word was said that changes nothing
+  pub word_trusted : (s : SeatState L) (p : PeerState L) (key : Key) → DueStaysDue
+      → ((said heard : List Message) (waiting : Option Task) → honest s.peer.way → ServesBy s.peer said heard waiting → ServesBy p (said ++ (messages.Unlink key ∷ [])) heard waiting) → (honest s.peer.way → honest p.way) → Trusted s → Trusted (record s { peer = p })
+  word_trusted s p key stays says on was = record {
+    said = was.said ++ (messages.Unlink key ∷ []);
+    heard = was.heard;
+    spoken = said_more s p (messages.Unlink key) was.said was.heard None None was.spoken (says was.said was.heard None was.spoken.honestly was.spoken.serves) (λ held. stays due was.said (messages.Unlink key) (was.spoken.put held) tt) (λ t same. absurd (task_no_unlink key t same)) (on was.spoken.honestly);
+  }
+
   pub put_asks : (s : SeatState L) (p : PeerState L) (key : Key) (content : List ℕ) (task : Task) → DueStaysDue → (holds → due key.file.0 ≡ Some content) → Puts s.peer p key content → (honest s.peer.way → honest p.way) → Asks s task → Asks (record s { peer = p }) task
   put_asks s p key content task stays is puts on may = record {
     said = may.said ++ (messages.Put key content ∷ []);

@@ -22,6 +22,9 @@ use std::alloc::Global;
 use std::marker::Model;
 pub(crate) use visits::ask_all;
 
+/// The most links at once: the most workers that may join, and eight peers that haven't yet.
+const MOST_LINKS: usize = 40;
+
 /// The workers that joined, and the peers that came and haven't joined yet.
 pub(crate) struct Company<F: Commands, L: Link<F>, T: Trust> {
     seats: Vec<Seat<F, L, T>>,
@@ -30,14 +33,12 @@ pub(crate) struct Company<F: Commands, L: Link<F>, T: Trust> {
     failed: bool,
     // A link was lost for want of memory.
     lost: bool,
-    // How many looks found nothing since the last turn to be idle.
-    looks: u32,
-    // The moment before the first of them.
-    since: u64,
-    // How many looks in a row found something.
-    busy: u32,
+    // How many milliseconds have gone by since the last turn to be idle.
+    passed: u64,
     // How many moves the desk had when no claim gave a rule.
     quiet: u64,
+    // How many workers were to be asked nothing then.
+    barred: usize,
     // The highest number of a link that was seated.
     newest: u32,
 }
@@ -76,10 +77,9 @@ impl<F: Commands, L: Link<F>, T: Trust> Company<F, L, T> {
             guests: Vec::new(alloc),
             failed: false,
             lost: false,
-            looks: 0,
-            since: 0,
-            busy: 0,
+            passed: 0,
             quiet: u64::MAX,
+            barred: 0,
             newest: 0,
         }
     }
@@ -120,9 +120,34 @@ impl<F: Commands, L: Link<F>, T: Trust> Company<F, L, T> {
         self.lost
     }
 
-    /// Whether the desk has other moves than when no claim gave a rule.
+    /// Whether a claim may give a rule that gave none: the desk has other moves than then, or a
+    /// worker may be asked that was passed over.
     pub fn has_news(&self, moves: u64) -> bool {
-        self.quiet != moves
+        self.quiet != moves || self.has_eased()
+    }
+
+    /// Whether fewer workers are to be asked nothing than when no claim gave a rule.
+    pub fn has_eased(&self) -> bool {
+        self.barred_count() < self.barred
+    }
+
+    // How many workers are to be asked nothing now.
+    fn barred_count(&self) -> usize {
+        let mut count: usize = 0;
+        for seat in &self.seats {
+            if seat.is_barred() {
+                count = count.saturating_add(1);
+            }
+        }
+        count
+    }
+
+    // Whether the worker at this place is to be asked nothing now.
+    fn is_barred_at(&self, at: usize) -> bool {
+        match self.seats.get(at) {
+            Some(seat) => seat.is_barred(),
+            None => false,
+        }
     }
 
     /// No claim gives a rule while the desk has so many moves.
@@ -130,6 +155,7 @@ impl<F: Commands, L: Link<F>, T: Trust> Company<F, L, T> {
         ensures { self.new ≡ self.old }
     {
         self.quiet = moves;
+        self.barred = self.barred_count();
     }
 
     /// A link is left for this. Where that is want of memory the run can't go on.
@@ -152,6 +178,11 @@ impl<F: Commands, L: Link<F>, T: Trust> Company<F, L, T> {
         }
     }
 
+    // Whether nobody more is to be let in.
+    fn is_full(&self) -> bool {
+        self.seats.len() + self.guests.len() >= MOST_LINKS
+    }
+
     /// Whether a peer that came hasn't joined yet.
     pub fn has_guests(&self) -> bool
         ensures { result ≡ false → self.now.guests ≡ [] }
@@ -168,10 +199,9 @@ impl<F: Commands, L: Link<F>, T: Trust> Company<F, L, T> {
             guests: _,
             failed: _,
             lost: _,
-            looks: _,
-            since: _,
-            busy: _,
+            passed: _,
             quiet: _,
+            barred: _,
             newest: _,
         } = self;
         seats.destroy_empty();

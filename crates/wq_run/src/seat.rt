@@ -12,6 +12,7 @@ ghost use Rattle.wq_run.specs.Trusted.{IsFair, IsHeard, IsMeant, IsTrusted, MayO
 mod asking;
 mod closing;
 mod hearing;
+mod pulse;
 
 use crate::reliance::Trust;
 use desk::Attempt;
@@ -19,6 +20,8 @@ use flow_types::{AttemptNo, LinkNo};
 use links::Link;
 use outside::Commands;
 use peers::Peer;
+pub(crate) use pulse::Offer;
+use pulse::Pulse;
 use std::alloc::Global;
 use std::marker::{Model, PhantomData};
 
@@ -34,6 +37,7 @@ pub(crate) struct Seat<F: Commands, L: Link<F>, T: Trust> {
     newest: Option<AttemptNo>,
     // Its link is to be kept, and no attempt waits to be asked for there.
     is_ready: bool,
+    pulse: Pulse,
     of: PhantomData<T>,
 }
 
@@ -70,8 +74,8 @@ fn place(attempts: &[Attempt], number: AttemptNo) -> Option<usize>
 }
 
 impl<F: Commands, L: Link<F>, T: Trust> Seat<F, L, T> {
-    /// A seat on which nothing runs.
-    pub fn new(alloc: Global, peer: Peer<F, L>, link: LinkNo) -> Seat<F, L, T>
+    /// A seat on which nothing runs, of a worker that joined with this offer.
+    pub fn new(alloc: Global, peer: Peer<F, L>, link: LinkNo, offer: Offer) -> Seat<F, L, T>
         requires meant { IsMeant (IsHeard T.holds L.tells) F.gives F.may_fail L.history (IsFair T.holds L.tells L.honest) peer }
         ensures { result ≡ record { peer = peer; link = link; attempts = []; newest = None } }
     {
@@ -81,6 +85,7 @@ impl<F: Commands, L: Link<F>, T: Trust> Seat<F, L, T> {
             attempts: Vec::new(alloc),
             newest: None,
             is_ready: true,
+            pulse: Pulse::new(offer),
             of: PhantomData,
         }
     }
@@ -90,6 +95,12 @@ impl<F: Commands, L: Link<F>, T: Trust> Seat<F, L, T> {
         ensures { result ≡ is_empty self.now.attempts }
     {
         self.attempts.is_empty()
+    }
+
+    /// Whether nothing more is to be asked there now: what was said hasn't gone out, or the worker
+    /// rests.
+    pub fn is_barred(&self) -> bool {
+        self.peer.behind() > 0 || self.pulse.is_resting(self.attempts.is_empty())
     }
 
     /// The number of its link.
@@ -173,6 +184,7 @@ impl<F: Commands, L: Link<F>, T: Trust> Seat<F, L, T> {
             attempts,
             newest: _,
             is_ready: _,
+            pulse: _,
             of: _,
         } = self;
         attempts.destroy_empty();

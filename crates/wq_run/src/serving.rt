@@ -37,8 +37,8 @@ use std::sync::Wait;
 use std::thread::Threads;
 use worker_pool::{Gate, Line, Pool, Terms as PoolTerms, Ticket, Tickets, Token, new_tickets};
 
-/// Starts what claims give, here and at workers, if the desk has news since none did. It answers
-/// whether it did anything.
+/// Starts what claims give, one rule here and one at each worker, if the desk has news since none
+/// did. It answers whether it did anything.
 fn start_more<B: PoolTerms, W: Wait, F: Commands, S: Site, H: Hall<F>, T: Terms + Trust, C: Clock>(
     rt: &W,
     alloc: Global,
@@ -86,18 +86,18 @@ fn start_more<B: PoolTerms, W: Wait, F: Commands, S: Site, H: Hall<F>, T: Terms 
     if !company.has_news(desk.moves_made()) {
         return false;
     }
-    if go_on(rt, alloc, desk, held, pool, most, clock) {
-        return true;
-    }
-    if ask_all::<B, F, S, H, T, C>(company, alloc, desk, held, hall, clock) {
+    let here = go_on(rt, alloc, desk, held, pool, most, clock);
+    let there = ask_all::<B, F, S, H, T, C>(company, alloc, desk, held, hall, clock);
+    if any(here, there, false) {
         return true;
     }
     company.rest_at(desk.moves_made());
     false
 }
 
-/// Starts what can be, or hears what ended, here or at workers, or lets in who has come. It answers
-/// whether there was anything to do.
+/// Starts one rule here and one at each worker, where that can be, hears one that ended here and one
+/// at each worker, and lets in who has come. It answers whether there was anything to do. Where there
+/// is nothing, nor was in the turn before, it waits for news.
 fn turn<B: PoolTerms, W: Wait, F: Commands, S: Site, H: Hall<F>, T: Terms + Trust, C: Clock>(
     rt: &W,
     alloc: Global,
@@ -108,6 +108,7 @@ fn turn<B: PoolTerms, W: Wait, F: Commands, S: Site, H: Hall<F>, T: Terms + Trus
     hall: &mut H,
     most: usize,
     limit: u32,
+    is_busy: bool,
     clock: &C,
 ) -> bool
     requires valid { IsValid desk.old.plan }
@@ -144,13 +145,18 @@ fn turn<B: PoolTerms, W: Wait, F: Commands, S: Site, H: Hall<F>, T: Terms + Trus
         (H.idle_count hall.new) (inside_of company.old) (inside_of company.new)
         company.old.failed company.new.failed company.old.lost company.new.lost }
 {
-    if start_more::<B, W, F, S, H, T, C>(rt, alloc, desk, held, pool, company, hall, most, clock) {
-        return true;
-    }
-    if hear(desk, held, pool, clock) {
-        return true;
-    }
-    round::<B, F, S, H, T, C>(company, alloc, desk, held, hall, limit, clock)
+    let started = start_more::<B, W, F, S, H, T, C>(
+        rt, alloc, desk, held, pool, company, hall, most, clock,
+    );
+    let ended = hear(desk, held, pool, clock);
+    let is_busy = any(is_busy, started, ended);
+    let told = round::<B, F, S, H, T, C>(company, alloc, desk, held, hall, limit, is_busy, clock);
+    any(started, ended, told)
+}
+
+// Whether one of these did something.
+fn any(first: bool, second: bool, third: bool) -> bool {
+    first || second || third
 }
 
 /// Once the run has stopped, lets the workers go and hears what runs here. It answers whether
@@ -256,6 +262,7 @@ fn serve<B: PoolTerms, W: Wait, F: Commands, S: Site, H: Hall<F>, T: Terms + Tru
         company.old.failed company.new.failed company.old.lost company.new.lost }
     ensures heard { (IsWantHalt held.new.halt → ⊥) → pool.new.waiting ≡ [] }
 {
+    let mut is_busy = true;
     for _ in rt.forever() {
         let Some(seen) = pool.seen() else {
             held.stop(Halt::Memory);
@@ -269,12 +276,10 @@ fn serve<B: PoolTerms, W: Wait, F: Commands, S: Site, H: Hall<F>, T: Terms + Tru
             }
             continue;
         }
-        if turn::<B, W, F, S, H, T, C>(
-            rt, alloc, desk, held, pool, company, hall, most, limit, clock,
-        ) {
-            continue;
-        }
-        if pool.out() == 0 && company.is_idle() {
+        is_busy = turn::<B, W, F, S, H, T, C>(
+            rt, alloc, desk, held, pool, company, hall, most, limit, is_busy, clock,
+        );
+        if !is_busy && pool.out() == 0 && company.is_idle() {
             return;
         }
     }

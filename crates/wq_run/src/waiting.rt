@@ -23,7 +23,8 @@ use std::alloc::Global;
 use std::sync::Wait;
 use worker_pool::Terms as PoolTerms;
 
-/// Looks for workers until one joins or states other amounts, or nobody came so often.
+/// Looks for workers until one joins, states other amounts or may be asked again, or nobody came so
+/// often.
 fn look<B: PoolTerms, W: Wait, F: Commands, S: Site, H: Hall<F>, T: Terms + Trust, C: Clock>(
     rt: &W,
     alloc: Global,
@@ -64,9 +65,15 @@ fn look<B: PoolTerms, W: Wait, F: Commands, S: Site, H: Hall<F>, T: Terms + Trus
 {
     let start = hall.idles();
     let moves = desk.moves_made();
+    let mut is_busy = true;
     for _ in rt.forever() {
-        round::<B, F, S, H, T, C>(company, alloc, desk, held, hall, limit, clock);
-        if !held.is_going() || !company.is_going() || desk.moves_made() != moves {
+        is_busy = round::<B, F, S, H, T, C>(
+            company, alloc, desk, held, hall, limit, is_busy, clock,
+        );
+        if !held.is_going() || !company.is_going() {
+            return;
+        }
+        if desk.moves_made() != moves || company.has_eased() {
             return;
         }
         if hall.idles().saturating_sub(start) >= u64::from(limit) {

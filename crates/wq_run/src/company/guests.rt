@@ -20,9 +20,8 @@ ghost use Rattle.wq_run.specs.Trusted.{IsAwaited, IsFair, IsHeard, IsMeant, IsSt
 use super::Company;
 use super::hall::hand_back;
 use crate::reliance::Trust;
-use crate::seat::Seat;
+use crate::seat::{Offer, Seat};
 use desk::{Desk, Terms};
-use flow_types::Amounts;
 use links::{Hall, Link};
 use local_run::join;
 use outside::{Commands, Site};
@@ -32,14 +31,6 @@ use worker_pool::Terms as PoolTerms;
 
 /// How often a peer may be idle before its hello has come.
 const MOST_IDLES: u64 = 8;
-
-/// What a peer offers.
-#[derive(Clone, Copy)]
-struct Offer {
-    total: Amounts,
-    largest: Amounts,
-    cache: u64,
-}
 
 // Takes the bytes that a guest has sent, if there are some or it has its turn to be idle.
 fn listen<F: Commands, L: Link<F>, T: Trust>(
@@ -73,7 +64,7 @@ fn listen<F: Commands, L: Link<F>, T: Trust>(
 
 // What a guest offers, once its hello has come. It is to be left where it was idle for too long before
 // that, but only once all that came was heard.
-fn greet<F: Commands, L: Link<F>, T: Trust>(
+fn hear_hello<F: Commands, L: Link<F>, T: Trust>(
     peer: &mut Peer<F, L>,
     alloc: Global,
     is_turn: bool,
@@ -121,6 +112,43 @@ fn greet<F: Commands, L: Link<F>, T: Trust>(
             })),
             _ => Err(Leave::Unexpected),
         },
+        Err(leave) => Err(leave),
+    }
+}
+
+// The same. It is to be left too where what came is no beginning of a hello.
+fn greet<F: Commands, L: Link<F>, T: Trust>(
+    peer: &mut Peer<F, L>,
+    alloc: Global,
+    is_turn: bool,
+) -> Result<Option<Offer>, Leave>
+    requires guest { IsGuest (IsAwaited (IsHeard T.holds L.tells) F.gives F.may_fail L.history (IsFair T.holds L.tells L.honest)) peer.old }
+    ensures guest { OnOk result (IsGuest (IsMeant (IsHeard T.holds L.tells) F.gives F.may_fail L.history (IsFair T.holds L.tells L.honest)) peer.new) }
+    ensures waits { IfOk result (λ offer. offer ≡ None
+        → IsGuest (IsAwaited (IsHeard T.holds L.tells) F.gives F.may_fail L.history (IsFair T.holds L.tells L.honest)) peer.new) }
+    ensures offers { IfOk result (λ offer. IfSome offer (λ o. L.tells
+        → Carries (received_in (L.history peer.new.way))
+        (messages.Hello o.total o.largest o.cache))) }
+    ensures leaves { (limit : ℕ) → L.tells → IfErr result (LeavesGuest
+        (IsIllLink F.gives F.may_fail L.history L.count L.idle_count L.is_closed limit)
+        peer.new.way) }
+    ensures offered { IfOk result (λ offer. IfSome offer
+        (λ _. L.tells → HasHeard L.history peer.new 1)) }
+    ensures calm { (asked : Option Asked) → L.tells
+        → IsSureGuest F.gives F.may_fail L.history L.idle_count (IsSureOf L.sure L.offers asked)
+        peer.old
+        → StaysOr (IsSureGuest F.gives F.may_fail L.history L.idle_count
+        (IsSureOf L.sure L.offers asked) peer.new) ⊥ result }
+{
+    sure_links_are_orderly::<F, L>();
+    match hear_hello::<F, L, T>(peer, alloc, is_turn) {
+        Ok(Some(offer)) => Ok(Some(offer)),
+        Ok(None) => {
+            if peer.is_stranger() {
+                return Err(Leave::Unexpected);
+            }
+            Ok(None)
+        }
         Err(leave) => Err(leave),
     }
 }
@@ -243,7 +271,9 @@ fn seat_guest<B: PoolTerms, F: Commands, S: Site, H: Hall<F>, T: Terms + Trust>(
         company.old.failed company.new.failed company.old.lost company.new.lost }
 {
     match join::<B, F, S, T>(desk, offer.total, offer.largest, offer.cache) {
-        Ok(link) => take_seat::<F, H, T>(company, alloc, hall, Seat::new(alloc, peer, link)),
+        Ok(link) => {
+            take_seat::<F, H, T>(company, alloc, hall, Seat::new(alloc, peer, link, offer));
+        }
         Err(why) => {
             company.refuses(why);
             hand_back::<F, H, T>(company, alloc, hall, None, peer.into_way());

@@ -11,19 +11,15 @@ use super::Company;
 use crate::reliance::Trust;
 use flow_types::LinkNo;
 use links::{Came, Hall, Link};
-use outside::{Clock, Commands, Fault};
+use outside::{Commands, Fault};
 use peers::{Peer, honest_links_were_honest, tasks_come_behind_their_inputs};
 use std::alloc::Global;
 
-/// The most looks that find nothing before each link, and the place where peers come, has its turn
-/// to be idle. A look takes a millisecond, and longer where the system's timers are coarse.
-const PATIENCE: u32 = 1_000;
+/// The time from one turn to be idle to the next, in milliseconds.
+const TURN: u64 = 1_000;
 
-/// The fewest such looks before a turn that the clock gives.
-const LEAST_LOOKS: u32 = 64;
-
-/// The time from one turn to the next, by the clock, in microseconds.
-const SECOND: u64 = 1_000_000;
+/// The longest rest, in milliseconds.
+const REST: u64 = 250;
 
 /// Hands a link back, under its number if it joined.
 pub(super) fn hand_back<F: Commands, H: Hall<F>, T: Trust>(
@@ -151,8 +147,8 @@ fn wait<F: Commands, H: Hall<F>, T: Trust>(
     }
 }
 
-/// Lets in who has come, and answers whether anybody did. Where nobody has it is a look more that
-/// found nothing, or the turn to be idle.
+/// Lets in who has come, and answers whether anybody did. Where there are links enough nobody is
+/// asked for, and who comes waits.
 pub(super) fn meet<F: Commands, H: Hall<F>, T: Trust>(
     company: &mut Company<F, H::Way, T>,
     alloc: Global,
@@ -175,29 +171,27 @@ pub(super) fn meet<F: Commands, H: Hall<F>, T: Trust>(
         (H.idle_count hall.new) (inside_of company.old) (inside_of company.new)
         company.old.failed company.new.failed company.old.lost company.new.lost }
 {
-    if hall.ready() || is_turn {
+    if !company.is_full() && (hall.ready() || is_turn) {
         return wait::<F, H, T>(company, alloc, hall);
     }
-    company.looks = company.looks.saturating_add(1);
     false
 }
 
-/// Whether so many looks found nothing, or so much time has gone by, that each has its turn to be
-/// idle; then both are counted anew.
-pub(super) fn has_turn<F: Commands, H: Hall<F>, C: Clock, T: Trust>(
+/// Waits for news of links and runners, unless there is something to do, and answers whether a second
+/// has gone by since each had its turn to be idle; then the next begins.
+pub(super) fn has_turn<F: Commands, H: Hall<F>, T: Trust>(
     company: &mut Company<F, H::Way, T>,
-    clock: &C,
+    hall: &mut H,
+    is_busy: bool,
 ) -> bool
-    ensures { company.new ≡ company.old }
+    ensures company { company.new ≡ company.old }
+    ensures hall { hall.new ≡ hall.old }
 {
-    let now = clock.now();
-    if company.looks == 0 {
-        company.since = now;
-    }
-    let is_late = company.looks >= LEAST_LOOKS && now.saturating_sub(company.since) >= SECOND;
-    if company.looks < PATIENCE && !is_late {
+    let millis = if is_busy { 0 } else { REST };
+    company.passed = company.passed.saturating_add(hall.rest(millis));
+    if company.passed < TURN {
         return false;
     }
-    company.looks = 0;
+    company.passed = 0;
     true
 }

@@ -25,26 +25,13 @@ use outside::{Clock, Commands, Site};
 use std::alloc::Global;
 use worker_pool::Terms as PoolTerms;
 
-/// The most looks in a row that find something before it is asked who has come.
-const MOST_BUSY: u32 = 64;
-
-/// Whether it is time to ask who has come: where a look found nothing, and else now and then.
-fn asks_hall<F: Commands, H: Hall<F>, T: Trust>(
-    company: &mut Company<F, H::Way, T>,
-    did: bool,
-) -> bool
-    ensures { company.new ≡ company.old }
-{
-    company.busy = company.busy.saturating_add(1);
-    if did && company.busy < MOST_BUSY {
-        return false;
-    }
-    company.busy = 0;
-    true
+// Whether one of these did something.
+fn any(told: bool, joined: bool, came: bool) -> bool {
+    told || joined || came
 }
 
-/// Hears what workers and guests tell, and lets in who has come. It answers whether there was
-/// anything. Where there is nothing it takes a millisecond.
+/// Hears what workers and guests tell, of each one piece at most, and lets in who has come, one at
+/// most. It answers whether there was anything. Unless there is something to do it waits first.
 pub(crate) fn round<B: PoolTerms, F: Commands, S: Site, H: Hall<F>, T: Terms + Trust, C: Clock>(
     company: &mut Company<F, H::Way, T>,
     alloc: Global,
@@ -52,6 +39,7 @@ pub(crate) fn round<B: PoolTerms, F: Commands, S: Site, H: Hall<F>, T: Terms + T
     held: &mut Held,
     hall: &mut H,
     limit: u32,
+    is_busy: bool,
     clock: &C,
 ) -> bool
     requires valid { IsValid desk.old.plan }
@@ -82,17 +70,13 @@ pub(crate) fn round<B: PoolTerms, F: Commands, S: Site, H: Hall<F>, T: Terms + T
         (H.idle_count hall.new) (inside_of company.old) (inside_of company.new)
         company.old.failed company.new.failed company.old.lost company.new.lost }
 {
-    let is_turn = has_turn::<F, H, C, T>(company, clock);
+    let is_turn = has_turn::<F, H, T>(company, hall, is_busy);
     let told = visit_all::<B, F, S, H, T, C>(
         company, alloc, desk, held, hall, is_turn, limit, clock,
     );
     let joined = greet_all::<B, F, S, H, T>(company, alloc, desk, hall, is_turn);
-    let did = told || joined;
-    if !is_turn && !asks_hall::<F, H, T>(company, did) {
-        return did;
-    }
     let came = meet::<F, H, T>(company, alloc, hall, is_turn);
-    did || came
+    any(told, joined, came)
 }
 
 /// Leaves the last seat, if there is one, and answers whether there was.

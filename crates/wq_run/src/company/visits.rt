@@ -65,8 +65,8 @@ fn hear_at<B: PoolTerms, F: Commands, S: Site, H: Hall<F>, T: Terms + Trust, C: 
     seat.serve::<B, S, C>(alloc, desk, held, is_turn, limit, clock)
 }
 
-/// Starts a rule at the worker at this place, if a claim gives one, and answers whether it did
-/// anything.
+/// Starts a rule at the worker at this place, if it may be asked and a claim gives one, and answers
+/// whether it did anything.
 fn claim_at<B: PoolTerms, F: Commands, S: Site, H: Hall<F>, T: Terms + Trust, C: Clock>(
     company: &mut Company<F, H::Way, T>,
     alloc: Global,
@@ -101,6 +101,9 @@ fn claim_at<B: PoolTerms, F: Commands, S: Site, H: Hall<F>, T: Terms + Trust, C:
     ensures failed { company.new.failed ≡ company.old.failed }
     ensures lost { company.new.lost ≡ company.old.lost }
 {
+    if company.is_barred_at(at) {
+        return Ok(false);
+    }
     if !held.is_going() {
         return Ok(false);
     }

@@ -25,7 +25,7 @@ ghost use Rattle.wq_run.specs.Trusted.{IsFair, IsHeard, IsOf, IsOwn, MayAsk, May
 use super::Seat;
 use crate::reliance::Trust;
 use desk::{Attempt, Claim, Desk, Terms};
-use flow_types::{AttemptNo, FileNo, Key, Memory, Rows, Task};
+use flow_types::{AttemptNo, Bytes, FileNo, Key, Memory, Rows, Task};
 use links::Link;
 use local_run::{Halt, Held, claim_away, lose_away, read_away};
 use outside::{Clock, Commands, Site};
@@ -75,9 +75,9 @@ impl<F: Commands, L: Link<F>, T: Terms + Trust> Seat<F, L, T> {
     }
 
     // Sends a content, which is no larger than a file may be.
-    fn send(&mut self, alloc: Global, key: Key, content: &[u8]) -> Result<(), Leave>
-        requires due { T.holds → T.due key.file.0 ≡ Some content.now }
-        requires short { length content.now ≤ most_bytes }
+    fn send(&mut self, alloc: Global, key: Key, content: Bytes) -> Result<(), Leave>
+        requires due { T.holds → T.due key.file.0 ≡ Some content }
+        requires short { length content ≤ most_bytes }
         ensures link { self.new.link ≡ self.old.link }
         ensures attempts { self.new.attempts ≡ self.old.attempts }
         ensures session { self.new.peer.session ≡ self.old.peer.session }
@@ -129,6 +129,7 @@ impl<F: Commands, L: Link<F>, T: Terms + Trust> Seat<F, L, T> {
     {
         what_is_due_stays_due();
         tasks_come_behind_their_inputs();
+        self.pulse.said();
         match self.peer.ask(alloc, task) {
             Ok(()) => {
                 self.is_ready = true;
@@ -216,7 +217,7 @@ impl<F: Commands, L: Link<F>, T: Terms + Trust> Seat<F, L, T> {
                     held.stop(Halt::Memory);
                     return Ok(());
                 }
-                self.send(alloc, Key { run, file }, content.as_slice())
+                self.send(alloc, Key { run, file }, content)
             }
             Err(why) => {
                 held.stop(why);

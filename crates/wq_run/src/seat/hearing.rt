@@ -12,7 +12,7 @@ ghost use Rattle.wq_frames.specs.Frames.{front, part};
 ghost use Rattle.peers.specs.Hears.{Hears, IsCalm};
 ghost use Rattle.peers.specs.Provides.{Provides};
 ghost use Rattle.peers.specs.Serves.{IsSettled, IsStillOwed, Serves};
-ghost use Rattle.peers.specs.States.{LeavesAs, ReceivesOn};
+ghost use Rattle.peers.specs.States.{LeavesAs, MaySend, ReceivesOn};
 ghost use Rattle.local_run.specs.declared.halt.Halt.{Halt as HaltValue};
 ghost use Rattle.local_run.specs.Underway.{HeldState, IsSurePool};
 ghost use Rattle.wq_run.specs.Calm.{AddsWell, Asked, FaresWell, IsSureOf, IsSureSeat, StaysOr};
@@ -29,13 +29,14 @@ use local_run::{Halt, Held, change};
 use outside::{Clock, Commands, Site};
 use peers::{
     Leave, Listened, Told, honest_links_were_honest, sure_links_are_orderly,
-    tasks_come_behind_their_inputs,
+    tasks_come_behind_their_inputs, what_is_due_stays_due,
 };
 use run_history::JoinRefused;
 use std::alloc::Global;
 use worker_pool::Terms as PoolTerms;
 
-/// The most messages that are taken from one worker before the next has its turn.
+/// The most messages that are taken from one worker before the next has its turn. No more than one
+/// of them ends an attempt.
 const MOST_MESSAGES: u32 = 64;
 
 /// What a look at a link found: bytes, or the link was asked and idle.
@@ -47,7 +48,7 @@ struct Look {
 impl<F: Commands, L: Link<F>, T: Terms + Trust> Seat<F, L, T> {
     // Takes the bytes that are there, and tells what the look found. Where the link has its turn to
     // be idle it is asked all the same.
-    fn listen(&mut self, alloc: Global, is_turn: bool) -> Result<Look, Leave>
+    fn read(&mut self, alloc: Global, is_turn: bool) -> Result<Look, Leave>
         ensures link { self.new.link ≡ self.old.link }
         ensures attempts { self.new.attempts ≡ self.old.attempts }
         ensures session { self.new.peer.session ≡ self.old.peer.session }
@@ -88,6 +89,136 @@ impl<F: Commands, L: Link<F>, T: Terms + Trust> Seat<F, L, T> {
                 self.is_ready = false;
                 Err(leave)
             }
+        }
+    }
+
+    // A second has gone by: sends on what was said, as far as the peer takes it.
+    fn flush(&mut self, patience: u64) -> Result<(), Leave>
+        ensures link { self.new.link ≡ self.old.link }
+        ensures attempts { self.new.attempts ≡ self.old.attempts }
+        ensures session { self.new.peer.session ≡ self.old.peer.session }
+        ensures feed { self.new.peer.feed ≡ self.old.peer.feed }
+        ensures trusted { L.tells → IsTrusted T.holds F.gives F.may_fail L.history
+            (IsFair T.holds L.tells L.honest) T.plan T.run T.due self.old → OnOk result
+            (IsTrusted T.holds F.gives F.may_fail L.history (IsFair T.holds L.tells L.honest) T.plan
+            T.run T.due self.new) }
+        ensures comes { L.tells
+            → ReceivesOn (L.history self.old.peer.way) (L.history self.new.peer.way) }
+        ensures cause { MaySend (L.count self.old.peer.way) (L.count self.new.peer.way) result }
+        ensures surely { L.sure self.old.peer.way → L.sure self.new.peer.way }
+        ensures calm { (asked : Option Asked) → L.tells
+            → IsSureSeat F.gives F.may_fail L.history (IsSureOf L.sure L.offers asked) self.old
+            → StaysOr
+            (IsSureSeat F.gives F.may_fail L.history (IsSureOf L.sure L.offers asked) self.new) ⊥
+            result }
+    {
+        match self.peer.flush(patience) {
+            Ok(()) => {
+                self.pulse.beat();
+                Ok(())
+            }
+            Err(leave) => {
+                self.is_ready = false;
+                Err(leave)
+            }
+        }
+    }
+
+    // Says a word that the peer passes over.
+    fn probe(&mut self, alloc: Global) -> Result<(), Leave>
+        ensures link { self.new.link ≡ self.old.link }
+        ensures attempts { self.new.attempts ≡ self.old.attempts }
+        ensures session { self.new.peer.session ≡ self.old.peer.session }
+        ensures feed { self.new.peer.feed ≡ self.old.peer.feed }
+        ensures trusted { L.tells → IsTrusted T.holds F.gives F.may_fail L.history
+            (IsFair T.holds L.tells L.honest) T.plan T.run T.due self.old → OnOk result
+            (IsTrusted T.holds F.gives F.may_fail L.history (IsFair T.holds L.tells L.honest) T.plan
+            T.run T.due self.new) }
+        ensures comes { L.tells
+            → ReceivesOn (L.history self.old.peer.way) (L.history self.new.peer.way) }
+        ensures cause { MaySend (L.count self.old.peer.way) (L.count self.new.peer.way) result }
+        ensures surely { L.sure self.old.peer.way → L.sure self.new.peer.way }
+        ensures calm { (asked : Option Asked) → L.tells
+            → IsSureSeat F.gives F.may_fail L.history (IsSureOf L.sure L.offers asked) self.old
+            → StaysOr
+            (IsSureSeat F.gives F.may_fail L.history (IsSureOf L.sure L.offers asked) self.new) ⊥
+            result }
+    {
+        what_is_due_stays_due();
+        tasks_come_behind_their_inputs();
+        match self.peer.probe(alloc) {
+            Ok(()) => {
+                self.pulse.said();
+                Ok(())
+            }
+            Err(leave) => {
+                self.is_ready = false;
+                Err(leave)
+            }
+        }
+    }
+
+    // A second has gone by: what was said goes on, and where something runs and nothing was said for
+    // a minute a word is said that the peer passes over. It fails where the peer took no byte for so
+    // many seconds.
+    fn tend(&mut self, alloc: Global, limit: u32) -> Result<(), Leave>
+        ensures link { self.new.link ≡ self.old.link }
+        ensures attempts { self.new.attempts ≡ self.old.attempts }
+        ensures session { self.new.peer.session ≡ self.old.peer.session }
+        ensures feed { self.new.peer.feed ≡ self.old.peer.feed }
+        ensures trusted { L.tells → IsTrusted T.holds F.gives F.may_fail L.history
+            (IsFair T.holds L.tells L.honest) T.plan T.run T.due self.old → OnOk result
+            (IsTrusted T.holds F.gives F.may_fail L.history (IsFair T.holds L.tells L.honest) T.plan
+            T.run T.due self.new) }
+        ensures comes { L.tells
+            → ReceivesOn (L.history self.old.peer.way) (L.history self.new.peer.way) }
+        ensures cause { MaySend (L.count self.old.peer.way) (L.count self.new.peer.way) result }
+        ensures surely { L.sure self.old.peer.way → L.sure self.new.peer.way }
+        ensures calm { (asked : Option Asked) → L.tells
+            → IsSureSeat F.gives F.may_fail L.history (IsSureOf L.sure L.offers asked) self.old
+            → StaysOr
+            (IsSureSeat F.gives F.may_fail L.history (IsSureOf L.sure L.offers asked) self.new) ⊥
+            result }
+    {
+        match self.flush(u64::from(limit)) {
+            Ok(()) => {}
+            Err(leave) => return Err(leave),
+        }
+        if self.pulse.is_silent() && !self.attempts.is_empty() {
+            return self.probe(alloc);
+        }
+        Ok(())
+    }
+
+    // As `read`; where it has its turn what was said goes on first.
+    fn listen(&mut self, alloc: Global, is_turn: bool, limit: u32) -> Result<Look, Leave>
+        ensures link { self.new.link ≡ self.old.link }
+        ensures attempts { self.new.attempts ≡ self.old.attempts }
+        ensures session { self.new.peer.session ≡ self.old.peer.session }
+        ensures going { self.old.peer.feed.stop ≡ None → self.new.peer.feed.stop ≡ None }
+        ensures comes { L.tells
+            → ReceivesOn (L.history self.old.peer.way) (L.history self.new.peer.way) }
+        ensures heard { L.tells → IsTrusted T.holds F.gives F.may_fail L.history
+            (IsFair T.holds L.tells L.honest) T.plan T.run T.due self.old
+            → OnOk result (StaysHeard L.history self.old.peer self.new.peer) }
+        ensures leaves { IfErr result (LeavesAs (L.is_closed self.new.peer.way)
+            (L.count self.old.peer.way) (L.count self.new.peer.way)) }
+        ensures calm { (asked : Option Asked) → L.tells
+            → IsSureSeat F.gives F.may_fail L.history (IsSureOf L.sure L.offers asked) self.old
+            → StaysOr
+            (IsSureSeat F.gives F.may_fail L.history (IsSureOf L.sure L.offers asked) self.new) ⊥
+            result }
+        ensures owes { L.tells → L.sure self.old.peer.way
+            → IfOk result (λ look. look.was_idle ≡ true
+            → OwesNothing (sent_in (L.history self.new.peer.way))
+            (received_in (L.history self.new.peer.way))) }
+    {
+        if !is_turn {
+            return self.read(alloc, is_turn);
+        }
+        match self.tend(alloc, limit) {
+            Ok(()) => self.read(alloc, is_turn),
+            Err(leave) => Err(leave),
         }
     }
 
@@ -161,7 +292,10 @@ impl<F: Commands, L: Link<F>, T: Terms + Trust> Seat<F, L, T> {
         sure_links_are_orderly::<F, L>();
         tasks_come_behind_their_inputs();
         match self.peer.hear(alloc) {
-            Ok(told) => Ok(told),
+            Ok(told) => {
+                self.pulse.heard(&told);
+                Ok(told)
+            }
             Err(leave) => {
                 self.is_ready = false;
                 Err(leave)
@@ -169,7 +303,8 @@ impl<F: Commands, L: Link<F>, T: Terms + Trust> Seat<F, L, T> {
         }
     }
 
-    // It offers something else from now on. It is to be left where the desk takes no more changes.
+    // It offers this from now on. It is to be left where it is something else and the desk takes no
+    // more changes.
     fn change<B: PoolTerms, S: Site>(
         &mut self,
         desk: &mut Desk<F, S, T>,
@@ -194,6 +329,9 @@ impl<F: Commands, L: Link<F>, T: Terms + Trust> Seat<F, L, T> {
             L.history (IsSureOf L.sure L.offers asked) self.new
             × (self.new.peer.way ≡ self.old.peer.way)) (IsFull desk.new.moves) result }
     {
+        if !self.pulse.has_news() {
+            return Ok(true);
+        }
         match change::<B, F, S, T>(desk, self.link(), total, largest, cache) {
             Ok(()) => Ok(true),
             Err(JoinRefused::Memory) => Err(Leave::Memory),
@@ -311,14 +449,20 @@ impl<F: Commands, L: Link<F>, T: Terms + Trust> Seat<F, L, T> {
             held.stop(Halt::Memory);
             return Ok(false);
         }
-        let Look { came, was_idle } = match self.listen(alloc, is_turn) {
+        let Look { came, was_idle } = match self.listen(alloc, is_turn, limit) {
             Ok(look) => look,
             Err(leave) => return Err(leave),
         };
         let mut did = came;
         for _ in 0..MOST_MESSAGES {
+            let attempts = self.attempts.len();
             match self.hear::<B, S, C>(alloc, desk, held, clock) {
-                Ok(true) => did = true,
+                Ok(true) => {
+                    if self.attempts.len() < attempts {
+                        return Ok(true);
+                    }
+                    did = true;
+                }
                 Ok(false) => {
                     if self.is_silent(was_idle, limit) {
                         return Err(Leave::Closed);

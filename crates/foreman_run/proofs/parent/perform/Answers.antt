@@ -10,8 +10,7 @@ use Rattle.foreman_run.proofs.parent.perform.Goals as goal
 
 pub send_all-requires-clause-told : goal.send_all-requires-clause-told
 send_all-requires-clause-told g c κs within =
-    let down : c.as_slice-2.result.now ≡ c.args.acts.down = search rules in
-    subst CanGoDown (sym down) c.requires.down
+    c.requires.down
 
 pub returns-in-Err-clause-goes : goal.returns-in-Err-clause-goes
 returns-in-Err-clause-goes g c = λ trusted cap faults ear core works.
@@ -30,12 +29,11 @@ returns-clause-goes g c = λ trusted cap faults ear core works.
     let old = way_of g.U.Link.history g.U.Link.is_closed g.U.Link.count c.args.link.now in
     let new = way_of g.U.Link.history g.U.Link.is_closed g.U.Link.count c.say_all.new.link in
     let same : c.as_slice.result.now ≡ c.args.acts.up = search rules in
-    let down : c.as_slice-2.result.now ≡ c.args.acts.down = search rules in
     let answer : Result (Unit {0}) Fault = Ok tt in
     let said : Said g.F.Commands.gives g.F.Commands.may_fail g.U.Link.tells trusted g.L.Link.tells g.L.Link.history g.L.Link.honest cap faults answer c.as_slice.result.now old new =
     ((λ t. c.in_default.ensures.sent t), (λ said t link may. c.in_default.ensures.said said t link may), c.in_default.ensures.closed, c.in_default.ensures.cause.later) in
     still_kept g.F.Commands.gives g.F.Commands.may_fail g.U.Link.tells trusted g.L.Link.tells g.L.Link.history g.L.Link.honest cap faults new ear core c.send_all.new.self c.leave.new.self c.leave.ensures
     (went_down g.F.Commands.gives g.F.Commands.may_fail g.U.Link.tells trusted g.L.Link.tells g.L.Link.history g.L.Link.honest cap faults new ear core c.args.company.now c.send_all.new.self c.args.acts.down
-    (subst (λ (ds : List Down). KeepsWith g.L.Link.tells g.L.Link.history g.L.Link.honest ds c.args.company.now c.send_all.new.self) down c.send_all.ensures)
+    c.send_all.ensures
     (said_all g.F.Commands.gives g.F.Commands.may_fail g.U.Link.tells trusted g.L.Link.tells g.L.Link.history g.L.Link.honest cap faults old new ear core c.args.company.now c.args.acts.up c.args.acts.down false
     (subst (λ (ms : List Message). Said g.F.Commands.gives g.F.Commands.may_fail g.U.Link.tells trusted g.L.Link.tells g.L.Link.history g.L.Link.honest cap faults answer ms old new) same said) works))

@@ -1,8 +1,8 @@
 use Rattle.std.proofs.Common.{◌∙◌}
 use Rattle.foreman_run.proofs.rounds.hear_all.Goals as goal
 
-pub hear_at-requires-clause-works : goal.hear_at-requires-clause-works
-hear_at-requires-clause-works g c κs within =
+pub hear_some-requires-clause-works : goal.hear_some-requires-clause-works
+hear_some-requires-clause-works g c κs within =
     let w = c.requires.works.1 in
     (c.requires.works.0, record { trusted = w.trusted; untrusted = w.untrusted; cap = w.cap; faults = w.faults; works = c.loop-at.invariant.goes w.trusted w.cap w.faults c.requires.works.0 w.works })
 

@@ -1,5 +1,6 @@
 use Rattle.std.proofs.Common.{rules, ◌≡◌, ◌∙◌, [], Bool, true, false, length, sym, subst}
 use Rattle.peer_run.specs.Works.{way_of}
+use Rattle.foreman_run.specs.Hosts.{Hosts}
 use Rattle.foreman_run.specs.Works.{Works}
 use Rattle.foreman_run.proofs.Going.{is_over}
 use Rattle.foreman_run.proofs.Hosted.{on_last, on_then, on_till}
@@ -14,9 +15,10 @@ pub loop-preserved : goal.loop-preserved
 loop-preserved g c = let on : c.in-Ok-false.field-0 ≡ false = search rules in record {
   goes = λ trusted cap faults trusts works. subst (λ (b : Bool). Works g.F.Commands.gives g.F.Commands.may_fail g.U.Link.tells trusted g.H.Way.Link.tells g.H.Way.Link.history g.H.Way.Link.honest cap faults (way_of g.U.Link.history g.U.Link.is_closed g.U.Link.count c.round.new.parent) c.round.new.ear c.round.new.core c.round.new.company [] [] b) on
       (c.in-Ok-false.ensures.goes trusted cap faults (λ e. c.loop.invariant.honest (trusts e)) (c.loop.invariant.goes trusted cap faults trusts works));
-  hosts = on_then (g.H.Hall.count c.args.hall.now) (g.H.Hall.count c.loop.hall) (g.H.Hall.count c.round.new.hall) (g.H.Hall.got c.args.hall.now) (g.H.Hall.got c.loop.hall) (g.H.Hall.got c.round.new.hall) (g.H.Hall.given c.args.hall.now) (g.H.Hall.given c.loop.hall) (g.H.Hall.given c.round.new.hall) (length c.args.company.now) (length c.loop.company) (length c.round.new.company) false c.loop.invariant.hosts c.in-Ok-false.ensures.hosts;
-  listens = c.in-Ok-false.ensures.listens;
-  honest = λ is. c.in-Ok-false.ensures.honest (c.loop.invariant.honest is);
+  hosts = subst (λ (h : _). Hosts (g.H.Hall.count c.args.hall.now) (g.H.Hall.count h) (g.H.Hall.got c.args.hall.now) (g.H.Hall.got h) (g.H.Hall.given c.args.hall.now) (g.H.Hall.given h) (length c.args.company.now) (length c.round.new.company) 0) (sym c.rest-in-Ok-false.ensures)
+      (on_then (g.H.Hall.count c.args.hall.now) (g.H.Hall.count c.loop.hall) (g.H.Hall.count c.round.new.hall) (g.H.Hall.got c.args.hall.now) (g.H.Hall.got c.loop.hall) (g.H.Hall.got c.round.new.hall) (g.H.Hall.given c.args.hall.now) (g.H.Hall.given c.loop.hall) (g.H.Hall.given c.round.new.hall) (length c.args.company.now) (length c.loop.company) (length c.round.new.company) false c.loop.invariant.hosts c.in-Ok-false.ensures.hosts);
+  listens = subst (λ (h : _). g.H.Hall.listens h) (sym c.rest-in-Ok-false.ensures) c.in-Ok-false.ensures.listens;
+  honest = λ is. subst (λ (h : _). g.H.Hall.honest h) (sym c.rest-in-Ok-false.ensures) (c.in-Ok-false.ensures.honest (c.loop.invariant.honest is));
 }
 
 pub returns-in-Ok-true-clause-stops : goal.returns-in-Ok-true-clause-stops

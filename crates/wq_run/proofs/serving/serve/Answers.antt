@@ -46,33 +46,23 @@ wind_down-requires-clause-served g c κs within =
     let n = c.loop.invariant.served c.requires.served.first m in
     record { first = c.requires.served.first; manned = n }
 
-pub turn-requires-clause-valid : goal.turn-requires-clause-valid
-turn-requires-clause-valid g c κs within =
+pub turn-is_busy-requires-clause-valid : goal.turn-is_busy-requires-clause-valid
+turn-is_busy-requires-clause-valid g c κs within =
     let m = c.requires.served.manned in
     let n = c.loop.invariant.served c.requires.served.first m in
     subst IsValid (sym (n.under.goes.plan ∙ sym m.under.goes.plan)) c.requires.valid
 
-pub turn-requires-clause-of : goal.turn-requires-clause-of
-turn-requires-clause-of g c κs within =
+pub turn-is_busy-requires-clause-of : goal.turn-is_busy-requires-clause-of
+turn-is_busy-requires-clause-of g c κs within =
     let m = c.requires.served.manned in
     let n = c.loop.invariant.served c.requires.served.first m in
     of_goes g.T.Terms.trust g.F.Commands.gives g.F.Commands.may_fail g.T.Terms.sources g.S.Site.tells g.T.Terms.kept (IsSurePool g.B.Terms.fits) g.S.Site.files g.S.Site.may_leave g.S.Site.moment g.S.Site.images_since g.T.Trust.holds g.T.Trust.plan g.T.Trust.options g.T.Trust.run g.T.Trust.due m.away.links n.away.links c.requires.served.first c.args.desk.now c.loop.desk m.under.goes n.under.goes c.requires.of
 
-pub turn-requires-clause-served : goal.turn-requires-clause-served
-turn-requires-clause-served g c κs within =
+pub turn-is_busy-requires-clause-served : goal.turn-is_busy-requires-clause-served
+turn-is_busy-requires-clause-served g c κs within =
     let m = c.requires.served.manned in
     let n = c.loop.invariant.served c.requires.served.first m in
     record { first = c.requires.served.first; manned = n }
-
-pub loop-preserved-then-turn : goal.loop-preserved-then-turn
-loop-preserved-then-turn g c = record {
-  served = λ first m. c.turn.ensures.served first (c.loop.invariant.served first m);
-  line = c.turn.ensures.line ∙ c.loop.invariant.line;
-  listens = c.turn.ensures.listens;
-  met = met_then c.loop.invariant.met c.turn.ensures.met;
-  due = λ tells. due_then _ _ (c.loop.invariant.due tells) (c.turn.ensures.due tells);
-  calm = λ asked tells is. calm_then (c.loop.invariant.calm asked tells is) (c.turn.ensures.calm asked tells is);
-}
 
 pub loop-preserved-then-not-is_going : goal.loop-preserved-then-not-is_going
 loop-preserved-then-not-is_going g c = record {
@@ -117,28 +107,28 @@ returns-then-wind_down g c = record {
 
 pub loop-preserved : goal.loop-preserved
 loop-preserved g c = record {
-  served = λ first m. c.turn.ensures.served first (c.loop.invariant.served first m);
-  line = c.turn.ensures.line ∙ c.loop.invariant.line;
-  listens = c.turn.ensures.listens;
-  met = met_then c.loop.invariant.met c.turn.ensures.met;
-  due = λ tells. due_then _ _ (c.loop.invariant.due tells) (c.turn.ensures.due tells);
-  calm = λ asked tells is. calm_then (c.loop.invariant.calm asked tells is) (c.turn.ensures.calm asked tells is);
+  served = λ first m. c.turn-is_busy.ensures.served first (c.loop.invariant.served first m);
+  line = c.turn-is_busy.ensures.line ∙ c.loop.invariant.line;
+  listens = c.turn-is_busy.ensures.listens;
+  met = met_then c.loop.invariant.met c.turn-is_busy.ensures.met;
+  due = λ tells. due_then _ _ (c.loop.invariant.due tells) (c.turn-is_busy.ensures.due tells);
+  calm = λ asked tells is. calm_then (c.loop.invariant.calm asked tells is) (c.turn-is_busy.ensures.calm asked tells is);
 }
 
 pub returns-then-is_idle-clause-served : goal.returns-then-is_idle-clause-served
-returns-then-is_idle-clause-served g c first m = c.turn.ensures.served first (c.loop.invariant.served first m)
+returns-then-is_idle-clause-served g c first m = c.turn-is_busy.ensures.served first (c.loop.invariant.served first m)
 
 pub returns-then-is_idle-clause-met : goal.returns-then-is_idle-clause-met
-returns-then-is_idle-clause-met g c = met_then c.loop.invariant.met c.turn.ensures.met
+returns-then-is_idle-clause-met g c = met_then c.loop.invariant.met c.turn-is_busy.ensures.met
 
 pub returns-then-is_idle-clause-due : goal.returns-then-is_idle-clause-due
-returns-then-is_idle-clause-due g c tells = due_then _ _ (c.loop.invariant.due tells) (c.turn.ensures.due tells)
+returns-then-is_idle-clause-due g c tells = due_then _ _ (c.loop.invariant.due tells) (c.turn-is_busy.ensures.due tells)
 
 pub returns-in_default-clause-due : goal.returns-in_default-clause-due
 returns-in_default-clause-due g c tells = due_then _ _ (c.loop.invariant.due tells) (due_halted _ _ halts.Memory (ap (λ (h : HeldState). h.halt) c.stop.ensures))
 
 pub returns-then-is_idle-clause-calm : goal.returns-then-is_idle-clause-calm
-returns-then-is_idle-clause-calm g c asked tells is = calm_then (c.loop.invariant.calm asked tells is) (c.turn.ensures.calm asked tells is)
+returns-then-is_idle-clause-calm g c asked tells is = calm_then (c.loop.invariant.calm asked tells is) (c.turn-is_busy.ensures.calm asked tells is)
 
 pub returns-in_default-clause-calm : goal.returns-in_default-clause-calm
 returns-in_default-clause-calm g c asked tells is = calm_then (c.loop.invariant.calm asked tells is) (calm_halted halts.Memory (ap (λ (h : HeldState). h.halt) c.stop.ensures))

@@ -1,21 +1,24 @@
-use Rattle.std.proofs.Common.{rules, ◌≡◌, get_or, sym, subst}
-use Rattle.foreman_core.specs.declared.acts.Down.{Down}
-use Rattle.foreman_core.specs.Members.{Stands}
-use Rattle.peer_run.specs.Says.{CanBeTold}
-use Rattle.foreman_run.proofs.Companies.{keeps_next, stands_at}
+use Rattle.std.proofs.Common.{rules, ◌≡◌, inl, inr, refl, sym, subst}
+use Rattle.foreman_core.specs.Members.{Every, Stands}
+use Rattle.foreman_run.proofs.Companies.{keeps_first, keeps_next}
 use Rattle.foreman_run.proofs.company.Company.send_all.Goals as goal
+
+pub loop-down-init : goal.loop-down-init
+loop-down-init g c =
+    let are : c.from-left.result.items ≡ c.args.downs = search rules in
+    record {
+      keeps = keeps_first g.L.Link.tells g.L.Link.history g.L.Link.honest c.args.downs c.args.self.now;
+      left = subst (Every (λ d. Stands d c.args.downs)) (sym are) (λ d there. there);
+    }
 
 pub send-requires-clause-told : goal.send-requires-clause-told
 send-requires-clause-told g c κs within =
-    let d = c.down-item.result in
-    let downs = c.args.downs.now in
-    let same : d ≡ get_or downs c.loop-down.down-index d = search rules in
-    subst (λ (x : Down). CanBeTold x.message) (sym same) (c.requires.told (get_or downs c.loop-down.down-index d) (stands_at downs c.loop-down.down-index d c.loop-down-test.true))
+    c.requires.told c.in-Some.down (c.loop-down.invariant.left c.in-Some.down (subst (Stands c.in-Some.down) (sym c.in-Some.ensures.items) (inl refl)))
 
 pub loop-down-preserved : goal.loop-down-preserved
 loop-down-preserved g c =
-    let d = c.down-item.result in
-    let downs = c.args.downs.now in
-    let same : d ≡ get_or downs c.loop-down.down-index d = search rules in
-    keeps_next g.L.Link.tells g.L.Link.history g.L.Link.honest downs d c.args.self.now c.loop-down.self c.send.new.self
-    (subst (λ (x : Down). Stands x downs) (sym same) (stands_at downs c.loop-down.down-index d c.loop-down-test.true)) c.loop-down.invariant c.send.ensures
+    let there = c.loop-down.invariant.left c.in-Some.down (subst (Stands c.in-Some.down) (sym c.in-Some.ensures.items) (inl refl)) in
+    record {
+      keeps = keeps_next g.L.Link.tells g.L.Link.history g.L.Link.honest c.args.downs c.in-Some.down c.args.self.now c.loop-down.self c.send.new.self there c.loop-down.invariant.keeps c.send.ensures;
+      left = λ d inside. c.loop-down.invariant.left d (subst (Stands d) (sym c.in-Some.ensures.items) (inr inside));
+    }

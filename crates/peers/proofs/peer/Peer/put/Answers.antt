@@ -15,7 +15,7 @@ returns-clause-serves g c = λ said heard waiting tells serves.
     let session = c.self.inside.session in
     let s = same_peer gives may_fail history c.args.self.now (record { way = way; feed = feed; session = session }) said heard waiting c.self.view_is serves in
     let key = c.args.key in
-    let content = c.args.content.now in
+    let content = c.args.content in
     says_plain gives may_fail c.say_put.result (history way) (history c.say_put.new.way) feed session session said heard waiting (messages.Put key content) (put_plain key content)
     (c.say_put.ensures.sends tells) refl refl s
 

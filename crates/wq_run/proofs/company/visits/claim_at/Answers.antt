@@ -89,3 +89,9 @@ returns-in_default-clause-calm g c asked tells = (let are : c.company.inside.sea
 
 pub returns-then-not-is_going-clause-calm : goal.returns-then-not-is_going-clause-calm
 returns-then-not-is_going-clause-calm g c asked tells = calm_no_seat g.F.Commands.gives g.F.Commands.may_fail g.H.Way.Link.history g.H.Way.Link.idle_count (IsSureOf g.H.Way.Link.sure g.H.Way.Link.offers asked) c.args.company.now.seats c.args.company.now.seats refl
+
+pub returns-then-is_barred_at-clause-due : goal.returns-then-is_barred_at-clause-due
+returns-then-is_barred_at-clause-due g c limit tells = at_none _ _ c.args.at _ refl
+
+pub returns-then-is_barred_at-clause-calm : goal.returns-then-is_barred_at-clause-calm
+returns-then-is_barred_at-clause-calm g c asked tells = calm_no_seat g.F.Commands.gives g.F.Commands.may_fail g.H.Way.Link.history g.H.Way.Link.idle_count (IsSureOf g.H.Way.Link.sure g.H.Way.Link.offers asked) c.args.company.now.seats c.args.company.now.seats refl

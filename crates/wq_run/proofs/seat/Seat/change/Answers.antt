@@ -1,10 +1,19 @@
-use Rattle.std.proofs.Common.{None, inr, refl, rules, ◌≢◌}
+use Rattle.std.proofs.Common.{Err, None, Result, inr, refl, rules, ◌≢◌}
+use Rattle.run_history.specs.declared.links.JoinRefused.{JoinRefused}
 use Rattle.run_history.specs.declared.links.JoinRefused.TheVariants as refused
 use Rattle.local_run.specs.Underway.{IsSurePool}
 use Rattle.wq_run.proofs.Steps.{changes_keep}
 use Rattle.wq_run.proofs.Fares.{changes_full, fares_changed}
-use Rattle.wq_run.proofs.Calm.{changes_well, stays_ok, stays_left}
+use Rattle.wq_run.proofs.Calm.{changes_well, stays_ok, stays_left, well_same}
 use Rattle.wq_run.proofs.seat.Seat.change.Goals as goal
+
+pub returns-then-not-has_news : goal.returns-then-not-has_news
+returns-then-not-has_news g c = record {
+  keeps = λ held. record { keeps = λ front back first waiting heard at. at; stays = record { live = λ k is. is; link = refl } };
+  did = refl;
+  fares = λ limit halt before tells offers. (let none : Result (Unit {0}) JoinRefused = Err refused.Memory in fares_changed c.args.self.now c.args.self.now c.args.desk.now c.args.desk.now c.args.self.now.link c.args.total c.args.largest c.args.cache none _ refl refl offers refl (c.requires.came tells) tt);
+  calm = λ asked was. (well_same _ _ refl, stays_ok (was, refl));
+}
 
 pub returns-in-Ok : goal.returns-in-Ok
 returns-in-Ok g c = record {

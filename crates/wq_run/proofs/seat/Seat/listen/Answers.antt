@@ -1,52 +1,34 @@
-use Rattle.std.proofs.Common.{◌≡◌, ap, subst, sym, None, ◌∙◌}
-use Rattle.peers.specs.States.{PeerState}
-use Rattle.wq_run.specs.Trusted.{IsFair, IsTrusted}
-use Rattle.wq_run.specs.Calm.{IsSureOf, IsSureSeat}
-use Rattle.wq_run.specs.Seats.{SeatState}
-use Rattle.wq_run.proofs.Trusts.{come_trusted}
-use Rattle.wq_run.proofs.Calm.{sure_of_on, stays_ok, sure_come, wants_memory}
-use Rattle.peers.specs.Serves.{Serves}
+use Rattle.std.proofs.Common.{ap, ◌∙◌}
+use Rattle.wq_frames.specs.Streams.{Stream}
 use Rattle.wq_run.specs.Dues.{StaysHeard}
-use Rattle.wq_run.specs.Seats.{SeatState}
-use Rattle.wq_run.proofs.Heards.{heard_served}
+use Rattle.wq_run.proofs.Calm.{stays_err}
+use Rattle.wq_run.proofs.Fares.{received_then}
+use Rattle.wq_run.proofs.Heards.{heard_fed}
+use Rattle.wq_run.proofs.Tending.{fails_leaves, if_leaves, ok_by}
 use Rattle.wq_run.proofs.seat.Seat.listen.Goals as goal
 
-pub invariant_of-self-in-Ok-Piece : goal.invariant_of-self-in-Ok-Piece
-invariant_of-self-in-Ok-Piece g c ready held =
-    come_trusted g.T.Trust.holds g.F.Commands.gives g.F.Commands.may_fail g.L.Link.history (IsFair g.T.Trust.holds g.L.Link.tells g.L.Link.honest) g.T.Trust.plan g.T.Trust.run g.T.Trust.due (record { peer = c.ready.new.self; link = c.self.inside.link; attempts = c.self.inside.attempts.items; newest = c.self.inside.newest }) c.listen.new.self (λ said heard waiting honest serves. c.in-Ok-Piece.ensures.serves said heard waiting honest.0 serves) (λ fair. (fair.0, λ held. c.listen.ensures.on.honestly (fair.1 held)))
-    (subst (λ (p : PeerState g.row.L.Denot). IsTrusted g.T.Trust.holds g.F.Commands.gives g.F.Commands.may_fail g.L.Link.history (IsFair g.T.Trust.holds g.L.Link.tells g.L.Link.honest) g.T.Trust.plan g.T.Trust.run g.T.Trust.due (record { peer = p; link = c.self.inside.link; attempts = c.self.inside.attempts.items; newest = c.self.inside.newest })) (sym c.ready.ensures) (c.self.invariant ready held))
+pub returns-in-Ok-clause-going : goal.returns-in-Ok-clause-going
+returns-in-Ok-clause-going g c none = c.read-in-Ok.ensures.going (ap (λ (f : Stream). f.stop) c.tend.ensures.feed ∙ none)
 
-pub invariant_of-self-in-Ok-Idle : goal.invariant_of-self-in-Ok-Idle
-invariant_of-self-in-Ok-Idle g c ready held =
-    come_trusted g.T.Trust.holds g.F.Commands.gives g.F.Commands.may_fail g.L.Link.history (IsFair g.T.Trust.holds g.L.Link.tells g.L.Link.honest) g.T.Trust.plan g.T.Trust.run g.T.Trust.due (record { peer = c.ready.new.self; link = c.self.inside.link; attempts = c.self.inside.attempts.items; newest = c.self.inside.newest }) c.listen.new.self (λ said heard waiting honest serves. c.in-Ok-Idle.ensures.serves said heard waiting honest.0 serves) (λ fair. (fair.0, λ held. c.listen.ensures.on.honestly (fair.1 held)))
-    (subst (λ (p : PeerState g.row.L.Denot). IsTrusted g.T.Trust.holds g.F.Commands.gives g.F.Commands.may_fail g.L.Link.history (IsFair g.T.Trust.holds g.L.Link.tells g.L.Link.honest) g.T.Trust.plan g.T.Trust.run g.T.Trust.due (record { peer = p; link = c.self.inside.link; attempts = c.self.inside.attempts.items; newest = c.self.inside.newest })) (sym c.ready.ensures) (c.self.invariant ready held))
+pub returns-in-Ok-clause-comes : goal.returns-in-Ok-clause-comes
+returns-in-Ok-clause-comes g c tells = received_then (g.L.Link.history c.args.self.now.peer.way) (g.L.Link.history c.tend.new.self.peer.way) (g.L.Link.history c.read-in-Ok.new.self.peer.way) (c.tend.ensures.comes tells) (c.read-in-Ok.ensures.comes tells)
 
-pub returns-in-Ok-Piece-clause-heard : goal.returns-in-Ok-Piece-clause-heard
-returns-in-Ok-Piece-clause-heard g c tells trusted =
-    let same : c.ready.new.self ≡ c.args.self.now.peer = c.ready.ensures ∙ ap (λ (s : SeatState g.row.L.Denot). s.peer) c.self.view_is in
-    let was = trusted.spoken.serves in
-    let serves = subst (λ (p : PeerState g.row.L.Denot). Serves g.F.Commands.gives g.F.Commands.may_fail (g.L.Link.history p.way) p.feed p.session trusted.said trusted.heard None) (sym same) was in
-    subst (λ (p : PeerState g.row.L.Denot). StaysHeard g.L.Link.history p c.listen.new.self) same
-    (heard_served g.L.Link.history g.F.Commands.gives g.F.Commands.may_fail c.ready.new.self c.listen.new.self trusted.said trusted.heard None (c.listen.ensures.kept tells) serves (c.in-Ok-Piece.ensures.serves trusted.said trusted.heard None tells serves))
+pub returns-in-Ok-clause-heard : goal.returns-in-Ok-clause-heard
+returns-in-Ok-clause-heard g c tells trusted =
+    ok_by c.read-in-Ok.result (StaysHeard g.L.Link.history c.tend.new.self.peer c.read-in-Ok.new.self.peer) (StaysHeard g.L.Link.history c.args.self.now.peer c.read-in-Ok.new.self.peer) (λ stays n was. stays n (heard_fed g.L.Link.history c.args.self.now.peer c.tend.new.self.peer (c.tend.ensures.comes tells) c.tend.ensures.feed n was))
+    (c.read-in-Ok.ensures.heard tells (c.in-Ok.ensures.trusted tells trusted))
 
-pub returns-in-Ok-Idle-clause-heard : goal.returns-in-Ok-Idle-clause-heard
-returns-in-Ok-Idle-clause-heard g c tells trusted =
-    let same : c.ready.new.self ≡ c.args.self.now.peer = c.ready.ensures ∙ ap (λ (s : SeatState g.row.L.Denot). s.peer) c.self.view_is in
-    let was = trusted.spoken.serves in
-    let serves = subst (λ (p : PeerState g.row.L.Denot). Serves g.F.Commands.gives g.F.Commands.may_fail (g.L.Link.history p.way) p.feed p.session trusted.said trusted.heard None) (sym same) was in
-    subst (λ (p : PeerState g.row.L.Denot). StaysHeard g.L.Link.history p c.listen.new.self) same
-    (heard_served g.L.Link.history g.F.Commands.gives g.F.Commands.may_fail c.ready.new.self c.listen.new.self trusted.said trusted.heard None (c.listen.ensures.kept tells) serves (c.in-Ok-Idle.ensures.serves trusted.said trusted.heard None tells serves))
+pub returns-in-Ok-clause-leaves : goal.returns-in-Ok-clause-leaves
+returns-in-Ok-clause-leaves g c = if_leaves (g.L.Link.is_closed c.read-in-Ok.new.self.peer.way) _ _ _ c.tend.result c.read-in-Ok.result c.tend.ensures.cause c.read-in-Ok.ensures.leaves
 
-pub returns-in-Ok-Piece-clause-calm : goal.returns-in-Ok-Piece-clause-calm
-returns-in-Ok-Piece-clause-calm g c asked tells was =
-    stays_ok (sure_come g.F.Commands.gives g.F.Commands.may_fail g.L.Link.history (IsSureOf g.L.Link.sure g.L.Link.offers asked) (record { peer = c.ready.new.self; link = c.self.inside.link; attempts = c.self.inside.attempts.items; newest = c.self.inside.newest }) c.listen.new.self c.listen.ensures.session (λ said heard waiting serves. c.in-Ok-Piece.ensures.serves said heard waiting tells serves) (sure_of_on c.listen.ensures.on)
-    (subst (λ (p : PeerState g.row.L.Denot). IsSureSeat g.F.Commands.gives g.F.Commands.may_fail g.L.Link.history (IsSureOf g.L.Link.sure g.L.Link.offers asked) (record { peer = p; link = c.self.inside.link; attempts = c.self.inside.attempts.items; newest = c.self.inside.newest })) (sym c.ready.ensures) (subst (IsSureSeat g.F.Commands.gives g.F.Commands.may_fail g.L.Link.history (IsSureOf g.L.Link.sure g.L.Link.offers asked)) (sym c.self.view_is) was)))
+pub returns-in-Ok-clause-calm : goal.returns-in-Ok-clause-calm
+returns-in-Ok-clause-calm g c asked tells was = c.read-in-Ok.ensures.calm asked tells (c.in-Ok.ensures.calm asked tells was).stays
 
-pub returns-in-Ok-Idle-clause-calm : goal.returns-in-Ok-Idle-clause-calm
-returns-in-Ok-Idle-clause-calm g c asked tells was =
-    stays_ok (sure_come g.F.Commands.gives g.F.Commands.may_fail g.L.Link.history (IsSureOf g.L.Link.sure g.L.Link.offers asked) (record { peer = c.ready.new.self; link = c.self.inside.link; attempts = c.self.inside.attempts.items; newest = c.self.inside.newest }) c.listen.new.self c.listen.ensures.session (λ said heard waiting serves. c.in-Ok-Idle.ensures.serves said heard waiting tells serves) (sure_of_on c.listen.ensures.on)
-    (subst (λ (p : PeerState g.row.L.Denot). IsSureSeat g.F.Commands.gives g.F.Commands.may_fail g.L.Link.history (IsSureOf g.L.Link.sure g.L.Link.offers asked) (record { peer = p; link = c.self.inside.link; attempts = c.self.inside.attempts.items; newest = c.self.inside.newest })) (sym c.ready.ensures) (subst (IsSureSeat g.F.Commands.gives g.F.Commands.may_fail g.L.Link.history (IsSureOf g.L.Link.sure g.L.Link.offers asked)) (sym c.self.view_is) was)))
+pub returns-in-Ok-clause-owes : goal.returns-in-Ok-clause-owes
+returns-in-Ok-clause-owes g c tells on = c.read-in-Ok.ensures.owes tells (c.tend.ensures.surely on)
+
+pub returns-in-Err-clause-leaves : goal.returns-in-Err-clause-leaves
+returns-in-Err-clause-leaves g c = fails_leaves (g.L.Link.is_closed c.tend.new.self.peer.way) _ _ c.in-Err.leave c.in-Err.ensures.cause.fails
 
 pub returns-in-Err-clause-calm : goal.returns-in-Err-clause-calm
-returns-in-Err-clause-calm g c asked tells was =
-    wants_memory c.in-Err.leave (c.in-Err.ensures.sure (subst (λ (p : PeerState g.row.L.Denot). g.L.Link.sure p.way) (sym c.ready.ensures) (subst (IsSureSeat g.F.Commands.gives g.F.Commands.may_fail g.L.Link.history (IsSureOf g.L.Link.sure g.L.Link.offers asked)) (sym c.self.view_is) was).tended.surely.surely))
+returns-in-Err-clause-calm g c asked tells was = stays_err c.in-Err.leave (c.in-Err.ensures.calm asked tells was)

@@ -33,8 +33,7 @@ returns-in-Err-clause-keeps g c =
 
 pub send-requires-clause-due : goal.send-requires-clause-due
 send-requires-clause-due g c κs within held =
-    let same : c.as_slice-in-Ok.result.now ≡ c.in-Ok.content = search rules in
-    read_due c.args.desk.now.plan c.args.desk.now.options (records_of c.args.desk.now.moves) c.args.file.0 c.in-Ok.content c.requires.of c.in-Ok.ensures.due held ∙ ap (λ (x : List ℕ). Some x) (sym same)
+    read_due c.args.desk.now.plan c.args.desk.now.options (records_of c.args.desk.now.moves) c.args.file.0 c.in-Ok.content c.requires.of c.in-Ok.ensures.due held
 
 pub returns-then-not-is_going-clause-fares : goal.returns-then-not-is_going-clause-fares
 returns-then-not-is_going-clause-fares g c limit tells = fares_same

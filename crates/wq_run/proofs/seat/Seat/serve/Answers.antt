@@ -59,6 +59,13 @@ returns-in-Ok-false g c = record {
   calm = λ asked tells was none. (let mid = c.loop.invariant.calm asked tells was ((c.hear.ensures.fares c.args.limit tells).going none) in let now = c.in-Ok-false.ensures.calm asked tells mid.1 none in (well_then _ _ _ mid.0 now.0, stays_ok now.1.stays.0));
 }
 
+pub returns-then-len-attempts : goal.returns-then-len-attempts
+returns-then-len-attempts g c = record {
+  keeps = keeps_then g.T.Terms.trust g.F.Commands.gives g.F.Commands.may_fail g.T.Terms.sources g.S.Site.tells g.T.Terms.kept (IsSurePool g.B.Terms.fits) g.S.Site.files g.S.Site.may_leave g.S.Site.moment g.S.Site.images_since c.args.desk.now c.loop.desk c.hear.new.desk c.args.held.now c.loop.held c.hear.new.held c.args.self.now c.loop.self c.hear.new.self c.loop.invariant.keeps c.in-Ok-true.ensures.keeps;
+  fares = λ tells. fares_ok (fares_then (c.loop.invariant.fares tells) (c.in-Ok-true.ensures.fares c.args.limit tells));
+  calm = λ asked tells was none. (let mid = c.loop.invariant.calm asked tells was ((c.hear.ensures.fares c.args.limit tells).going none) in let now = c.in-Ok-true.ensures.calm asked tells mid.1 none in (well_then _ _ _ mid.0 now.0, stays_ok now.1.stays.0));
+}
+
 pub returns-then-is_silent : goal.returns-then-is_silent
 returns-then-is_silent g c = record {
   keeps = may_leave_it g.T.Terms.trust g.F.Commands.gives g.F.Commands.may_fail g.T.Terms.sources g.S.Site.tells g.T.Terms.kept (IsSurePool g.B.Terms.fits) g.S.Site.files g.S.Site.may_leave g.S.Site.moment g.S.Site.images_since c.args.desk.now c.hear.new.desk c.args.held.now c.hear.new.held c.args.self.now c.hear.new.self

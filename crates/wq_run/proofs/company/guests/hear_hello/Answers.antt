@@ -3,7 +3,7 @@ use Rattle.std.specs.Prelude.{IfErr, IfOk, IfSome, OnOk}
 use Rattle.flow_types.specs.declared.messages.Message.TheVariants as messages
 use Rattle.links.specs.Passings.{received_in}
 use Rattle.message_forms.specs.Streams.{Carries}
-use Rattle.wq_run.specs.declared.company.guests.Offer.{Offer}
+use Rattle.wq_run.specs.declared.seat.pulse.Offer.{Offer}
 use Rattle.wq_run.specs.Dues.{HasHeard, IsIllLink}
 use Rattle.wq_run.specs.Earned.{LeavesGuest}
 use Rattle.wq_run.specs.Seats.{IsGuest}
@@ -16,8 +16,8 @@ use Rattle.wq_run.proofs.Calm.{calm_leave, guest_heard, stays_err, stays_ok}
 use Rattle.wq_run.proofs.Heards.{greeted_one}
 use Rattle.wq_run.proofs.Leaving.{came_hello, guest_answered, guest_closed, guest_joins, guest_misspeaks, guest_silent, still_part, told_other}
 use Rattle.wq_run.proofs.Trusts.{guest_of, listened_guest, told_guest, waits_guest}
-use Rattle.wq_run.proofs.company.guests.greet.Goals as goal
-use Rattle.wq_run.proofs.company.guests.greet.Goals.{in-Nothing+else-idles-ge-MOST_IDLES, in-Joined, in_default}
+use Rattle.wq_run.proofs.company.guests.hear_hello.Goals as goal
+use Rattle.wq_run.proofs.company.guests.hear_hello.Goals.{in-Nothing+else-idles-ge-MOST_IDLES, in-Joined, in_default}
 
 pub returns-in-Err-clause-leaves : goal.returns-in-Err-clause-leaves
 returns-in-Err-clause-leaves g c limit tells = guest_closed g.F.Commands.gives g.F.Commands.may_fail g.L.Link.history g.L.Link.count g.L.Link.idle_count g.L.Link.is_closed limit (g.L.Link.count c.args.peer.now.way) c.listen.new.peer.way (let r : Result (Unit {0}) Leave = Err c.in-Err.leave in r) c.in-Err.ensures.leaves

@@ -1,0 +1,11 @@
+use Rattle.std.proofs.Common.{rules, ◌≡◌, ◌+◌, length, arith}
+use Rattle.foreman_run.proofs.Hosted.{gave, on_by}
+use Rattle.foreman_run.proofs.hosting.wait.Goals as goal
+
+pub returns-in-Ok-Link-clause-hosts : goal.returns-in-Ok-Link-clause-hosts
+returns-in-Ok-Link-clause-hosts g c =
+    let one : g.H.Hall.given c.wait.new.self ≡ g.H.Hall.given c.args.hall.now + 1 = search rules in
+    on_by (g.H.Hall.count c.args.hall.now) (g.H.Hall.count c.wait.new.self) (g.H.Hall.count c.let_in.new.hall) (g.H.Hall.got c.args.hall.now) (g.H.Hall.got c.wait.new.self) (g.H.Hall.got c.let_in.new.hall) (g.H.Hall.given c.args.hall.now) (g.H.Hall.given c.wait.new.self) (g.H.Hall.given c.let_in.new.hall)
+    (length c.args.company.now) (1 + length c.args.company.now) (length c.let_in.new.company) c.let_in.result
+    (gave (g.H.Hall.count c.args.hall.now) (g.H.Hall.count c.wait.new.self) (g.H.Hall.got c.args.hall.now) (g.H.Hall.got c.wait.new.self) (g.H.Hall.given c.args.hall.now) (g.H.Hall.given c.wait.new.self) (length c.args.company.now) (1 + length c.args.company.now) c.wait.ensures.cause.later c.wait.ensures.got (omega (arith, one)))
+    c.let_in.ensures.hosts
