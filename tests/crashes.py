@@ -164,6 +164,7 @@ def serial(rules, files):
 
 
 CALLS = "open,openat,creat,close,dup,dup2,dup3,write,pwrite64,writev,lseek,truncate,ftruncate,fsync,fdatasync,sync_file_range,rename,renameat,renameat2,link,linkat,symlink,symlinkat,unlink,unlinkat,mkdir,mkdirat,rmdir,copy_file_range,sendfile,mmap,chdir"
+WRITES = ("write", "pwrite64")
 CALL = re.compile(r"^(\w+)\((.*)\)\s+= (-?\d+|\?|0x[0-9a-f]+)")
 
 
@@ -358,14 +359,15 @@ def images_of(lines, disk):
 def half_write(disk, line):
     """All that was written, and the first half of the write that this call is."""
     found = CALL.match(line)
-    if not found or found[1] != "write" or found[3].startswith(("-", "?")) or int(found[3]) < 2:
+    if not found or found[1] not in WRITES or found[3].startswith(("-", "?")) or int(found[3]) < 2:
         return None
     words = found[2].split(", ")
     held = disk.open.get(int(words[0]))
     if held is None:
         return None
     old = disk.bytes[held[0]]
-    disk.write(held[0], held[1], literal(words[1])[:int(found[3]) // 2])
+    at = held[1] if found[1] == "write" else int(words[3])
+    disk.write(held[0], at, literal(words[1])[:int(found[3]) // 2])
     torn = disk.image(disk.names, disk.bytes)
     disk.bytes[held[0]] = old
     return torn
@@ -467,8 +469,8 @@ def syncs_behind(lines, disk):
     found = [["", 0, 0]]
     for line in lines:
         call = CALL.match(line)
-        held = disk.open.get(int(call[2].split(", ")[0])) if call and call[1] in ("write", "fsync", "fdatasync") else None
-        if held and call[1] == "write":
+        held = disk.open.get(int(call[2].split(", ")[0])) if call and call[1] in (*WRITES, "fsync", "fdatasync") else None
+        if held and call[1] in WRITES:
             name = next(name for name, number in disk.names.items() if number == held[0])
             if name != found[-1][0] or name == USUAL_LOG and int(call[3]) > 1:
                 found.append([name, 0, 0])

@@ -1,6 +1,6 @@
 """A model of the log: its bytes, the records that they spell, which of them may stand where, and the printed log.
 
-It is written from the documents alone (docs/FORMATS.md), and shares nothing with the program.
+It is written from the documents alone (docs/WIRE.md), and shares nothing with the program.
 """
 import hashlib
 import struct

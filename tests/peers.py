@@ -1,4 +1,4 @@
-"""Cases of makeflow -T wq with small peers here, that speak with it by the frames and messages of docs/FORMATS.md, or that speak
+"""Cases of makeflow -T wq with small peers here, that speak with it by the frames and messages of docs/WIRE.md, or that speak
 no such thing."""
 import socket
 import struct

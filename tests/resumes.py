@@ -1,4 +1,5 @@
 """Cases of the log: runs that go on, cleaning, the printed log, what is refused, and programs that meet."""
+import fcntl
 import os
 import resource
 import shutil
@@ -343,34 +344,39 @@ def programs_that_meet():
                 first.communicate()
         it.call("a run behind it", 0, complete(2), adds=AGAIN)
     with Course("two programs that begin together", {"in": "abc"}, [("sleep 1; cat in > out", ["in"], ["out"])], {"out": b"abc"}) as it:
-        # those that meet before any of them has written may all be refused
         runs = [it.place.start() for _ in range(4)]
         ends = [(run.communicate(timeout=SECONDS)[0], run.returncode) for run in runs]
         one, refused = (COMPLETE.encode(), 0), (FOLDER_FAULT.encode(), 5)
-        it.note("four of them", [] if ends.count(one) <= 1 and ends.count(one) + ends.count(refused) == 4 else [f"they ended as {ends}"])
-        it.call("a run behind them", 0, COMPLETE, adds=AGAIN if one in ends else None)
+        it.note("four of them", [] if ends.count(one) == 1 and ends.count(refused) == 3 else [f"they ended as {ends}"])
+        it.call("a run behind them", 0, COMPLETE, adds=AGAIN)
 
 
 def dead_programs():
-    """What a dead program of this host and user left goes, and nothing else."""
+    """What a program of this host and user left goes, which holds it no more, and nothing else. What process has its number
+    by now tells nothing: it may be another one's, and in a container each program has a number of its own."""
     with open("/proc/sys/kernel/hostname") as it:
         host = it.read().strip()
-    dead, alive = 4_294_967_295, os.getpid()
+    dead, held, alive = 4_294_967_295, 4_294_967_294, os.getpid()
 
     def part(name, where, process):
         return f".{name}.{where}.{process}.makeflow-part"
 
-    gone = [part("out", host, dead), part("x.y", host, dead), "sub/" + part("out", host, dead)]
-    stay = [part("out", f"not-{host}", dead), part("out", host, alive), f".out.{host}.x.makeflow-part", f"out.{host}.{dead}.makeflow-part", f".out.{host}.{dead}.makeflow-parts"]
+    gone = [part("out", host, dead), part("x.y", host, dead), part("out", host, alive), "sub/" + part("out", host, dead)]
+    stay = [part("out", f"not-{host}", dead), part("out", host, held), f".out.{host}.x.makeflow-part", f"out.{host}.{dead}.makeflow-part", f".out.{host}.{dead}.makeflow-parts"]
     rules = [("cat in > out; cat in > sub/out", ["in"], ["out", "sub/out"])]
     with Course("files and folders of dead programs", {"in": "abc", **{it: "left" for it in gone + stay}}, rules, {"out": b"abc", "sub/out": b"abc"}) as it:
-        folders = {f"makeflow-{host}-{dead}-0": False, f"makeflow-{host}-{dead}-17": False, f"makeflow-not-{host}-{dead}-0": True, f"makeflow-{host}-{alive}-0": True,
-                   f"makeflow-{host}-{dead}-0x": True, f"makeflow-{host}-{dead}": True}
+        folders = {f"makeflow-{host}-{dead}-0": False, f"makeflow-{host}-{dead}-17": False, f"makeflow-{host}-{alive}-0": False, f"makeflow-not-{host}-{dead}-0": True,
+                   f"makeflow-{host}-{held}-0": True, f"makeflow-{host}-{dead}-0x": True, f"makeflow-{host}-{dead}": True}
         for name in folders:
             os.makedirs(f"{it.place.tmp}/{name}/closed")
             os.chmod(f"{it.place.tmp}/{name}/closed", 0)
         it.place.give()
+        holds = [os.open(path, os.O_RDONLY) for path in (it.path(part("out", host, held)), f"{it.place.tmp}/makeflow-{host}-{held}-0")]
+        for hold in holds:
+            fcntl.flock(hold, fcntl.LOCK_EX)
         it.call("the run", 0, COMPLETE, adds=ONE_RUN)
+        for hold in holds:
+            os.close(hold)
         for name in gone:
             it.note("the run", [f"{name} is still there"] if os.path.exists(it.path(name)) else [])
             it.place.before.pop(name)

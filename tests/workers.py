@@ -1,5 +1,5 @@
 """Cases of a worker by itself: a small master here speaks with the built work_queue_worker over a socket of this machine, by
-the frames and messages of docs/FORMATS.md."""
+the frames and messages of docs/WIRE.md."""
 import os
 import signal
 import socket
@@ -239,7 +239,7 @@ def worker_hellos():
     """What it says first, by its words."""
     spelled = bytes.fromhex("00000023 01 0001 00000004 00001000 00004000 00000004 00001000 00004000 0000000100000000".replace(" ", ""))
     right = (hello(WHOLE, 4096 * MEBI), LEAVE, cancel(5)) == (spelled, bytes.fromhex("0000000109"), bytes.fromhex("00000009060000000000000005"))
-    say("frames as they stand in docs/FORMATS.md", [] if right else ["this master spells them in another way"])
+    say("frames as they stand in docs/WIRE.md", [] if right else ["this master spells them in another way"])
     rows = [((), WHOLE, 4096), (("--cores", "1", "--memory", "2", "--disk", "3", "--cache", "5"), (1, 2, 3), 5), (("--cores=0", "--cache=0"), (0, 4096, 16384), 0),
             (("--disk", "1000000000", "--cores", "1000000000", "--memory=1000000000", "--cache", "1000000"), (10**9, 10**9, 10**9), 10**6)]
     for words, amounts, cache in rows:
@@ -271,6 +271,14 @@ def worker_jobs():
         for at, (name, command, outputs, wanted) in enumerate(failures):
             it.asks(at, command, outputs=outputs)
             it.hears(name, ("done", at, wanted))
+        it.leaves()
+
+    with Talk("the end of a command by a signal is told a second later") as it:
+        it.asks(0, "kill -9 $$")
+        begun = time.monotonic()
+        it.hears("the command", ("done", 0, ("status", 137)))
+        passed = time.monotonic() - begun
+        it.found += [] if 0.9 < passed < 5 else [f"it came after {passed:.1f} s"]
         it.leaves()
 
     with Talk("what a worker's command finds", env={"A": "the worker's own"}) as it:

@@ -1,0 +1,181 @@
+"""Cases of a folder's edges: names that lead to one file, a log that goes, whose files are left behind."""
+import fcntl
+import os
+import shutil
+import subprocess
+
+import logs
+from places import COMPLETE, FOLDER_FAULT, NOBODY, SECONDS, USER, USUAL_LOG, Place, complete, content_of, outcome
+from resumes import AGAIN, ONE, ONE_RUN, TWO, Course
+
+
+def link_to(target):
+    return lambda path: os.symlink(target, path)
+
+
+def hard_link_to(target):
+    return lambda path: os.link(f"{os.path.dirname(path)}/{target}", path)
+
+
+def one_file():
+    """Two names of a flow that lead to one file: the second isn't written, and nothing else changes."""
+    two = [("cat in > a", ["in"], ["a"]), ("cat in in > b", ["in"], ["b"])]
+    for name, files in [("to a file", {"t": "old"}), ("to nothing", {})]:
+        with Course(f"two outputs are links {name}", {"in": "abc", **files, "a": link_to("t"), "b": link_to("t")}, two, {"t": b"abc"}) as it:
+            for step in ("the run", "the next one"):
+                it.note(step, outcome(it.place.start(("-j", "1", "flow")), 5, FOLDER_FAULT))
+    one = [("cat in > a; cat in in > b", ["in"], ["a", "b"])]
+    with Course("two outputs of one rule are links to one file", {"in": "abc", "t": "old", "a": link_to("t"), "b": link_to("t")}, one, {"t": b"abc"}) as it:
+        it.note("the run", outcome(it.place.start(), 5, FOLDER_FAULT))
+    folders = [("cat in > d/x", ["in"], ["d/x"]), ("cat in in > e/x", ["in"], ["e/x"])]
+    for name, files in [("a new file", {"d": os.mkdir}), ("an old file", {"d/x": "old"})]:
+        with Course(f"two folders are one by a link, with {name}", {"in": "abc", **files, "e": link_to("d")}, folders, {"d/x": b"abc"}) as it:
+            for step in ("the run", "the next one"):
+                it.note(step, outcome(it.place.start(("-j", "1", "flow")), 5, FOLDER_FAULT))
+    for other, files in [("a source", {"out": link_to("in")}), ("the flow file", {"out": link_to("flow")}), ("the log", {"out": link_to(USUAL_LOG)}),
+                         ("a source by a folder", {"d/in": "abc", "e": link_to("d")})]:
+        rule = [("cat d/in > e/in", ["d/in"], ["e/in"])] if "e" in files else [("cat in in > out", ["in"], ["out"])]
+        with Course(f"an output is a link to {other}", {"in": "abc", **files}, rule, {}) as it:
+            for step in ("the run", "the next one"):
+                it.note(step, outcome(it.place.start(), 5, FOLDER_FAULT))
+            bad = logs.illegal(it.records(), it.rules, it.bounds)
+            it.note("the log", [bad] if bad else [])
+    with Course("a source is a link to an output", {"in": link_to("out"), "out": "abc"}, [("cat in in > out", ["in"], ["out"])], {}) as it:
+        it.note("the run", outcome(it.place.start(), 5, FOLDER_FAULT))
+    with Course("two sources are one file", {"in": "abc", "also": link_to("in")}, [("cat in also > out", ["in", "also"], ["out"])], {"out": b"abcabc"}) as it:
+        it.call("the run", 0, COMPLETE, adds=ONE_RUN)
+    with Course("an output is a hard link to a source, and is parted from it", {"in": "abc", "out": hard_link_to("in")}, [("cat in in > out", ["in"], ["out"])], {"out": b"abcabc"}) as it:
+        it.call("the run", 0, COMPLETE, adds=ONE_RUN)
+        it.call("the resume", 0, COMPLETE, adds=AGAIN)
+
+
+def linked_logs():
+    with Course("the log is a link to a file elsewhere", {"in": "abc", "logs": os.mkdir, USUAL_LOG: link_to("logs/real")}, ONE, {"out": b"abc"}) as it:
+        it.call("the run", 0, COMPLETE, adds=ONE_RUN)
+        it.call("the resume", 0, COMPLETE, adds=AGAIN)
+        it.note("the log", [] if os.path.islink(it.path(USUAL_LOG)) and os.path.isfile(it.path("logs/real")) else ["it isn't where its link points to"])
+        it.made["logs/real"] = content_of(it.path("logs/real"))
+    with Course("the log is a link to the flow file", {"flow": "", USUAL_LOG: link_to("flow")}, [], {}) as it:
+        it.refused("the run", 5, FOLDER_FAULT)
+    with Course("the log is a hard link of the flow file", {"flow": "", USUAL_LOG: hard_link_to("flow")}, [], {}) as it:
+        it.refused("the run", 5, FOLDER_FAULT)
+
+
+def lost_logs():
+    """The log is removed, or another file takes its name, while a run goes on."""
+    slow = [TWO[0], ("while ! test -e ROOM/go; do sleep 0.05; done; cat a > b", ["a"], ["b"])]
+    for name, lose, left in [("removed", os.remove, None), ("replaced", lambda path: shutil.copyfile(path, f"{path}.new") and os.replace(f"{path}.new", path), 2)]:
+        with Course(f"the log is {name} while a run goes on", {"in": "abc"}, slow, {"a": b"abc", "b": b"abc"}) as it:
+            run = it.place.start()
+            try:
+                it.wait("the start of rule 1", lambda: "started 1 1" in logs.kinds(logs.read(it.data())))
+                lose(it.path(USUAL_LOG))
+                it.place.give()
+                before = it.data()
+                it.beside("go")
+                it.note("the run", outcome(run, 5, FOLDER_FAULT))
+                it.note("the log", [] if os.path.exists(it.path(USUAL_LOG)) == (left is not None) and it.data() == before else ["something was written to it"])
+            finally:
+                it.beside("go")
+                if run.poll() is None:
+                    run.kill()
+                    run.communicate()
+            it.call("the next run", 0, complete(2))
+
+
+def beginners():
+    """Of several that begin one flow in the same moment one goes on, and the others are refused."""
+    slow = [("sleep 1; cat in > out", ["in"], ["out"])]
+    for _ in range(5):
+        with Course("four programs that begin together", {"in": "abc"}, slow, {"out": b"abc"}) as it:
+            runs = [it.place.start() for _ in range(4)]
+            ends = [(run.communicate(timeout=SECONDS)[0], run.returncode) for run in runs]
+            one, refused = (COMPLETE.encode(), 0), (FOLDER_FAULT.encode(), 5)
+            it.note("four of them", [] if ends.count(one) == 1 and ends.count(refused) == 3 else [f"they ended as {ends}"])
+            it.call("a run behind them", 0, COMPLETE, adds=AGAIN)
+
+
+def apart(place, words=("flow",)):
+    """Starts the program in a PID namespace of its own, as the user as whom all runs here."""
+    user = ["setpriv", f"--reuid={NOBODY}", f"--regid={NOBODY}", "--clear-groups"] if USER else []
+    settings = {"PATH": os.environ.get("PATH", "/usr/bin:/bin"), "LANG": "C", "TMPDIR": place.tmp}
+    return subprocess.Popen(["unshare", "--pid", "--fork", "--mount-proc", *user, place.program, *words], cwd=place.work, env=settings, start_new_session=True,
+                            stdin=subprocess.DEVNULL, stdout=subprocess.PIPE, stderr=subprocess.PIPE)
+
+
+def can_be_apart():
+    if os.geteuid():
+        return False
+    tried = subprocess.run(["unshare", "--pid", "--fork", "--mount-proc", "setpriv", "--clear-groups", "true"], capture_output=True)
+    return tried.returncode == 0
+
+
+def containers():
+    """Two programs in two PID namespaces, with one host name and one temporary folder: neither takes what the other uses."""
+    if not can_be_apart():
+        print("left out: programs in PID namespaces can't be started here", flush=True)
+        return
+    slow = [("cat in > out; while ! test -e ROOM/go; do sleep 0.05; done", ["in"], ["out"])]
+    with Course("two programs in two PID namespaces", {"in": "abc"}, slow, {"out": b"abc"}) as it:
+        other = Place({"flow": "more: in\n\tcat in > more\n", "in": "abc"}, like=it.place)
+        first = apart(it.place)
+        try:
+            it.wait("the first one's job", lambda: any(os.path.exists(f"{it.place.tmp}/{name}/out") for name in os.listdir(it.place.tmp)))
+            other.tmp = it.place.tmp
+            it.note("the second one", outcome(apart(other), 0, COMPLETE))
+            it.note("the first one's job", [] if any(os.path.exists(f"{it.place.tmp}/{name}/out") for name in os.listdir(it.place.tmp)) else ["its folder is gone"])
+            it.beside("go")
+            it.note("the first one", outcome(first, 0, COMPLETE))
+            it.note("the log", [] if logs.kinds(it.records()) == ONE_RUN else [f"it has {logs.kinds(it.records())}"])
+        finally:
+            it.beside("go")
+            if first.poll() is None:
+                os.killpg(first.pid, 9)
+                first.communicate()
+            other.tmp = f"{other.room}/tmp"
+            other.close()
+    with Course("what a program in another PID namespace left goes", {"in": "abc"}, [("test -e ROOM/go || sleep 60; cat in > out", ["in"], ["out"])], {"out": b"abc"}) as it:
+        first = apart(it.place)
+        it.wait("the first one's job", lambda: os.listdir(it.place.tmp))
+        os.killpg(first.pid, 9)
+        first.communicate()
+        it.wait("its end", lambda: not held(it.place.tmp))
+        it.beside("go")
+        it.call("the resume", 0, COMPLETE)
+
+
+def held(folder):
+    """Whether somebody holds what stands in a folder."""
+    for name in os.listdir(folder):
+        at = os.open(f"{folder}/{name}", os.O_RDONLY)
+        try:
+            fcntl.flock(at, fcntl.LOCK_EX | fcntl.LOCK_NB)
+        except BlockingIOError:
+            return True
+        finally:
+            os.close(at)
+    return False
+
+
+def odd_commands():
+    """Commands that begin as the options of a shell do."""
+    for first in ["-x", "+x", "--", "-"]:
+        with Course(f"a command that begins with {first}", {"in": "abc"}, [(f"{first} 2> err; cat in > out", ["in"], ["out"])], {"out": b"abc"}) as it:
+            it.call("the run", 0, COMPLETE, adds=ONE_RUN)
+
+
+def sick_starts():
+    """A program whose starter left its signals otherwise than usual, started as the guide says."""
+    def started(how, place):
+        return subprocess.Popen(["/bin/sh", "-c", f'{how} "$0" flow', place.program], cwd=place.work, env={"PATH": "/usr/bin:/bin", "TMPDIR": place.tmp}, start_new_session=True,
+                                stdin=subprocess.DEVNULL, stdout=subprocess.PIPE, stderr=subprocess.PIPE, **USER)
+
+    with Course("SIGCHLD ignored", {"in": "abc"}, TWO, {"a": b"abc", "b": b"abc"}) as it:
+        it.note("the run", outcome(started("trap '' CHLD; exec", it.place), 0, complete(2)))
+    with Course("SIGCHLD ignored, and a command that fails", {"in": "abc"}, [("exit 7", ["in"], ["out"])], {}) as it:
+        it.note("the run", outcome(started("trap '' CHLD; exec", it.place), 1, "makeflow: rule 0 failed: status 7\n"))
+    with Course("a limit on the size of files, with SIGXFSZ ignored", {"in": "abc"}, [("cat in > out", ["in"], ["out"])] * 1, {}) as it:
+        it.note("the run", outcome(started("trap '' XFSZ; ulimit -f 0; exec", it.place), 5, FOLDER_FAULT))
+
+
+GROUPS = [one_file, linked_logs, lost_logs, beginners, containers, odd_commands, sick_starts]
