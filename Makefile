@@ -1,12 +1,13 @@
 # make test: all checks. make demo: the example flow. make programs: the programs into bin/.
 # make install PREFIX=FOLDER: the programs into FOLDER/bin, their manual pages into
-# FOLDER/share/man/man1. The programs are those with a manual page: crates, and scripts in scripts/.
-# The other crates with a main hold cases.
+# FOLDER/share/man/man1, and completions for bash, which are made of these pages, into
+# FOLDER/share/bash-completion/completions. The programs are those with a manual page: crates, and
+# scripts in scripts/. The other crates with a main hold cases.
 
 PREFIX ?= /usr/local
 PROGRAMS := $(patsubst man/%.1,%,$(wildcard man/*.1))
 BUILT := $(addprefix bin/,$(PROGRAMS))
-SOURCES := crates.txt $(shell find crates scripts -name out -prune -o -type f -print)
+SOURCES := crates.txt $(shell find crates scripts -name out -prune -o -type f ! -name "*.md" -print)
 
 .PHONY: test demo programs install
 
@@ -26,3 +27,7 @@ install: $(BUILT)
 	@install -m 755 $(BUILT) "$(DESTDIR)$(PREFIX)/bin"
 	@mkdir -p "$(DESTDIR)$(PREFIX)/share/man/man1"
 	@install -m 644 man/*.1 "$(DESTDIR)$(PREFIX)/share/man/man1"
+	@mkdir -p "$(DESTDIR)$(PREFIX)/share/bash-completion/completions"
+	@for name in $(PROGRAMS); do \
+		.ci/completion "$$name" > "$(DESTDIR)$(PREFIX)/share/bash-completion/completions/$$name" || exit 1; \
+	done
