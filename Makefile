@@ -1,4 +1,5 @@
-# make test: all checks. make demo: the example flow. make programs: the programs into bin/.
+# make test: all checks. make demo: the example flow. make try: the same in minutes, by a program of
+# which nothing is proved. make programs: the programs into bin/.
 # make install PREFIX=FOLDER: the programs into FOLDER/bin, their manual pages into
 # FOLDER/share/man/man1, and completions for bash, which are made of these pages, into
 # FOLDER/share/bash-completion/completions. The programs are those with a manual page: crates, and
@@ -9,7 +10,7 @@ PROGRAMS := $(patsubst man/%.1,%,$(wildcard man/*.1))
 BUILT := $(addprefix bin/,$(PROGRAMS))
 SOURCES := crates.txt $(shell find crates scripts -name out -prune -o -type f ! -name "*.md" -print)
 
-.PHONY: test demo programs install
+.PHONY: test demo try programs install
 
 test:
 	@.ci/run
@@ -21,6 +22,9 @@ bin/%: $(SOURCES)
 
 demo: bin/makeflow
 	@examples/run first
+
+try:
+	@examples/try first
 
 install: $(BUILT)
 	@mkdir -p "$(DESTDIR)$(PREFIX)/bin"
