@@ -10,9 +10,8 @@ import signal
 import struct
 import subprocess
 import termios
-import time
 
-from places import COMPLETE, NO_FLOW, PROGRAM, SECONDS, USER, Place, complete, content_of, outcome, say, seen
+from places import COMPLETE, PROGRAM, SECONDS, USER, Place, complete, content_of, outcome, say, seen
 from resumes import Course
 from workers import HOST, WORKER
 from wq import NETWORK_FAULT, Farm, free_port, listens
@@ -299,6 +298,10 @@ class Works(Farm, Look):
         os.chmod(path, 0o755)
         self.place.give()
 
+    def stand_in_slurm(self):
+        for name, text in (("sbatch", SBATCH), ("squeue", SQUEUE), ("scancel", SCANCEL)):
+            self.stand_in(name, text)
+
     def unheard(self, name, *words):
         """A factory of one worker that nobody answers, and what tells who started it, and when, in nanoseconds."""
         self.stand_in(name, f'echo "$PPID $(date +%s%N)" >> ROOM/starts.{name}; exit 5')
@@ -378,6 +381,11 @@ def factory_words():
         it.stand_in("mistyped", "exit 2")
         hopeless = [(it.factory("--worker", f"{it.place.room}/{name}"), line)
                     for name, line in (("none", "status 127, no such program"), ("mistyped", "status 2, usage"))]
+        it.stand_in_slurm()
+        os.makedirs(f"{it.place.room}/cluster/2")
+        it.beside("cluster/2/ended")
+        it.place.give()
+        hopeless.append((it.factory("-T", "slurm", "--worker", f"{it.place.room}/mistyped"), "status 2, usage"))
         again, starts = it.unheard("again")
         brief = [it.unheard(name, *words) for name, words in (("life", ("--life", "1")), ("idle", ("--idle-end", "1")))]
         for (factory, said), line in hopeless:
@@ -444,7 +452,7 @@ END_JOBS = r"""for job in ROOM/cluster/*; do
 done
 exit 0
 """
-SCANCEL = f'case "$1 $2" in\n    --state=PENDING*)\n{TAKE_BACK}    ;;\n    "--batch --signal=TERM")\n{END_JOBS}    ;;\nesac\nexit 1\n'
+SCANCEL = f'case "$1 $2" in\n    --state=PENDING*)\n{TAKE_BACK}    ;;\n    "--batch --signal=TERM" | --name=*)\n{END_JOBS}    ;;\nesac\nexit 1\n'
 CONDOR_SUBMIT = r"""[ "$1" = -terse ] || exit 1
 cat "$2" >> ROOM/words
 out=$(sed -n 's|^output = ||p' "$2")
@@ -493,16 +501,15 @@ def factories_elsewhere():
         it.note("the hosts", [] if {"n1", "n3"} <= {*asked} and asked.count("down") == 3 else [f"they were {asked}"])
 
     with Works("work_queue_factory -T slurm", 2, HELD.format("N", "echo N > oN")) as it:
-        for name, text in (("sbatch", SBATCH), ("squeue", SQUEUE), ("scancel", SCANCEL)):
-            it.stand_in(name, text)
-        words = batch_ends(it, "slurm", "job 2 is pending: NoRoom", "--memory", "100", "--cache", "28", "--submit=--time=60")
+        it.stand_in_slurm()
+        words = batch_ends(it, "slurm", "job 2 doesn't begin: NoRoom", "--memory", "100", "--cache", "28", "--submit=--time=60")
         wanted = {"--parsable", "--cpus-per-task=2", "--mem=128M", "--signal=B:TERM@60", "--time=60"}
         it.note("the words of sbatch", [f"{sorted(wanted - {*words})} are wanting"] if wanted - {*words} else [])
 
     with Works("work_queue_factory -T condor", 2, HELD.format("N", "echo N > oN")) as it:
         for name, text in (("condor_submit", CONDOR_SUBMIT), ("condor_q", CONDOR_Q), ("condor_rm", CONDOR_RM)):
             it.stand_in(name, text)
-        words = batch_ends(it, "condor", "job 2 is held: NoRoom", "--memory", "100", "--cache", "28", "--submit=+Project = \"flows\"")
+        words = batch_ends(it, "condor", "job 2 doesn't begin: NoRoom", "--memory", "100", "--cache", "28", "--submit=+Project = \"flows\"")
         wanted = {"request_cpus = 2", "request_memory = 128", '+Project = "flows"', "queue"}
         it.note("the description", [f"{sorted(wanted - {*words})} are wanting"] if wanted - {*words} else [])
 
