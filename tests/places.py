@@ -10,7 +10,8 @@ import logs
 
 ROOT = os.path.dirname(os.path.dirname(os.path.abspath(__file__)))
 PROGRAM = os.path.abspath(sys.argv[1] if len(sys.argv) > 1 else f"{ROOT}/bin/makeflow")
-TOOLS = ["makeflow_show", "makeflow_debug", "makeflow_watch", "makeflow_log", "makeflow_why", "keep_output", "work_queue_factory"]
+TOOLS = ["makeflow_show", "makeflow_debug", "makeflow_watch", "makeflow_log", "makeflow_why",
+         "keep_output", "work_queue_factory"]
 USUAL_LOG = "flow.makeflowlog"
 NOBODY = 65534
 MOST = 67_108_864
