@@ -91,9 +91,13 @@ pub fn set_len<R: Files>(rt: &R, path: &str, len: u64) -> io::Result<()> {
     file.set_len(len)
 }
 
-/// Syncs the file, where a regular one was just seen.
+/// Syncs the file, where a regular one was just seen. One that was removed since has nothing left.
 pub fn sync_seen<R: Files>(rt: &R, path: &str) -> io::Result<()> {
-    fs::open(rt, path)?.sync_all()
+    match fs::open(rt, path) {
+        Ok(file) => file.sync_all(),
+        Err(e) if is_absent(e.kind()) => Ok(()),
+        Err(e) => Err(e),
+    }
 }
 
 /// The path of the file to which a link points, None where this is no link, or one to nothing.

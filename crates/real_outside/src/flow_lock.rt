@@ -1,36 +1,19 @@
 //! A lock on a file, by which programs that work on one flow keep out of each other's way.
+use crate::draft::Draft;
 use crate::file_id::FileId;
 use crate::files::{file_len, link_target, read_seen, regular};
+use crate::first_look::{FirstLook, Stamp};
 use crate::synced_folders::SyncedFolders;
-use std::fs::{File, Metadata, TryLockError};
+use std::alloc::{AllocError, Global};
+use std::fs::{File, TryLockError};
 use std::io;
 use std::io::ErrorKind;
 use std::mem::replace;
-use std::os::unix::fs::{FileExt, MetadataExt};
+use std::os::unix::fs::FileExt;
 use std::rt::Files;
 
 // So often a lock is tried that another program holds, which takes a second or so.
 const MOST_LOOKS: u32 = 2_000_000;
-
-// A file at some moment.
-#[derive(Clone, Copy)]
-struct Stamp {
-    file: FileId,
-    len: u64,
-    seconds: i64,
-    nanos: i64,
-    // It had its first bytes alone, so that its length tells whether more were written. On some file
-    // systems the time of what was just written still changes.
-    is_begun: bool,
-}
-
-impl Stamp {
-    // Nobody wrote the file between the two moments.
-    fn stands(&self, now: &Stamp) -> bool {
-        let is_as_old = self.seconds == now.seconds && self.nanos == now.nanos;
-        self.file == now.file && self.len == now.len && (self.is_begun || is_as_old)
-    }
-}
 
 // The file that this program alone writes.
 #[derive(Drop)]
@@ -39,15 +22,15 @@ struct Held {
     id: FileId,
     // What its name points to, where that is a link.
     target: Option<String>,
+    // The bytes by which it is begun, until they are in it.
+    draft: Option<Draft>,
 }
 
 // How this program stands to the lock.
 #[derive(Drop)]
 enum Standing {
-    // There was no file, or an empty one.
-    Absent,
-    // What was read is this; no lock was taken, since one who only reads keeps nobody out.
-    Seen(Stamp),
+    // It changed nothing yet. No lock was taken, since one who only reads keeps nobody out.
+    Looked(FirstLook),
     // This program alone writes.
     Held(Held),
     // Another program works here, or did since the file was looked at.
@@ -67,7 +50,7 @@ impl FlowLock {
     pub fn new() -> Self {
         FlowLock {
             path: None,
-            standing: Standing::Absent,
+            standing: Standing::Looked(FirstLook::absent()),
         }
     }
 
@@ -82,9 +65,12 @@ impl FlowLock {
     /// This is the file that the lock is on, as far as it is known.
     pub fn is_file(&self, file: FileId) -> bool {
         match &self.standing {
-            Standing::Seen(stamp) => stamp.file == file,
+            Standing::Looked(look) => match look.seen() {
+                Some(stamp) => stamp.file == file,
+                None => false,
+            },
             Standing::Held(held) => held.id == file,
-            Standing::Absent | Standing::Refused => false,
+            Standing::Refused => false,
         }
     }
 
@@ -98,45 +84,61 @@ impl FlowLock {
 
     /// Before the first sync, which names the file: that it changed since then, or that another
     /// program works here, shows at the first change alone, so that a log can be read meanwhile.
-    pub fn begin<R: Files + AllocGlobal>(&mut self, rt: &R, path: &str) -> io::Result<()> {
+    pub fn begin<R: Files<File = File> + AllocGlobal>(
+        &mut self,
+        rt: &R,
+        path: &str,
+    ) -> io::Result<()> {
         if self.path.is_some() {
             return Ok(());
         }
         let named = String::from_str(rt.alloc(), path)?;
-        self.standing = match regular(rt, path)? {
-            Some(data) if data.len() > 0 => Standing::Seen(stamp_of(&data)),
-            _ => Standing::Absent,
-        };
+        self.standing = Standing::Looked(FirstLook::of(rt, path)?);
         self.path = Some(named);
         Ok(())
     }
 
-    /// There was no file of this name when it was first looked at, and none was made since.
-    pub fn is_absent_on(&self, path: &str) -> bool {
+    /// What was seen of the file of this name, as long as this program changed nothing.
+    pub fn look_at(&self, path: &str) -> Option<&FirstLook> {
         match &self.standing {
-            Standing::Absent => self.is_on(path),
-            _ => false,
+            Standing::Looked(look) if self.is_on(path) => Some(look),
+            _ => None,
         }
     }
 
-    /// Writes the first bytes of a file that wasn't there. Where another program wrote the same ones
-    /// since, these are as good. Nobody is kept out from then on: who began a file may only read it.
-    pub fn begin_file<R: Files<File = File> + AllocGlobal>(
+    /// This program began the file of this name, and changed nothing else yet.
+    pub fn is_begun(&self, path: &str) -> bool {
+        match self.look_at(path) {
+            Some(look) => look.is_begun(),
+            None => false,
+        }
+    }
+
+    /// Keeps the first bytes of a file that isn't there until something else is changed. False where
+    /// it is there.
+    pub fn keep_beginning(
         &mut self,
-        rt: &R,
-        synced: &mut SyncedFolders,
+        alloc: Global,
+        path: &str,
         bytes: &[u8],
-    ) -> io::Result<()> {
-        self.standing = Standing::Refused;
-        let Some(path) = &self.path else {
-            return Err(io::Error::from(ErrorKind::NotFound));
-        };
-        match begun_by(rt, synced, path.as_str(), bytes)? {
-            Some(stamp) => {
-                self.standing = Standing::Seen(stamp);
-                Ok(())
+    ) -> Result<bool, AllocError> {
+        let is_on = self.is_on(path);
+        match &mut self.standing {
+            Standing::Looked(look) if is_on => look.begin(alloc, bytes),
+            _ => Ok(false),
+        }
+    }
+
+    /// The file is begun anew, which is kept until something else is changed. False where this
+    /// program writes it, or may not.
+    pub fn keep_emptied(&mut self, alloc: Global, path: &str) -> bool {
+        let is_on = self.is_on(path);
+        match &mut self.standing {
+            Standing::Looked(look) if is_on => {
+                look.empty(alloc);
+                true
             }
-            None => Err(io::Error::from(ErrorKind::WouldBlock)),
+            _ => false,
         }
     }
 
@@ -160,6 +162,22 @@ impl FlowLock {
         let id = held.id;
         self.standing = Standing::Held(held);
         Ok(Some(id))
+    }
+
+    /// Puts the bytes by which the file is begun into it, and syncs them. At an error no change is made
+    /// from then on.
+    pub fn put_beginning(&mut self) -> io::Result<()> {
+        let Standing::Held(held) = &mut self.standing else {
+            return Ok(());
+        };
+        let Some(draft) = held.draft.take() else {
+            return Ok(());
+        };
+        let done = put(&held.file, draft.as_slice());
+        if done.is_err() {
+            self.refuse();
+        }
+        done
     }
 
     /// No change is made from now on.
@@ -210,14 +228,11 @@ impl FlowLock {
     }
 }
 
-fn stamp_of(data: &Metadata) -> Stamp {
-    Stamp {
-        file: FileId::of(data),
-        len: data.len(),
-        seconds: data.mtime(),
-        nanos: data.mtime_nsec(),
-        is_begun: false,
-    }
+// Writes the whole of a file, and syncs it.
+fn put(file: &File, bytes: &[u8]) -> io::Result<()> {
+    file.set_len(0)?;
+    file.write_all_at(bytes, 0)?;
+    file.sync_all()
 }
 
 fn claimed<R: Files<File = File> + AllocGlobal>(
@@ -226,16 +241,19 @@ fn claimed<R: Files<File = File> + AllocGlobal>(
     path: &str,
     standing: Standing,
 ) -> io::Result<Option<Held>> {
-    match standing {
-        Standing::Absent => begun(rt, synced, path),
-        Standing::Seen(stamp) => taken(rt, path, stamp),
-        Standing::Held(held) => Ok(Some(held)),
-        Standing::Refused => Ok(None),
+    let look = match standing {
+        Standing::Looked(look) => look,
+        Standing::Held(held) => return Ok(Some(held)),
+        Standing::Refused => return Ok(None),
+    };
+    match look.seen() {
+        Some(stamp) => taken(rt, path, stamp, look.into_begun()),
+        None => begun(rt, synced, path, look.into_begun()),
     }
 }
 
-// Another program writes the file. One that only begins it is done in a moment. A file system that
-// has no locks keeps nobody out.
+// Another program writes the file. One that was killed while it started a command holds it for a
+// moment more. A file system that has no locks keeps nobody out.
 fn is_locked(file: &File) -> bool {
     for _ in 0..MOST_LOOKS {
         if !matches!(file.try_lock(), Err(TryLockError::WouldBlock)) {
@@ -250,54 +268,42 @@ fn taken<R: Files<File = File> + AllocGlobal>(
     rt: &R,
     path: &str,
     stamp: Stamp,
+    draft: Option<Draft>,
 ) -> io::Result<Option<Held>> {
     let file = File::options().read(true).write(true).open(rt, path)?;
-    if is_locked(&file) || !stamp.stands(&stamp_of(&file.metadata()?)) {
+    if is_locked(&file) || !stamp.stands(&Stamp::of(&file.metadata()?)) {
         return Ok(None);
     }
-    Ok(Some(kept(rt, path, file, stamp.file)?))
+    let held = kept(rt, path, file, stamp.file, draft)?;
+    Ok(Some(held))
 }
 
-// Makes the file that wasn't there. One that has bytes by now is another program's.
+// Makes the file that wasn't there. One that has bytes by now is another program's, unless it is
+// begun by the same ones, and no further.
 fn begun<R: Files<File = File> + AllocGlobal>(
     rt: &R,
     synced: &mut SyncedFolders,
     path: &str,
+    draft: Option<Draft>,
 ) -> io::Result<Option<Held>> {
     let file = synced.open(rt, path)?;
     if is_locked(&file) {
         return Ok(None);
     }
     let data = file.metadata()?;
-    if data.len() > 0 {
+    if data.len() > 0 && !has_just(rt, path, draft.as_ref())? {
         return Ok(None);
     }
-    Ok(Some(kept(rt, path, file, FileId::of(&data))?))
-}
-
-// The file that wasn't there, once it has these bytes and no others.
-fn begun_by<R: Files<File = File> + AllocGlobal>(
-    rt: &R,
-    synced: &mut SyncedFolders,
-    path: &str,
-    bytes: &[u8],
-) -> io::Result<Option<Stamp>> {
-    let file = synced.open(rt, path)?;
-    if is_locked(&file) {
-        return Ok(None);
-    }
-    if file.metadata()?.len() == 0 {
-        file.write_all_at(bytes, 0)?;
-    } else if !has_just(rt, path, bytes)? {
-        return Ok(None);
-    }
-    let mut stamp = stamp_of(&file.metadata()?);
-    stamp.is_begun = true;
-    Ok(Some(stamp))
+    let held = kept(rt, path, file, FileId::of(&data), draft)?;
+    Ok(Some(held))
 }
 
 // The file has these bytes and no others.
-fn has_just<R: Files + AllocGlobal>(rt: &R, path: &str, bytes: &[u8]) -> io::Result<bool> {
+fn has_just<R: Files + AllocGlobal>(rt: &R, path: &str, draft: Option<&Draft>) -> io::Result<bool> {
+    let Some(draft) = draft else {
+        return Ok(false);
+    };
+    let bytes = draft.as_slice();
     if file_len(rt, path)? != Some(bytes.len() as u64) {
         return Ok(false);
     }
@@ -306,7 +312,18 @@ fn has_just<R: Files + AllocGlobal>(rt: &R, path: &str, bytes: &[u8]) -> io::Res
     Ok(count == bytes.len() && found.as_slice() == bytes)
 }
 
-fn kept<R: Files + AllocGlobal>(rt: &R, path: &str, file: File, id: FileId) -> io::Result<Held> {
+fn kept<R: Files + AllocGlobal>(
+    rt: &R,
+    path: &str,
+    file: File,
+    id: FileId,
+    draft: Option<Draft>,
+) -> io::Result<Held> {
     let target = link_target(rt, path)?;
-    Ok(Held { file, id, target })
+    Ok(Held {
+        file,
+        id,
+        target,
+        draft,
+    })
 }

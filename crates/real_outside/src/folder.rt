@@ -61,6 +61,9 @@ impl<'a, R: Files<File = File> + AllocGlobal> Folder<'a, R> {
 
     /// The length of the file, None where nothing has the name.
     pub fn size(&mut self, path: &str) -> io::Result<Option<u64>> {
+        if let Some(first) = self.lock.look_at(path) {
+            return Ok(first.size());
+        }
         match self.look(path)? {
             Some(data) => Ok(Some(data.len())),
             None => Ok(None),
@@ -71,6 +74,9 @@ impl<'a, R: Files<File = File> + AllocGlobal> Folder<'a, R> {
     pub fn read(&mut self, path: &str, at: u64, into: &mut [u8]) -> io::Result<usize>
         ensures { IfOk result (λ count. count ≤ length into.new) }
     {
+        if let Some(first) = self.lock.look_at(path) {
+            return first.read(self.rt, path, at, into);
+        }
         if self.look(path)?.is_none() {
             return Ok(0);
         }
@@ -101,10 +107,11 @@ impl<'a, R: Files<File = File> + AllocGlobal> Folder<'a, R> {
     }
 
     /// Writes at an offset. A file is begun anew by a write at its beginning, and changes then only
-    /// when it is synced. The log is written in place, as long as it has its name.
+    /// when it is synced. The log is written in place, as long as it has its name; one that is begun
+    /// is made at the next change.
     pub fn write(&mut self, path: &str, at: u64, bytes: &[u8]) -> io::Result<()> {
-        if at == 0 && self.lock.is_absent_on(path) {
-            return self.lock.begin_file(self.rt, &mut self.synced, bytes);
+        if at == 0 && self.lock.keep_beginning(self.rt.alloc(), path, bytes)? {
+            return Ok(());
         }
         self.begin_change()?;
         if self.lock.is_on(path) {
@@ -167,6 +174,7 @@ impl<'a, R: Files<File = File> + AllocGlobal> Folder<'a, R> {
     fn begin_change(&mut self) -> io::Result<()> {
         if let Some(log) = self.lock.claim(self.rt, &mut self.synced)? {
             self.log_alone(log)?;
+            self.lock.put_beginning()?;
         }
         self.clear(".")
     }
@@ -198,6 +206,9 @@ impl<'a, R: Files<File = File> + AllocGlobal> Folder<'a, R> {
 
     /// Sets the length of a file that is there.
     pub fn cut(&mut self, path: &str, len: u64) -> io::Result<()> {
+        if len == 0 && self.lock.keep_emptied(self.rt.alloc(), path) {
+            return Ok(());
+        }
         self.begin_change()?;
         if self.lock.is_on(path) {
             return self.lock.cut(self.rt, len);
@@ -222,6 +233,9 @@ impl<'a, R: Files<File = File> + AllocGlobal> Folder<'a, R> {
             return self.sync_settled(path, &settled);
         }
         self.begin_lock(path)?;
+        if self.lock.is_begun(path) {
+            return Ok(());
+        }
         if self.look(path)?.is_some() {
             files::sync_seen(self.rt, path)?;
         }

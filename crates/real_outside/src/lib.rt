@@ -5,8 +5,10 @@
 
 mod commands;
 mod counts;
+mod draft;
 mod file_id;
 mod files;
+mod first_look;
 mod flow_lock;
 mod folder;
 mod folder_site;
