@@ -26,6 +26,7 @@ mod shell_runner;
 mod stdout_sink;
 mod synced_folders;
 mod system_clock;
+mod watch;
 
 pub use commands::System;
 pub use folder_site::FolderSite;

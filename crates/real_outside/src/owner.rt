@@ -1,9 +1,11 @@
 //! Whose a file is that a program makes for itself.
 
+use crate::watch::Watch;
 use std::alloc::AllocError;
 use std::os::unix::fs::MetadataExt;
+use std::process::{Processes, SystemProcess};
 use std::rt::Files;
-use std::sync::{RwLock, RwLockReadGuard, RwLockWriteGuard, Wait};
+use std::sync::{Mutex, RwLock, RwLockReadGuard, RwLockWriteGuard, Wait};
 use std::{fs, io};
 
 const HOST_NAME: &str = "/proc/sys/kernel/hostname";
@@ -30,6 +32,16 @@ pub struct Owner {
     process: u32,
     is_told: bool,
     turns: RwLock<()>,
+    watch: Mutex<Watching>,
+}
+
+// Whether a shell watches over this program.
+#[derive(Drop)]
+enum Watching {
+    Not,
+    Watched(Watch),
+    // It couldn't be started.
+    Never,
 }
 
 impl Owner {
@@ -43,6 +55,7 @@ impl Owner {
             process,
             is_told,
             turns: RwLock::new(()),
+            watch: Mutex::new(Watching::Not),
         })
     }
 
@@ -71,6 +84,20 @@ impl Owner {
     /// what is answered is let go.
     pub fn starts<R: Wait>(&self, rt: &R) -> RwLockWriteGuard<'_, ()> {
         self.turns.write(rt)
+    }
+
+    /// From here on commands end with this program, however that ends. It does what it can.
+    pub fn be_watched<R>(&self, rt: &R)
+    where
+        R: Processes<Started = SystemProcess> + AllocGlobal + Wait,
+    {
+        let mut watch = self.watch.lock(rt);
+        if let Watching::Not = *watch {
+            *watch = match Watch::begin(rt, self) {
+                Ok(watch) => Watching::Watched(watch),
+                Err(_) => Watching::Never,
+            };
+        }
     }
 }
 

@@ -6,6 +6,9 @@ use std::io::Read;
 use std::process::{Child, Command, ExitStatus, Processes, Stdio};
 use std::sync::Wait;
 
+/// The system's shell.
+pub const SHELL: &str = "/bin/sh";
+
 const PATH: &str = "/usr/local/bin:/usr/bin:/bin";
 
 /// A program with these words, that sees no variable but PATH and reads nothing. What it prints is
@@ -50,7 +53,8 @@ pub fn run_printing<R: Processes + Wait>(
     Ok(said)
 }
 
-fn start<R: Processes + Wait>(
+/// Starts the program while no thread writes a file that may be run.
+pub fn start<R: Processes + Wait>(
     rt: &R,
     owner: &Owner,
     program: Command,

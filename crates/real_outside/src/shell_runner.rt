@@ -7,7 +7,7 @@ use crate::files::folder_of;
 use crate::job_folder::{clear_folders, fill_folder, new_folder, remove_folder};
 use crate::outputs::take_outputs;
 use crate::owner::{Owner, number_of};
-use crate::programs::{program, run_printing, run_program};
+use crate::programs::{SHELL, program, run_printing, run_program};
 use crate::script::{is_long, needs_script, read_script, write_script};
 use flow_types::{Failure, Job, Outcome};
 use outside::{Commands, Fault, Runner};
@@ -15,12 +15,10 @@ use std::alloc::Global;
 use std::fs::File;
 use std::io::ErrorKind;
 use std::os::unix::process::ExitStatusExt;
-use std::process::{ExitStatus, Processes};
+use std::process::{ExitStatus, Processes, SystemProcess};
 use std::rt::{Env, Files};
 use std::sync::Wait;
 use std::{io, str};
-
-const SHELL: &str = "/bin/sh";
 
 // A shell that prints how another one ended, for a program that isn't told.
 const RELAY: &str = "\"$0\" -c -- \"$1\" > /dev/null; echo \"$?\"";
@@ -81,6 +79,8 @@ fn run_told<R: Processes + Wait>(
             shell.env(pair.name.as_str(), pair.value.as_str())?;
         }
     }
+    // The shell would set it so itself. By it a command is known as this program's.
+    shell.env("PWD", folder)?;
     shell.current_dir(folder)?;
     if owner.is_told() {
         Ok(status_of(run_program(rt, owner, shell)?))
@@ -116,12 +116,13 @@ fn run_read<R: Files + Processes + Wait>(
 }
 
 // The command's status.
-fn run_shell<R: Files<File = File> + Env + Processes + AllocGlobal + Wait>(
+fn run_shell<R: Files<File = File> + Env + Processes<Started = SystemProcess> + AllocGlobal + Wait>(
     rt: &R,
     owner: &Owner,
     folder: &str,
     job: &Job,
 ) -> io::Result<i32> {
+    owner.be_watched(rt);
     if !needs_script(job) {
         return run_told(rt, rt.alloc(), owner, folder, job, job.command.as_str());
     }
@@ -131,7 +132,7 @@ fn run_shell<R: Files<File = File> + Env + Processes + AllocGlobal + Wait>(
     status
 }
 
-fn run_in<R: Files<File = File> + Env + Processes + AllocGlobal + Wait>(
+fn run_in<R: Files<File = File> + Env + Processes<Started = SystemProcess> + AllocGlobal + Wait>(
     rt: &R,
     alloc: Global,
     owner: &Owner,
@@ -148,7 +149,7 @@ fn run_in<R: Files<File = File> + Env + Processes + AllocGlobal + Wait>(
     take_outputs(rt, alloc, folder, job)
 }
 
-fn run_job<R: Files<File = File> + Env + Processes + AllocGlobal + Wait>(
+fn run_job<R: Files<File = File> + Env + Processes<Started = SystemProcess> + AllocGlobal + Wait>(
     rt: &R,
     alloc: Global,
     owner: &Owner,
@@ -162,8 +163,11 @@ fn run_job<R: Files<File = File> + Env + Processes + AllocGlobal + Wait>(
     outcome
 }
 
-impl<'a, F: Commands, R: Files<File = File> + Env + Processes + AllocGlobal + Wait + Sync> Runner<F>
-    for ShellRunner<'a, R> {
+impl<
+    'a,
+    F: Commands,
+    R: Files<File = File> + Env + Processes<Started = SystemProcess> + AllocGlobal + Wait + Sync,
+> Runner<F> for ShellRunner<'a, R> {
     ghost tells = { λ s job. ⊥ };
 
     ghost sure = { λ s. ⊥ };
