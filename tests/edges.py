@@ -1,12 +1,19 @@
-"""Cases of a folder's edges: names that lead to one file, a log that goes, whose files are left behind."""
+"""Cases of a folder's edges: names that lead to one file, a log that goes, looks beside a start and a run, whose files are
+left behind, and what becomes of a killed program's commands."""
 import fcntl
 import os
+import random
 import shutil
+import signal
 import subprocess
+import time
 
 import logs
-from places import COMPLETE, FOLDER_FAULT, NOBODY, SECONDS, USER, USUAL_LOG, Place, complete, content_of, outcome
+from places import COMPLETE, FOLDER_FAULT, NOBODY, SECONDS, USER, USUAL_LOG, Place, complete, content_of, outcome, short
 from resumes import AGAIN, ONE, ONE_RUN, TWO, Course
+from workers import Talk, done
+
+LOOK = ("--print-log", "flow")
 
 
 def link_to(target):
@@ -55,6 +62,9 @@ def linked_logs():
         it.call("the resume", 0, COMPLETE, adds=AGAIN)
         it.note("the log", [] if os.path.islink(it.path(USUAL_LOG)) and os.path.isfile(it.path("logs/real")) else ["it isn't where its link points to"])
         it.made["logs/real"] = content_of(it.path("logs/real"))
+    with Course("the log is a link to an empty source", {"in": "", USUAL_LOG: link_to("in")}, ONE, {}) as it:
+        for step in ("the run", "the next one"):
+            it.refused(step, 5, FOLDER_FAULT)
     with Course("the log is a link to the flow file", {"flow": "", USUAL_LOG: link_to("flow")}, [], {}) as it:
         it.refused("the run", 5, FOLDER_FAULT)
     with Course("the log is a hard link of the flow file", {"flow": "", USUAL_LOG: hard_link_to("flow")}, [], {}) as it:
@@ -93,6 +103,119 @@ def beginners():
             one, refused = (COMPLETE.encode(), 0), (FOLDER_FAULT.encode(), 5)
             it.note("four of them", [] if ends.count(one) == 1 and ends.count(refused) == 3 else [f"they ended as {ends}"])
             it.call("a run behind them", 0, COMPLETE, adds=AGAIN)
+
+
+def looks():
+    """Who only looks at a log keeps no run out, and leaves nothing behind."""
+    with Course("a look where there is no log", {"in": "abc"}, ONE, {"out": b"abc"}) as it:
+        for step in ("the look", "the next one"):
+            it.refused(step, 0, "", LOOK)
+        it.refused("a cleaning", 0, "makeflow: cleaned, 0 files removed\n", ("-c", "flow"))
+        it.call("the run", 0, COMPLETE, adds=ONE_RUN)
+    for size in (0, 3, 9):
+        with Course(f"a look at a log of {size} bytes", {"in": "abc", USUAL_LOG: b"MFLOG01\n\0"[:size]}, ONE, {"out": b"abc"}) as it:
+            it.refused("the look", 0, "", LOOK)
+            it.call("the run", 0, COMPLETE, adds=ONE_RUN)
+    with Course("60 first runs, each in the moment of some looks", {"in": "abc"}, ONE, {}) as it:
+        chance = random.Random(42)
+        for _ in range(60):
+            before = [it.place.start(LOOK) for _ in range(2)]
+            time.sleep(chance.uniform(0, 0.02))
+            run = it.place.start()
+            time.sleep(chance.uniform(0, 0.02))
+            seen = [*before, it.place.start(LOOK)]
+            it.note("a run", outcome(run, 0, COMPLETE))
+            for look in seen:
+                it.note("a look", first_part(look, logs.printed(it.records(), 1, logs.Store(it.rules).names)))
+            for name in (USUAL_LOG, "out"):
+                os.remove(it.path(name))
+    many = [(f"echo {at} > o{at}", [], [f"o{at}"]) for at in range(150)]
+    with Course("looks without a pause beside a run", {}, many, {f"o{at}": f"{at}\n".encode() for at in range(150)}) as it:
+        run, seen = it.place.start(), []
+        while run.poll() is None and not it.found:
+            look = it.place.start(LOOK)
+            seen.append((look.communicate(timeout=SECONDS)[0], look.returncode))
+        it.note("the run", outcome(run, 0, complete(150)))
+        whole = logs.printed(it.records(), 150, logs.Store(it.rules).names).encode()
+        it.note("a look", [f"it ended as {short(end)}" for end in seen if end[1] != 0 or not whole.startswith(end[0])])
+
+
+def first_part(look, whole):
+    """What is wrong with a look that may have come before any record was written."""
+    out, err = look.communicate(timeout=SECONDS)
+    fine = look.returncode == 0 and not err and whole.encode().startswith(out)
+    return [] if fine else [f"it ended with status {look.returncode}, {short(out)} and {short(err)}"]
+
+
+def group_of(pid):
+    """The numbers of the processes in a group that haven't ended."""
+    found = []
+    for name in os.listdir("/proc"):
+        try:
+            words = content_of(f"/proc/{name}/stat").decode(errors="replace").rsplit(") ", 1)[1].split() if name.isdigit() else []
+        except (OSError, IndexError):
+            continue
+        if len(words) > 2 and words[2] == str(pid) and words[0] not in "ZX":
+            found.append(int(name))
+    return found
+
+
+# Such a command leaves its folder, and has more below it, some in the background, one of which has lost its parent.
+DEEP = "cd / && {{ (sleep 1000; true) & (sleep 1000 | cat) & ( (sleep 1000; true) & ); echo {0} > ROOM/on.{0}; sleep 1000; true; }}"
+
+
+def killed_alone():
+    """A program that is killed takes its commands with it, and one that ends by itself leaves nothing either."""
+    three = [(DEEP.format(at), ["in"], [f"o{at}"]) for at in range(3)]
+    with Course("the commands of a makeflow that is killed alone", {"in": "abc"}, three, {}) as it:
+        run = it.place.start()
+        it.wait("three commands", lambda: all(os.path.exists(f"{it.place.room}/on.{at}") for at in range(3)))
+        ended_with(it, run)
+        left_to_the_next(it)
+    with Course("two makeflows in one folder, one of them killed", {"in": "abc"}, [(f"{DEEP.format(0)}; cat in > out", ["in"], ["out"])], {"other": b"abc"}) as it:
+        it.put("other.flow", f"other: in\n\ttouch {it.place.room}/on.1; while ! test -e {it.place.room}/go; do sleep 0.05; done; cat in > other\n")
+        first, second = it.place.start(), it.place.start(("other.flow",))
+        try:
+            it.wait("both commands", lambda: all(os.path.exists(f"{it.place.room}/on.{at}") for at in range(2)))
+            ended_with(it, first)
+        finally:
+            it.beside("go")
+        it.note("the other one", outcome(second, 0, COMPLETE))
+        it.note("behind it", [f"processes {left} are left" for left in [group_of(second.pid)] if left])
+        left_to_the_next(it)
+    with Course("a run that ends by itself leaves no process", {"in": "abc"}, TWO, {"a": b"abc", "b": b"abc"}) as it:
+        run = it.place.start()
+        it.note("the run", outcome(run, 0, complete(2)))
+        it.note("behind it", [f"processes {left} are left" for left in [group_of(run.pid)] if left])
+    with Talk("the commands of a worker that is killed alone", "--cores", "2", amounts=(2, 4096, 16384)) as it:
+        for at in range(2):
+            it.asks(at, DEEP.format(at))
+        it.wait("two commands", lambda: it.there("on.0", "on.1"))
+        ended_with(it, it.worker)
+        left_to_the_next(it)
+    with Talk("a worker that ends by itself leaves no process") as it:
+        it.asks(5, "echo a > out")
+        it.hears("the task", done(5, b"a\n"))
+        it.leaves()
+        it.note("behind it", [f"processes {left} are left" for left in [group_of(it.worker.pid)] if left])
+
+
+def ended_with(it, program):
+    """Kills a program alone, and waits for the end of all that it started."""
+    it.note("the commands", [] if len(group_of(program.pid)) > 4 else [f"only {group_of(program.pid)} run"])
+    program.send_signal(signal.SIGKILL)
+    program.communicate(timeout=SECONDS)
+    try:
+        it.wait("the end of the commands", lambda: not group_of(program.pid))
+    finally:
+        if group_of(program.pid):
+            os.killpg(program.pid, signal.SIGKILL)
+
+
+def left_to_the_next(it):
+    """Removes the folders of killed jobs, as the next program would."""
+    for name in os.listdir(it.place.tmp):
+        shutil.rmtree(f"{it.place.tmp}/{name}")
 
 
 def apart(place, words=("flow",)):
@@ -164,6 +287,22 @@ def odd_commands():
             it.call("the run", 0, COMPLETE, adds=ONE_RUN)
 
 
+def deep_names():
+    """Names as deep and as long as may be, and one with a part that no file can have."""
+    for what, name in [("200 folders", "d/" * 200 + "out"), ("folders of the longest names", "/".join(it * 255 for it in "abcd"))]:
+        parts = name.split("/")
+        folders = {"/".join(parts[:at]): None for at in range(1, len(parts))}
+        with Course(f"an output below {what}", {"in": "abc"}, [(f"cat in > {name}", ["in"], [name])], {name: b"abc", **folders}) as it:
+            it.call("the run", 0, COMPLETE, adds=ONE_RUN)
+            it.call("the resume", 0, COMPLETE, adds=AGAIN)
+    with Course("an output with a part of 256 bytes", {"in": "abc"}, [(f"cat in > {'n' * 256}", ["in"], ["n" * 256])], {}) as it:
+        for step in ("the run", "the next one"):
+            run = it.place.start()
+            out, err = run.communicate(timeout=SECONDS)
+            fine = run.returncode in (1, 5) and out.startswith(b"makeflow: ") and out.count(b"\n") == 1 and not err
+            it.note(step, [] if fine else [f"it ended with status {run.returncode}, {short(out)} and {short(err)}"])
+
+
 def sick_starts():
     """A program whose starter left its signals otherwise than usual, started as the guide says."""
     def started(how, place):
@@ -178,4 +317,4 @@ def sick_starts():
         it.note("the run", outcome(started("trap '' XFSZ; ulimit -f 0; exec", it.place), 5, FOLDER_FAULT))
 
 
-GROUPS = [one_file, linked_logs, lost_logs, beginners, containers, odd_commands, sick_starts]
+GROUPS = [one_file, linked_logs, lost_logs, beginners, looks, killed_alone, containers, odd_commands, deep_names, sick_starts]
