@@ -150,7 +150,7 @@ module _ {S : Type 0} (trust : Type 0) (gives : Function) (may_fail : Job → Fa
         all = λ works. let more = is.count in let was = u.all is.fine in let same = ap (λ (P : Plan). length (running_rules P all)) is.plan in omega (arith, more, was, same);
         stopped = (is.works, is.stop ∙ u.stopped.1);
         failures = λ works. is.failed ∙ u.failures is.fine;
-        unended = λ works unended. is.unended (u.unended is.fine unended);
+        unended = λ unended. is.unended (u.unended unended);
         never = u.never;
         due = λ going sure smooth. let more = is.due in let was = u.due tt sure smooth in let same = ap (λ (P : Plan). records_due P all) is.plan in omega (arith, more, was, same);
       }

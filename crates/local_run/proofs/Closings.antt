@@ -43,6 +43,17 @@ use Rattle.local_run.specs.Collecting.{IsUntouched}
 use Rattle.local_run.specs.Course.{FailsHonestly, GoesOn, IsBroken, LeavesAlone, begins_anew}
 use Rattle.local_run.proofs.Going.{MayAdd, adds, adds_plain, stays}
 
+-- a call at which the site failed adds no record
+pub breaks_same : {S : Type 0} (count : S → ℕ) (d : DeskState S) (before now : ℕ) (after : DeskState S) → Breaks count d before now after → records_of after.moves ≡ records_of d.moves
+breaks_same {S} count d before now after h = ⊎_elim (λ was. ap (λ (a : DeskState S). records_of a.moves) was.1) (λ new. ap (λ (a : DeskState S). records_of a.moves) new.5) h
+
+-- nor one for which memory was wanting
+pub lacks_same : {S : Type 0} (d after : DeskState S) → Lacks d after → records_of after.moves ≡ records_of d.moves
+lacks_same {S} d after h = ⊎_elim (λ was. ap (λ (a : DeskState S). records_of a.moves) was.1) (λ new. ap (λ (a : DeskState S). records_of a.moves) new.1) h
+
+pub spares_same : {S : Type 0} (d after : DeskState S) → Spares d after → records_of after.moves ≡ records_of d.moves
+spares_same {S} d after h = ⊎_elim (λ lacks. lacks_same d after lacks) (λ same. ap (λ (a : DeskState S). records_of a.moves) same.1) h
+
 module _ {S : Type 0} (trust : Type 0) (gives : Function) (may_fail : Job → Failure → Type 0) (sources : Contents) (tells : Type 0) (files : S → Files) (may_leave : S → Outcomes) (moment : S → ℕ)
     (images_since : S → ℕ → Files → Type 0) where
   abbrev pub Goes : DeskState S → DeskState S → Type 0

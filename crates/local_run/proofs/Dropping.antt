@@ -24,17 +24,9 @@ use Rattle.desk.proofs.Running.{dropped_runs}
 use Rattle.local_run.specs.Collecting.{IsUntouched}
 use Rattle.local_run.specs.Course.{GoesOn, LeavesAlone, MayDrop}
 use Rattle.local_run.specs.Ends.{records_due}
-use Rattle.local_run.proofs.Closings.{breaks_goes, lacks_goes}
+use Rattle.local_run.proofs.Closings.{breaks_goes, breaks_same, lacks_goes, lacks_same}
 use Rattle.local_run.proofs.Fresh.{due_dropped}
 use Rattle.local_run.proofs.Going.{drops_one, stays}
-
-breaks_not : {S : Type 0} (count : S → ℕ) (d : DeskState S) (before now : ℕ) (after : DeskState S) → Breaks count d before now after → IsFine after.trouble → ⊥
-breaks_not {S} count d before now after h fine =
-    ⊎_elim (λ was. subst IsFine (ap (λ (a : DeskState S). a.trouble) was.1 ∙ was.0) fine) (λ new. subst IsFine (ap (λ (a : DeskState S). a.trouble) new.5) fine) h
-
-lacks_not : {S : Type 0} (d after : DeskState S) → Lacks d after → IsFine after.trouble → ⊥
-lacks_not {S} d after h fine =
-    ⊎_elim (λ was. subst IsFine (ap (λ (a : DeskState S). a.trouble) was.1 ∙ was.0) fine) (λ new. subst IsFine (ap (λ (a : DeskState S). a.trouble) new.1) fine) h
 
 module _ {S : Type 0} (trust : Type 0) (gives : Function) (may_fail : Job → Failure → Type 0) (sources : Contents) (tells : Type 0) (files : S → Files) (may_leave : S → Outcomes) (moment : S → ℕ)
     (images_since : S → ℕ → Files → Type 0) where
@@ -88,17 +80,19 @@ module _ {S : Type 0} (trust : Type 0) (gives : Function) (may_fail : Job → Fa
       ⊎_elim (λ first. lacks_goes trust gives may_fail sources tells files may_leave moment images_since d d.stop after (λ none. none) others first)
       (λ later. lacks_then d time later.0 after later.2 later.1 others later.3) h
 
--- on a desk that works on it logged the drop of a file at most
-pub collects_logs : {S : Type 0} (count : S → ℕ) (d : DeskState S) (time : ℕ) (r : Result (Option FileNo) CollectRefused) (after : DeskState S) → Collects count d time r after → IsFine after.trouble
-    → MayDrop (records_of d.moves) (records_of after.moves)
-collects_logs {S} count d time (Ok (Some file)) after h fine = inr (time, (file, ap (λ (a : DeskState S). records_of a.moves) h.2 ∙ records-push d.moves (records.Dropped time file)))
-collects_logs {S} count d time (Ok None) after h fine = inl (ap (λ (a : DeskState S). records_of a.moves) h.2)
-collects_logs {S} count d time (Err refused.LogPlaces) after h fine = inl (ap (λ (a : DeskState S). records_of a.moves) h.2)
-collects_logs {S} count d time (Err (refused.Broken before now)) after h fine =
-    absurd (⊎_elim (λ first. breaks_not count d before now after first fine)
-    (λ later. ⊎_elim (λ first. breaks_not count d before now after first fine) (λ behind. breaks_not count (dropped_in d time later.0 behind.0) before now after behind.2 fine) later.3) h)
-collects_logs {S} count d time (Err refused.Memory) after h fine =
-    absurd (⊎_elim (λ first. lacks_not d after first fine) (λ later. ⊎_elim (λ first. lacks_not d after first fine) (λ behind. lacks_not (dropped_in d time later.0 behind.0) after behind.1 fine) later.3) h)
+-- it logged the drop of a file at most
+pub collects_logs : {S : Type 0} (count : S → ℕ) (d : DeskState S) (time : ℕ) (r : Result (Option FileNo) CollectRefused) (after : DeskState S) → Collects count d time r after → MayDrop (records_of d.moves) (records_of after.moves)
+collects_logs {S} count d time (Ok (Some file)) after h = inr (time, (file, ap (λ (a : DeskState S). records_of a.moves) h.2 ∙ records-push d.moves (records.Dropped time file)))
+collects_logs {S} count d time (Ok None) after h = inl (ap (λ (a : DeskState S). records_of a.moves) h.2)
+collects_logs {S} count d time (Err refused.LogPlaces) after h = inl (ap (λ (a : DeskState S). records_of a.moves) h.2)
+collects_logs {S} count d time (Err (refused.Broken before now)) after h =
+    ⊎_elim (λ first. inl (breaks_same count d before now after first))
+    (λ later. ⊎_elim (λ first. inl (breaks_same count d before now after first))
+    (λ behind. inr (time, (later.0, breaks_same count (dropped_in d time later.0 behind.0) before now after behind.2 ∙ records-push d.moves (records.Dropped time later.0)))) later.3) h
+collects_logs {S} count d time (Err refused.Memory) after h =
+    ⊎_elim (λ first. inl (lacks_same d after first))
+    (λ later. ⊎_elim (λ first. inl (lacks_same d after first))
+    (λ behind. inr (time, (later.0, lacks_same (dropped_in d time later.0 behind.0) after behind.1 ∙ records-push d.moves (records.Dropped time later.0)))) later.3) h
 
 breaks_plan : {S : Type 0} (count : S → ℕ) (d : DeskState S) (before now : ℕ) (after : DeskState S) → Breaks count d before now after → after.plan ≡ d.plan
 breaks_plan {S} count d before now after h = ⊎_elim (λ was. ap (λ (a : DeskState S). a.plan) was.1) (λ new. ap (λ (a : DeskState S). a.plan) new.5) h
@@ -127,7 +121,7 @@ drop_idle P Q H all same logs idle =
 pub collects_idle : {S : Type 0} (count : S → ℕ) (d : DeskState S) (time : ℕ) (r : Result (Option FileNo) CollectRefused) (after : DeskState S) → length (running_rules d.plan (records_of d.moves)) ≤ 0
     → Collects count d time r after → IsFine after.trouble → length (running_rules after.plan (records_of after.moves)) ≤ 0
 collects_idle {S} count d time r after idle h fine =
-    drop_idle d.plan after.plan (records_of d.moves) (records_of after.moves) (collects_plan count d time r after h) (collects_logs count d time r after h fine) idle
+    drop_idle d.plan after.plan (records_of d.moves) (records_of after.moves) (collects_plan count d time r after h) (collects_logs count d time r after h) idle
 
 -- what a collection that drops a file leaves to be logged
 pub collects_due : {S : Type 0} (count : S → ℕ) (d : DeskState S) (time : ℕ) (file : FileNo) (after : DeskState S) → Collects count d time (Ok (Some file)) after

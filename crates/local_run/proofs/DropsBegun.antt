@@ -59,7 +59,7 @@ module _ {S : Type 0} (trust : Type 0) (gives : Function) (may_fail : Job → Fa
   collects_on count first d after held waiting heard time (Ok (Some file)) removed others h u =
       runs_on trust gives may_fail sources tells kept sure files may_leave moment images_since away first d after held waiting None heard None None
       (collects_goes trust gives may_fail sources tells files may_leave moment images_since count d time (Ok (Some file)) after removed others h)
-      (λ works. run_on_drop d.plan (records_of d.moves) (records_of after.moves) (collects_logs count d time (Ok (Some file)) after h works))
+      (run_on_drop d.plan (records_of d.moves) (records_of after.moves) (collects_logs count d time (Ok (Some file)) after h))
       (subst IsFine (sym (ap (λ (a : DeskState S). a.trouble) h.2)) h.0, ap (λ (a : DeskState S). a.stop) h.2 ∙ u.stopped.1)
       (λ going. (tt, collects_due count d time file after h)) u
   collects_on count first d after held waiting heard time (Ok None) removed others h u = stays_on first d after held waiting heard h.2 u
@@ -67,9 +67,9 @@ module _ {S : Type 0} (trust : Type 0) (gives : Function) (may_fail : Job → Fa
   collects_on count first d after held waiting heard time (Err (refused.Broken before now)) removed others h u =
       runs_on trust gives may_fail sources tells kept sure files may_leave moment images_since away first d after held waiting None heard None (Some halts.Site)
       (collects_goes trust gives may_fail sources tells files may_leave moment images_since count d time (Err (refused.Broken before now)) after removed others h)
-      (λ works. run_on_drop d.plan (records_of d.moves) (records_of after.moves) (collects_logs count d time (Err (refused.Broken before now)) after h works))
+      (run_on_drop d.plan (records_of d.moves) (records_of after.moves) (collects_logs count d time (Err (refused.Broken before now)) after h))
       (stops_site tells kept sure files first after heard (collects_broken count d time before now after h)) (λ going. absurd going) u
   collects_on count first d after held waiting heard time (Err refused.Memory) removed others h u =
       runs_on trust gives may_fail sources tells kept sure files may_leave moment images_since away first d after held waiting None heard None (Some halts.Memory)
       (collects_goes trust gives may_fail sources tells files may_leave moment images_since count d time (Err refused.Memory) after removed others h)
-      (λ works. run_on_drop d.plan (records_of d.moves) (records_of after.moves) (collects_logs count d time (Err refused.Memory) after h works)) (may_want tells kept sure files first after heard) (λ going. absurd going) u
+      (run_on_drop d.plan (records_of d.moves) (records_of after.moves) (collects_logs count d time (Err refused.Memory) after h)) (may_want tells kept sure files first after heard) (λ going. absurd going) u

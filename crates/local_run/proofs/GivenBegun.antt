@@ -59,7 +59,7 @@ module _ {S : Type 0} (trust : Type 0) (gives : Function) (may_fail : Job → Fa
       let works : IsFine mid.trouble = subst IsFine (sym (ap (λ (a : DeskState S). a.trouble) same)) fine in
       stands_on trust gives may_fail sources tells kept sure files may_leave moment images_since away first d mid held waiting loose heard None None
       (reads_goes trust gives may_fail sources tells files may_leave moment images_since (Unit {0}) d mid r fine same others)
-      (λ still. ap (λ (a : DeskState S). records_of a.moves) same) (works, ap (λ (a : DeskState S). a.stop) same ∙ u.stopped.1) (λ going. (tt, works)) u
+      (ap (λ (a : DeskState S). records_of a.moves) same) (works, ap (λ (a : DeskState S). a.stop) same ∙ u.stopped.1) (λ going. tt) u
 
   -- why a run may stop at an input
   pub refused_stops : (A : Type 0) (d mid : DeskState S) (heard : Tally) (why : InputRefused) → IsFine d.trouble → (let r : Result A InputRefused = Err why in ReadsOver d r mid)
@@ -81,7 +81,7 @@ module _ {S : Type 0} (trust : Type 0) (gives : Function) (may_fail : Job → Fa
   refused_on A first d mid held waiting loose heard why fine h others stops u =
       let r : Result A InputRefused = Err why in
       stands_on trust gives may_fail sources tells kept sure files may_leave moment images_since away first d mid held waiting loose heard None (Some (halt_by why))
-      (reads_goes trust gives may_fail sources tells files may_leave moment images_since A d mid r fine h others) (λ still. reads_moves d r mid h) stops (λ going. absurd going) u
+      (reads_goes trust gives may_fail sources tells files may_leave moment images_since A d mid r fine h others) (reads_moves d r mid h) stops (λ going. absurd going) u
 
   -- a claim at which the site failed
   pub broken_on : (count : S → ℕ) (first d after : DeskState S) (held : List Attempt) (waiting : List Start) (loose : Option Attempt) (heard : Tally) (halt : Option Halt) (link : LinkNo) (time before now : ℕ)
@@ -89,7 +89,7 @@ module _ {S : Type 0} (trust : Type 0) (gives : Function) (may_fail : Job → Fa
   broken_on count first d after held waiting loose heard halt link time before now others h u =
       stands_on trust gives may_fail sources tells kept sure files may_leave moment images_since away first d after held waiting loose heard halt (Some halts.Site)
       (claim_breaks trust gives may_fail sources tells files may_leave moment images_since count d after link time (unclaimed.Broken before now) others h)
-      (λ works. refused_same count d after link time (unclaimed.Broken before now) h works) (stops_site tells kept sure files first after heard (is_broken count d before now after h)) (λ going. absurd going) u
+      (refused_same count d after link time (unclaimed.Broken before now) h) (stops_site tells kept sure files first after heard (is_broken count d before now after h)) (λ going. absurd going) u
 
   -- or memory was wanting
   pub wanting_on : (count : S → ℕ) (first d after : DeskState S) (held : List Attempt) (waiting : List Start) (loose : Option Attempt) (heard : Tally) (halt : Option Halt) (link : LinkNo) (time : ℕ) → Alone d after.site
@@ -97,4 +97,4 @@ module _ {S : Type 0} (trust : Type 0) (gives : Function) (may_fail : Job → Fa
   wanting_on count first d after held waiting loose heard halt link time others h u =
       stands_on trust gives may_fail sources tells kept sure files may_leave moment images_since away first d after held waiting loose heard halt (Some halts.Memory)
       (claim_breaks trust gives may_fail sources tells files may_leave moment images_since count d after link time unclaimed.Memory others h)
-      (λ works. refused_same count d after link time unclaimed.Memory h works) (may_want tells kept sure files first after heard) (λ going. absurd going) u
+      (refused_same count d after link time unclaimed.Memory h) (may_want tells kept sure files first after heard) (λ going. absurd going) u

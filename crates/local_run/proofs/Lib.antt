@@ -40,3 +40,4 @@ pub mod AwayBegun
 pub mod AwayLeft
 pub mod Linked
 pub mod Sparing
+pub mod Added

@@ -59,7 +59,7 @@ module _ {S : Type 0} (trust : Type 0) (gives : Function) (may_fail : Job → Fa
         all = λ works. subst (λ (G : List Record). length (running_rules d.plan G) ≤ length held + loose_count loose + length away.attempts) same (u.all works);
         stopped = stopped_on tells kept sure files first d now heard heard halt refl refl (omega arith) (λ why told damaged apart. subst (λ (G : List Record). IsFoundDamaged d.plan G (files d.site) why) same (damaged apart)) u.stopped;
         failures = λ works. ap failed_count (sym same) ∙ u.failures works;
-        unended = λ works unended. ap has_ended (sym same) ∙ u.unended works unended;
+        unended = λ unended. ap has_ended (sym same) ∙ u.unended unended;
         never = u.never;
         due = λ going is smooth. subst (λ (G : List Record). records_due d.plan G ≤ records_due first.plan (records_of first.moves) + length held + loose_count loose + length away.attempts) same (u.due going is smooth);
       }

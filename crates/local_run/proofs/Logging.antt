@@ -18,6 +18,7 @@ use Rattle.flow_types.specs.declared.records.Record.TheVariants as records
 use Rattle.run_history.specs.declared.answers.Check.{Check}
 use Rattle.run_history.specs.declared.answers.Stop.{Stop}
 use Rattle.run_history.specs.Answers.{has_ended, logged_end}
+use Rattle.run_history.specs.History.{is_cleaned, is_end, is_opening}
 use Rattle.run_history.specs.Laws.{IsPresent, started_as}
 use Rattle.run_history.specs.Links.{records_of}
 use Rattle.run_history.specs.States.{file_state, outs_of, running_in}
@@ -49,6 +50,7 @@ use Rattle.local_run.specs.declared.halt.Halt.TheVariants as halts
 use Rattle.local_run.specs.Course.{Closed, FailsBy, GivesUp, IsBroken, IsGivenUp}
 use Rattle.local_run.specs.Ends.{IsApart, IsDamaged, IsFoundDamaged, IsSureHalt, IsWholeHalt, LogsFailures, failed_count}
 use Rattle.local_run.specs.Jobs.{IsRefusedDamage, IsWholeInput, ReadsOver, halt_by}
+use Rattle.local_run.proofs.Closings.{breaks_same, lacks_same, spares_same}
 use Rattle.local_run.proofs.Failures.{logs_plain}
 use Rattle.local_run.proofs.Fresh.{unended_by}
 
@@ -69,6 +71,20 @@ pub closes_logs : {S : Type 0} (count : S → ℕ) (d mid : DeskState S) (k : Op
 closes_logs {S} count d mid k rule number link x r after same runs h =
     closes_by count d k rule number link x r after runs (subst (λ (m : DeskState S). Closes count m rule number link x r after) same h)
 
+unended_closing : {S : Type 0} (count : S → ℕ) (d : DeskState S) (k : Option Stop) (rule : RuleNo) (number : AttemptNo) (link : LinkNo) (x : Record) (r : Result (Unit {0}) CloseRefused) (after : DeskState S)
+    → is_cleaned x ≡ false → is_opening x ≡ false → is_end x ≡ false → Closes count (record d { stop = k }) rule number link x r after → has_ended (records_of d.moves) ≡ false → has_ended (records_of after.moves) ≡ false
+unended_closing {S} count d k rule number link x (Ok done) after more stays goes h unended =
+    unended_by (records_of d.moves) (records_of after.moves) x (ap (λ (a : DeskState S). records_of a.moves) h.2 ∙ records-push d.moves x) more stays goes unended
+unended_closing {S} count d k rule number link x (Err (unclosed.Stale named state)) after more stays goes h unended = ap (λ (a : DeskState S). has_ended (records_of a.moves)) h.4 ∙ unended
+unended_closing count d k rule number link x (Err (unclosed.Broken before now)) after more stays goes h unended = ap has_ended (breaks_same count (record d { stop = k }) before now after h) ∙ unended
+unended_closing count d k rule number link x (Err unclosed.Memory) after more stays goes h unended = ap has_ended (lacks_same (record d { stop = k }) after h) ∙ unended
+
+-- it ends no run, whether or not the desk works on
+pub closes_unended : {S : Type 0} (count : S → ℕ) (d mid : DeskState S) (k : Option Stop) (rule : RuleNo) (number : AttemptNo) (link : LinkNo) (x : Record) (r : Result (Unit {0}) CloseRefused) (after : DeskState S)
+    → mid ≡ record d { stop = k } → is_cleaned x ≡ false → is_opening x ≡ false → is_end x ≡ false → Closes count mid rule number link x r after → has_ended (records_of d.moves) ≡ false → has_ended (records_of after.moves) ≡ false
+closes_unended {S} count d mid k rule number link x r after same more stays goes h =
+    unended_closing count d k rule number link x r after more stays goes (subst (λ (m : DeskState S). Closes count m rule number link x r after) same h)
+
 -- none by the reading of inputs
 pub reads_moves : {S A : Type 0} (d : DeskState S) (r : Result A InputRefused) (after : DeskState S) → ReadsOver d r after → records_of after.moves ≡ records_of d.moves
 reads_moves {S} d (Ok inputs) after h = ap (λ (a : DeskState S). records_of a.moves) h
@@ -84,13 +100,9 @@ pub taken_plan : {S : Type 0} (count : S → ℕ) (d after : DeskState S) (attem
 taken_plan {S} count d after attempt link moment h = ap (λ (a : DeskState S). a.plan) h.2.5
 
 -- a claim that is refused
-pub refused_same : {S : Type 0} (count : S → ℕ) (d after : DeskState S) (link : LinkNo) (moment : ℕ) (why : ClaimRefused) → Claims count d link moment (Err why) after → IsFine after.trouble
-    → records_of after.moves ≡ records_of d.moves
-refused_same {S} count d after link moment (unclaimed.Broken before now) h fine =
-    ⊎_elim (λ was. absurd (subst IsFine (ap (λ (a : DeskState S). a.trouble) was.1 ∙ was.0) fine)) (λ new. absurd (subst IsFine (ap (λ (a : DeskState S). a.trouble) new.5) fine)) h
-refused_same {S} count d after link moment unclaimed.Memory h fine =
-    ⊎_elim (λ lacks. ⊎_elim (λ was. absurd (subst IsFine (ap (λ (a : DeskState S). a.trouble) was.1 ∙ was.0) fine)) (λ new. absurd (subst IsFine (ap (λ (a : DeskState S). a.trouble) new.1) fine)) lacks)
-    (λ same. ap (λ (a : DeskState S). records_of a.moves) same.1) h
+pub refused_same : {S : Type 0} (count : S → ℕ) (d after : DeskState S) (link : LinkNo) (moment : ℕ) (why : ClaimRefused) → Claims count d link moment (Err why) after → records_of after.moves ≡ records_of d.moves
+refused_same count d after link moment (unclaimed.Broken before now) h = breaks_same count d before now after h
+refused_same count d after link moment unclaimed.Memory h = spares_same d after h
 
 -- by the end of a run no failed command is logged
 ends_kind : {S : Type 0} (d : DeskState S) (moment : ℕ) (kind : Option EndKind) (after : DeskState S) → EndsBy kind d moment after → failed_count (records_of after.moves) ≡ failed_count (records_of d.moves)

@@ -117,7 +117,7 @@ module _ {S : Type 0} (trust : Type 0) (gives : Function) (may_fail : Job → Fa
     all = λ works. idle;
     stopped = (fine, refl);
     failures = λ works. omega arith;
-    unended = λ works unended. unended;
+    unended = λ unended. unended;
     never = λ is. refl;
     due = λ going is smooth. omega arith;
   }
@@ -143,7 +143,7 @@ module _ {S : Type 0} (trust : Type 0) (gives : Function) (may_fail : Job → Fa
     later = omega arith;
     risen = omega arith;
     failed = λ works unwanting. absurd (unwanting tt);
-    unended = λ works unended. unended;
+    unended = λ unended. unended;
     due = tt;
     none = tt;
     rests = tt;

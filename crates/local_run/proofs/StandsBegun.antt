@@ -111,7 +111,7 @@ module _ {S : Type 0} (trust : Type 0) (gives : Function) (may_fail : Job → Fa
 
   -- a call behind which what ran runs on
   pub runs_on : (first d after : DeskState S) (held : List Attempt) (waiting : List Start) (loose : Option Attempt) (heard : Tally) (halt next : Option Halt) → Goes d after
-      → (IsFine after.trouble → RunOn d.plan (records_of d.moves) (records_of after.moves)) → StoppedBy tells kept sure files first after heard next
+      → RunOn d.plan (records_of d.moves) (records_of after.moves) → StoppedBy tells kept sure files first after heard next
       → (IsGoing next → IsGoing halt × (records_due after.plan (records_of after.moves) ≤ records_due d.plan (records_of d.moves)))
       → Under first d held waiting loose heard halt → Under first after held waiting loose heard next
   runs_on first d after held waiting loose heard halt next goes on stops dues u =
@@ -119,7 +119,7 @@ module _ {S : Type 0} (trust : Type 0) (gives : Function) (may_fail : Job → Fa
       let all = records_of after.moves in
       let fine : Type 0 = IsFine d.trouble in
       let later : Type 0 = IsFine after.trouble in
-      let each : AllRunOn d.plan fine H later all = λ a at. record { rule = at.rule; runs = λ works. (on works).runs a.rule.0 a.number.0 a.link.0 (at.runs (goes.works works)) } in
+      let each : AllRunOn d.plan fine H later all = λ a at. record { rule = at.rule; runs = λ works. on.runs a.rule.0 a.number.0 a.link.0 (at.runs (goes.works works)) } in
       record {
         goes = goes_on trust gives may_fail sources tells files may_leave moment images_since away.links first d after u.goes goes;
         matches = subst (λ (P : Plan). Matches P later all trust (serial P gives sources) held waiting) (sym goes.plan) (matches_on d.plan fine later H all trust (serial d.plan gives sources) held waiting each u.matches);
@@ -129,21 +129,21 @@ module _ {S : Type 0} (trust : Type 0) (gives : Function) (may_fail : Job → Fa
             (away_on d.plan fine later d.moves after.moves held held loose loose away.attempts
             (λ a at unheld other. (runs_away_on d.plan fine later d.moves after.moves goes.passed a goes.moves (each a) at, unheld, other)) u.beyond);
         all = λ works.
-            let count = (on works).count in let was = u.all (goes.works works) in let same = ap (λ (P : Plan). length (running_rules P all)) goes.plan in omega (arith, count, was, same);
+            let count = on.count in let was = u.all (goes.works works) in let same = ap (λ (P : Plan). length (running_rules P all)) goes.plan in omega (arith, count, was, same);
         stopped = stops;
-        failures = λ works. (on works).failed ∙ u.failures (goes.works works);
-        unended = λ works unended. (on works).unended (u.unended (goes.works works) unended);
+        failures = λ works. on.failed ∙ u.failures (goes.works works);
+        unended = λ unended. on.unended (u.unended unended);
         never = u.never;
         due = λ going sure smooth. let both = dues going in let less = both.1 in let was = u.due both.0 sure smooth in omega (arith, less, was);
       }
 
   -- a call that adds no record
   pub stands_on : (first d after : DeskState S) (held : List Attempt) (waiting : List Start) (loose : Option Attempt) (heard : Tally) (halt next : Option Halt) → Goes d after
-      → (IsFine after.trouble → records_of after.moves ≡ records_of d.moves) → StoppedBy tells kept sure files first after heard next
-      → (IsGoing next → IsGoing halt × IsFine after.trouble) → Under first d held waiting loose heard halt → Under first after held waiting loose heard next
+      → records_of after.moves ≡ records_of d.moves → StoppedBy tells kept sure files first after heard next
+      → (IsGoing next → IsGoing halt) → Under first d held waiting loose heard halt → Under first after held waiting loose heard next
   stands_on first d after held waiting loose heard halt next goes same stops going u =
-      runs_on first d after held waiting loose heard halt next goes (λ works. run_on_same d.plan (records_of d.moves) (records_of after.moves) (same works)) stops
-      (λ further. let both = going further in (both.0, due_same (same both.1))) u
+      runs_on first d after held waiting loose heard halt next goes (run_on_same d.plan (records_of d.moves) (records_of after.moves) same) stops
+      (λ further. (going further, due_same same)) u
     where
       due_same : records_of after.moves ≡ records_of d.moves → records_due after.plan (records_of after.moves) ≤ records_due d.plan (records_of d.moves)
       due_same are =

@@ -37,9 +37,9 @@ use Rattle.local_run.proofs.Alone.{alone_same, log_alone, outputs_alone}
 use Rattle.local_run.proofs.Beyond.{away_on, runs_away_on}
 use Rattle.local_run.proofs.Closings.{closes_goes}
 use Rattle.local_run.proofs.Elsewhere.{named_unlinked, runs_started_away}
-use Rattle.local_run.proofs.Fresh.{due_done, unended_by}
+use Rattle.local_run.proofs.Fresh.{due_done}
 use Rattle.local_run.proofs.Going.{adds_plain, goes_on}
-use Rattle.local_run.proofs.Logging.{closes_logs, unfinished}
+use Rattle.local_run.proofs.Logging.{closes_logs, closes_unended, unfinished}
 use Rattle.local_run.proofs.RunsClosed.{Ending, IsClosed, closed_fine, damage_on, matches_on, still_runs, worked_or_same}
 
 -- one where it is so
@@ -143,7 +143,7 @@ module _ {S : Type 0} (trust : Type 0) (gives : Function) (may_fail : Job → Fa
             let more : count_by is_failed (H ++ (x ∷ [])) ≡ count_by is_failed H + count_one (is_failed x) = count-push is_failed H x in
             let are : failed_count G ≡ count_by is_failed (H ++ (x ∷ [])) = ap failed_count (logs fine) in
             omega (arith, was, more, are, counted);
-        unended = λ fine none. unended_by H G x (logs fine) ending.closes.stays ending.closes.opens ending.ends (u.unended (goes.works fine) none);
+        unended = λ none. closes_unended count d mid k a.rule a.number a.link x r after same ending.closes.stays ending.closes.opens ending.ends h (u.unended none);
         never = λ is. never is (u.never is);
         due = λ going is smooth.
             let both = due going in

@@ -1,9 +1,10 @@
 -- From the last claim of a run to its end.
-use Rattle.std.proofs.Common.{◌≡◌, ◌≤◌, ◌<◌, ◌+◌, ◌∙◌, ℕ, false, List, ◌++◌, length, Option, Some, None, Ok, Err, sym, ap, subst, arith}
+use Rattle.std.proofs.Common.{◌≡◌, ◌≤◌, ◌<◌, ◌+◌, ◌∙◌, ℕ, false, List, ◌++◌, length, Option, Some, None, Result, Ok, Err, sym, ap, subst, arith}
 use Rattle.std.specs.Prelude.{filter, find}
 use Rattle.flow_types.specs.declared.plan.Plan.{Plan}
 use Rattle.flow_types.specs.declared.job.Job.{Job}
 use Rattle.flow_types.specs.declared.job.Failure.{Failure}
+use Rattle.flow_types.specs.declared.records.Record.{Record}
 use Rattle.flow_types.specs.Plans.{IsValid, is_empty, rule_numbers}
 use Rattle.flow_types.specs.Serial.{Contents, Function}
 use Rattle.run_history.specs.declared.moves.Move.{Move}
@@ -22,13 +23,18 @@ use Rattle.outside.specs.Files.{Files}
 use Rattle.desk.specs.Ends.{Ends}
 use Rattle.desk.specs.Kept.{Fits, IsLegal, Keeps}
 use Rattle.desk.specs.State.{DeskState}
+use Rattle.local_run.specs.declared.ended.Stopped.{Stopped}
+use Rattle.local_run.specs.declared.ended.Stopped.TheVariants as stopped
+use Rattle.local_run.specs.declared.halt.Halt.{Halt}
+use Rattle.local_run.specs.Added.{RunAdds}
 use Rattle.local_run.specs.Completing.{SerialInputsFit}
 use Rattle.local_run.specs.Course.{GoesOn, HasNothing}
 use Rattle.local_run.specs.Ends.{FitsHere, HasFailed, IsCompleteEnd, IsFresh, IsRunEnd, LogsFailures, records_due}
+use Rattle.local_run.proofs.Added.{adds_end, adds_none, end_logs, halted_none}
 use Rattle.local_run.proofs.Completed.{completes_so, inputs_fit}
 use Rattle.local_run.proofs.EndKinds.{Rests, ends_so, least_says, over_says, unended_over}
 use Rattle.local_run.proofs.Failures.{failed_rose}
-use Rattle.local_run.proofs.Fresh.{empty_from, limit_more}
+use Rattle.local_run.proofs.Fresh.{empty_from, fresh_unended, limit_more}
 use Rattle.local_run.proofs.Going.{goes_records}
 
 module _ {S : Type 0} (trust : Type 0) (gives : Function) (may_fail : Job → Failure → Type 0) (sources : Contents) (tells : Type 0) (files : S → Files) (may_leave : S → Outcomes) (moment : S → ℕ)
@@ -92,3 +98,23 @@ module _ {S : Type 0} (trust : Type 0) (gives : Function) (may_fail : Job → Fa
       (completes_so mid.plan mid.options mid.moves rests (fits_still here)
       (λ r found. let rose = rose_at before now fresh logs r found in let wrong : ⊥ = omega (arith, rose, same) in wrong)
       (inputs_fit trust mid.plan gives sources mid.log (records_of mid.moves) image trusted keeps (subst (λ (P : Plan). SerialInputsFit P gives sources) (sym goes.plan) fit)) idle (omega (arith, due, few))))
+
+  -- ---- what was added
+
+  unended_at : IsFresh d.options.limit (records_of d.moves) → (has_ended (records_of d.moves) ≡ false → has_ended (records_of mid.moves) ≡ false) → has_ended (records_of mid.moves) ≡ false
+  unended_at fresh still = still (fresh_unended d.options.limit (records_of d.moves) fresh)
+
+  -- a run that stopped has no Ended
+  pub stopped_at : (halt : Halt) (after : DeskState S) → IsFresh d.options.limit (records_of d.moves) → (has_ended (records_of d.moves) ≡ false → has_ended (records_of mid.moves) ≡ false)
+      → records_of after.moves ≡ records_of mid.moves → RunAdds (records_of d.moves) (records_of after.moves) (Err (stopped.Halted halt))
+  stopped_at halt after fresh still same =
+      let H = records_of d.moves in
+      let how : Result Check Stopped = Err (stopped.Halted halt) in
+      subst (λ (G : List Record). RunAdds H G how) (sym same) (adds_none H (records_of mid.moves) goes.more how (halted_none halt) grown goes.anew (unended_at fresh still))
+
+  -- and one that came to its end has that of its answer
+  pub ended_at : (count : S → ℕ) (time : ℕ) (check : Check) (after : DeskState S) → IsFresh d.options.limit (records_of d.moves) → (has_ended (records_of d.moves) ≡ false → has_ended (records_of mid.moves) ≡ false)
+      → Ends count mid time (Ok check) after → RunAdds (records_of d.moves) (records_of after.moves) (Ok check)
+  ended_at count time check after fresh still h =
+      let unended = unended_at fresh still in
+      adds_end (records_of d.moves) (records_of mid.moves) (records_of after.moves) goes.more time check grown goes.anew unended (end_logs count mid time check after unended h)

@@ -11,3 +11,4 @@ pub mod Losses
 pub mod Completing
 pub mod Laws
 pub mod Calls
+pub mod Added

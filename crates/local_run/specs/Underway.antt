@@ -192,7 +192,7 @@ pub record Underway {S : Type 0} (trust : Type 0) (gives : Function) (may_fail :
   pub all : IsFine now.trouble → length (running_rules now.plan (records_of now.moves)) ≤ length held + loose_count loose + length away.attempts
   pub stopped : StoppedBy tells kept sure files d now heard halt
   pub failures : IsFine now.trouble → failed_count (records_of now.moves) ≡ failed_count (records_of d.moves) + heard.failed + away.failed
-  pub unended : IsFine now.trouble → has_ended (records_of d.moves) ≡ false → has_ended (records_of now.moves) ≡ false
+  pub unended : has_ended (records_of d.moves) ≡ false → has_ended (records_of now.moves) ≡ false
   pub never : sure → heard.failed ≡ 0
   pub due : IsGoing halt → sure → IsSmooth away → records_due now.plan (records_of now.moves) ≤ records_due d.plan (records_of d.moves) + length held + loose_count loose + length away.attempts
 
@@ -209,7 +209,7 @@ pub record ComesTo {S A : Type 0} (trust : Type 0) (gives : Function) (may_fail 
   pub later : count ≤ count_now
   pub risen : failures ≤ failures_now
   pub failed : IsFine after.trouble → (IsWant result → ⊥) → LogsFailures (records_of d.moves) (records_of after.moves) failures failures_now
-  pub unended : IsFine after.trouble → has_ended (records_of d.moves) ≡ false → has_ended (records_of after.moves) ≡ false
+  pub unended : has_ended (records_of d.moves) ≡ false → has_ended (records_of after.moves) ≡ false
   pub due : OnOk result (sure → records_due after.plan (records_of after.moves) ≤ records_due d.plan (records_of d.moves))
   pub none : OnOk result (sure → failures_now ≡ failures)
   pub rests : OnOk result (HasNothing after)

@@ -9,6 +9,7 @@ ghost use Rattle.run_history.specs.Links.{records_of};
 ghost use Rattle.run_history.specs.Storage.{running_rules};
 ghost use Rattle.worker_pool.specs.Crews.{AllSure, AllTell};
 ghost use Rattle.desk.specs.State.{IsFine};
+ghost use Rattle.local_run.specs.Added.{RunAdds};
 ghost use Rattle.local_run.specs.Completing.{SerialInputsFit};
 ghost use Rattle.local_run.specs.Course.{Closed, GoesOn, HaltsBy, TellsJobs};
 ghost use Rattle.local_run.specs.Ends.{FitsHere, HasFailed, IsApart, IsCompleteEnd, IsFresh};
@@ -87,6 +88,8 @@ pub fn work<
     ensures ends { IfOk result (λ check. desk.new.stop ≡ None
         → check ≡ end_over desk.new.plan desk.new.options
         (before_end (records_of desk.new.moves)) None) }
+    ensures added { IsFresh desk.old.options.limit (records_of desk.old.moves)
+        → RunAdds (records_of desk.old.moves) (records_of desk.new.moves) (ended_by result) }
 {
     match serve_all(rt, alloc, desk, runners, gate, clock) {
         Ok(()) => {}

@@ -41,7 +41,7 @@ use Rattle.wq_run.specs.Ends.{IsOver, LosesOnLinks}
 use Rattle.wq_run.specs.Calm.{AddsWell}
 use Rattle.wq_run.specs.Works.{EndsAt, HaltedBy, HasEnd}
 
-not_cleaned : (check : Check) (kind : EndKind) → kind_of check ≡ Some kind → is_cleaned_kind kind ≡ false
+pub not_cleaned : (check : Check) (kind : EndKind) → kind_of check ≡ Some kind → is_cleaned_kind kind ≡ false
 not_cleaned checks.Going kind is = absurd (true≢false (sym (ap is_some is)))
 not_cleaned checks.Halted kind is = absurd (true≢false (sym (ap is_some is)))
 not_cleaned (checks.Complete collected) kind is = ap is_cleaned_kind (ap (λ o. unwrap_or o kind) (sym is))

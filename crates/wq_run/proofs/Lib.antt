@@ -12,6 +12,7 @@ pub mod Visits
 pub mod Steps
 pub mod Companies
 pub mod Ending
+pub mod Added
 pub mod Services
 pub mod Working
 pub mod Trusts

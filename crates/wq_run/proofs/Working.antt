@@ -42,8 +42,9 @@ use Rattle.local_run.specs.Links.{link_moves}
 use Rattle.wq_run.proofs.Shares.{seats_live}
 use Rattle.wq_run.specs.Seats.{AreSeats, CompanyState, Meets, SeatState, back_under, inside_of, links_in, one_under, seats_under}
 use Rattle.peers.specs.States.{PeerState}
-use Rattle.wq_run.specs.Works.{EndedBy, EndsNow, HaltedBy, HasEnd, IsOn, Rounds, TurnsTo, Works, with_check}
+use Rattle.wq_run.specs.Works.{EndedBy, EndsNow, HaltedBy, HasEnd, IsOn, Rounds, TurnAdds, TurnsTo, Works, with_check}
 use Rattle.wq_run.proofs.Services.{halt_by_count}
+use Rattle.wq_run.proofs.Added.{Quietly, adds_none, adds_then, goes_quietly, run_halted, run_then, turn_then, with_adds}
 
 -- ---- why it stopped
 
@@ -155,13 +156,19 @@ module _ {S : Type 0} (trust : Type 0) (gives : Function) (may_fail : Job → Fa
   -- ---- a round
 
   pub is_on : (sure : Type 0) (d after : DeskState S) (count count_now failures failures_now : ℕ) → (let done : Result (Unit {0}) Halt = Ok tt in OnBy sure d after count count_now failures failures_now done) → IsOn d → IsOn after
-  is_on sure d after count count_now failures failures_now came on = record { fine = came.closed.0; unset = came.closed.1 ∙ on.unset; unended = came.unended came.closed.0 on.unended }
+  is_on sure d after count count_now failures failures_now came on = record { fine = came.closed.0; unset = came.closed.1 ∙ on.unset; unended = came.unended on.unended }
+
+  -- what was served ends nothing
+  quietly_on : (sure : Type 0) (d after : DeskState S) (count count_now failures failures_now : ℕ) (came : Result (Unit {0}) Halt) → OnBy sure d after count count_now failures failures_now came → IsOn d → Quietly (records_of d.moves) (records_of after.moves)
+  quietly_on sure d after count count_now failures failures_now came on begun =
+      goes_quietly trust gives may_fail sources tells files may_leave moment images_since on.links d after on.goes (on.unended begun.unended)
 
   -- what was served, told as a round's
   pub round_by : (sure : Type 0) (limit : ℕ) (d after : DeskState S) (count count_now failures failures_now hall hall_now idles idles_now : ℕ) (came : Result (Unit {0}) Halt) (result : Result Turn Stopped)
-      → OnBy sure d after count count_now failures failures_now came → hall ≤ hall_now → idles ≤ idles_now → TurnsTo tells kept sure files limit after count count_now hall hall_now idles idles_now result
+      → OnBy sure d after count count_now failures failures_now came → IsOn d → hall ≤ hall_now → idles ≤ idles_now → TurnsTo tells kept sure files limit after count count_now hall hall_now idles idles_now result
+      → (Quietly (records_of d.moves) (records_of after.moves) → TurnAdds (records_of d.moves) (records_of after.moves) result)
       → RoundBy sure limit d after count count_now failures failures_now hall hall_now idles idles_now result
-  round_by sure limit d after count count_now failures failures_now hall hall_now idles idles_now came result on met looks turn = record {
+  round_by sure limit d after count count_now failures failures_now hall hall_now idles idles_now came result on begun met looks turn adds = record {
     links = on.links;
     goes = on.goes;
     idle = on.idle;
@@ -170,14 +177,15 @@ module _ {S : Type 0} (trust : Type 0) (gives : Function) (may_fail : Job → Fa
     met = met;
     looks = looks;
     turn = turn;
+    adds = adds (quietly_on sure d after count count_now failures failures_now came on begun);
   }
 
   pub round_halted : (sure : Type 0) (limit : ℕ) (d after : DeskState S) (count count_now failures failures_now hall hall_now idles idles_now : ℕ) (why : Halt)
-      → (let stop : Result (Unit {0}) Halt = Err why in OnBy sure d after count count_now failures failures_now stop) → hall ≤ hall_now → idles ≤ idles_now
+      → (let stop : Result (Unit {0}) Halt = Err why in OnBy sure d after count count_now failures failures_now stop) → IsOn d → hall ≤ hall_now → idles ≤ idles_now
       → RoundBy sure limit d after count count_now failures failures_now hall hall_now idles idles_now (Err (stopped.Halted why))
-  round_halted sure limit d after count count_now failures failures_now hall hall_now idles idles_now why on met looks =
-      round_by sure limit d after count count_now failures failures_now hall hall_now idles idles_now (Err why) (Err (stopped.Halted why)) on met looks
-      (record { is = on.halts; damage = on.damage; whole = on.whole; never = on.never })
+  round_halted sure limit d after count count_now failures failures_now hall hall_now idles idles_now why on begun met looks =
+      round_by sure limit d after count count_now failures failures_now hall hall_now idles idles_now (Err why) (Err (stopped.Halted why)) on begun met looks
+      (record { is = on.halts; damage = on.damage; whole = on.whole; never = on.never }) (run_halted (records_of d.moves) (records_of after.moves) why)
 
   -- the run was ended, or stopped in that
   pub round_over : (sure : Type 0) (limit : ℕ) (d mid after : DeskState S) (count count_now failures failures_now hall hall_now idles idles_now : ℕ) (check : Check)
@@ -215,6 +223,7 @@ module _ {S : Type 0} (trust : Type 0) (gives : Function) (may_fail : Job → Fa
             },
           ),
         );
+        adds = run_then (records_of d.moves) (records_of mid.moves) (records_of after.moves) (Ok check) (quietly_on sure d mid count count_now failures failures_now (Ok tt) came on) ends.adds;
       }
 
   end_turns : (sure : Type 0) (limit : ℕ) (d after : DeskState S) (count count_now hall hall_now idles idles_now : ℕ) (why : Stopped) → count ≤ count_now → HasEnd tells kept files d after (Err why)
@@ -224,9 +233,9 @@ module _ {S : Type 0} (trust : Type 0) (gives : Function) (may_fail : Job → Fa
   end_turns sure limit d after count count_now hall hall_now idles idles_now stopped.Hall less h = absurd h
 
   pub round_unended : (sure : Type 0) (limit : ℕ) (d mid after : DeskState S) (count count_now failures failures_now hall hall_now idles idles_now : ℕ) (came : Result (Unit {0}) Halt) (why : Stopped)
-      → OnBy sure d mid count count_now failures failures_now came → hall ≤ hall_now → idles ≤ idles_now → EndBy mid after (Err why)
+      → OnBy sure d mid count count_now failures failures_now came → IsOn d → hall ≤ hall_now → idles ≤ idles_now → EndBy mid after (Err why)
       → RoundBy sure limit d after count count_now failures failures_now hall hall_now idles idles_now (Err why)
-  round_unended sure limit d mid after count count_now failures failures_now hall hall_now idles idles_now came why on met looks ends = record {
+  round_unended sure limit d mid after count count_now failures failures_now hall hall_now idles idles_now came why on begun met looks ends = record {
     links = on.links;
     goes = goes_on trust gives may_fail sources tells files may_leave moment images_since on.links d mid after on.goes ends.goes;
     idle = ends.idle;
@@ -235,14 +244,15 @@ module _ {S : Type 0} (trust : Type 0) (gives : Function) (may_fail : Job → Fa
     met = met;
     looks = looks;
     turn = end_turns sure limit mid after count count_now hall hall_now idles idles_now why on.later ends.ends;
+    adds = run_then (records_of d.moves) (records_of mid.moves) (records_of after.moves) (Err why) (quietly_on sure d mid count count_now failures failures_now came on begun) ends.adds;
   }
 
   -- a wait behind what was served
   pub round_waits : (sure : Type 0) (limit : ℕ) (d mid e after : DeskState S) (count count_now failures failures_now hall hall_mid hall_now idles idles_mid idles_now : ℕ) (came : Result (Unit {0}) Halt) (result : Result Turn Stopped)
-      → OnBy sure d mid count count_now failures failures_now came → e ≡ mid → hall ≤ hall_mid → idles ≤ idles_mid
+      → OnBy sure d mid count count_now failures failures_now came → IsOn d → e ≡ mid → hall ≤ hall_mid → idles ≤ idles_mid
       → RoundBy (Unit {0}) limit e after count_now count_now failures_now failures_now hall_mid hall_now idles_mid idles_now result
       → RoundBy sure limit d after count count_now failures failures_now hall hall_now idles idles_now result
-  round_waits sure limit d mid e after count count_now failures failures_now hall hall_mid hall_now idles idles_mid idles_now came result on same met looks r =
+  round_waits sure limit d mid e after count count_now failures failures_now hall hall_mid hall_now idles idles_mid idles_now came result on begun same met looks r =
       record {
         links = on.links ++ r.links;
         goes = goes_then trust gives may_fail sources tells files may_leave moment images_since on.links r.links d mid after on.goes (subst (λ (x : DeskState S). GoesBy r.links x after) same r.goes);
@@ -252,6 +262,8 @@ module _ {S : Type 0} (trust : Type 0) (gives : Function) (may_fail : Job → Fa
         met = (let more = r.met in omega (arith, met, more));
         looks = (let more = r.looks in omega (arith, looks, more));
         turn = turns_more (Unit {0}) sure limit after count count_now count_now hall hall_mid hall_now idles idles_mid idles_now result (λ is. tt) on.later met looks r.turn;
+        adds = turn_then (records_of d.moves) (records_of mid.moves) (records_of after.moves) result (quietly_on sure d mid count count_now failures failures_now came on begun)
+            (subst (λ (x : DeskState S). TurnAdds (records_of x.moves) (records_of after.moves) result) same r.adds);
       }
 
   -- ---- all rounds
@@ -261,6 +273,7 @@ module _ {S : Type 0} (trust : Type 0) (gives : Function) (may_fail : Job → Fa
     pub links : List Move
     pub goes : GoesBy links d now
     pub on : IsOn now
+    pub adds : Quietly (records_of d.moves) (records_of now.moves)
     pub idle : length (running_rules now.plan (records_of now.moves)) ≤ 0
     pub valid : IsValid now.plan
     pub later : count ≤ count_now
@@ -277,6 +290,7 @@ module _ {S : Type 0} (trust : Type 0) (gives : Function) (may_fail : Job → Fa
     links = [];
     goes = goes_here d d.stop on.unset only_now;
     on = on;
+    adds = adds_none (records_of d.moves);
     idle = idle;
     valid = valid;
     later = omega arith;
@@ -289,6 +303,7 @@ module _ {S : Type 0} (trust : Type 0) (gives : Function) (may_fail : Job → Fa
     links = s.links ++ r.links;
     goes = goes_then trust gives may_fail sources tells files may_leave moment images_since s.links r.links d mid after s.goes r.goes;
     on = on;
+    adds = adds_then (records_of d.moves) (records_of mid.moves) (records_of after.moves) None s.adds (goes_quietly trust gives may_fail sources tells files may_leave moment images_since r.links mid after r.goes on.unended);
     idle = r.idle on.fine;
     valid = subst IsValid (sym r.goes.plan) s.valid;
     later = (let a = s.later in let b = r.later in omega (arith, a, b));
@@ -327,6 +342,7 @@ module _ {S : Type 0} (trust : Type 0) (gives : Function) (may_fail : Job → Fa
         looks = (let b = r.looks in omega (arith, looks, b));
         ended = ended_more sure more limit after count count_mid count_now hall hall hall_now idles idles_mid idles_now (Ok check) so s.later (omega arith) looks r.turn.1;
         lost = lost_goes (s.links ++ r.links) d after goes r.turn.0;
+        adds = run_then (records_of d.moves) (records_of mid.moves) (records_of after.moves) (Ok check) s.adds r.adds;
       }
 
   pub works_stopped : (sure more : Type 0) (limit : ℕ) (d mid after : DeskState S) (count count_mid count_now failures failures_mid failures_now hall hall_now idles idles_mid idles_now : ℕ) (why : Stopped) → (more → sure)
@@ -343,6 +359,7 @@ module _ {S : Type 0} (trust : Type 0) (gives : Function) (may_fail : Job → Fa
     looks = (let b = r.looks in omega (arith, looks, b));
     ended = ended_more sure more limit after count count_mid count_now hall hall hall_now idles idles_mid idles_now (Err why) so s.later (omega arith) looks r.turn;
     lost = tt;
+    adds = run_then (records_of d.moves) (records_of mid.moves) (records_of after.moves) (Err why) s.adds r.adds;
   }
 
   -- waiting was in vain
@@ -393,6 +410,7 @@ module _ {S : Type 0} (trust : Type 0) (gives : Function) (may_fail : Job → Fa
         looks = omega (arith, looks, later);
         ended = waits_by sure limit n d mid after count count_now hall hall_now idles idles_now result h.goes h.ends vain most (omega (arith, few, looks)) s.later;
         lost = waits_lost n s.links d mid after result s.goes s.on.unset h.ends;
+        adds = run_then (records_of d.moves) (records_of mid.moves) (records_of after.moves) result s.adds (with_adds (records_of mid.moves) (records_of after.moves) result h.adds);
       }
 
 -- the place where peers come failed since

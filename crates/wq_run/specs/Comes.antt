@@ -30,7 +30,7 @@ pub record ComesOn {S A : Type 0} (trust : Type 0) (gives : Function) (may_fail 
   pub never : IfErr result (λ why. sure → IsSureHalt why)
   pub later : count ≤ count_now
   pub risen : failures ≤ failures_now
-  pub unended : IsFine after.trouble → has_ended (records_of d.moves) ≡ false → has_ended (records_of after.moves) ≡ false
+  pub unended : has_ended (records_of d.moves) ≡ false → has_ended (records_of after.moves) ≡ false
 
 -- Nothing is held any more, here or at a worker, and why the run stopped is told.
 pub record Finished {S L : Type 0} (trust : Type 0) (gives : Function) (may_fail : Job → Failure → Type 0) (sources : Contents) (tells kept sure : Type 0) (files : S → Files) (may_leave : S → Outcomes) (moment : S → ℕ)

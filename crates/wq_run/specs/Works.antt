@@ -3,6 +3,7 @@ use Rattle.std.specs.Prelude.{◌≡◌, ◌≤◌, ◌<◌, ◌-◌, ℕ, true,
 use Rattle.std.specs.List.{list_all, list_any}
 use Rattle.flow_types.specs.declared.job.Job.{Job}
 use Rattle.flow_types.specs.declared.job.Failure.{Failure}
+use Rattle.flow_types.specs.declared.records.Record.{Record}
 use Rattle.flow_types.specs.Serial.{Contents, Function}
 use Rattle.run_history.specs.declared.answers.Check.{Check}
 use Rattle.run_history.specs.declared.answers.Stop.{Stop}
@@ -17,6 +18,7 @@ use Rattle.desk.specs.State.{DeskState, IsFine}
 use Rattle.local_run.specs.declared.ended.Stopped.{Stopped}
 use Rattle.local_run.specs.declared.ended.Stopped.TheVariants as stopped
 use Rattle.local_run.specs.declared.halt.Halt.{Halt}
+use Rattle.local_run.specs.Added.{AddsBehind, RunAdds}
 use Rattle.local_run.specs.Course.{GoesOn, IsHalt, begins_anew}
 use Rattle.local_run.specs.Ends.{IsApart, IsFoundDamaged, IsSureHalt, IsWholeHalt}
 use Rattle.local_run.specs.Links.{link_moves}
@@ -63,6 +65,13 @@ IsLast turns.Again = ⊥
 IsLast (turns.Vain n) = Unit {0}
 IsLast (turns.Over check) = Unit {0}
 
+-- What a round that tells this adds to these records: a run that ended adds so, and one that goes on no end.
+abbrev pub TurnAdds : List Record → List Record → Result Turn Stopped → Type 0
+TurnAdds H all (Ok turns.Again) = AddsBehind H all None
+TurnAdds H all (Ok (turns.Vain n)) = AddsBehind H all None
+TurnAdds H all (Ok (turns.Over check)) = RunAdds H all (Ok check)
+TurnAdds H all (Err why) = RunAdds H all (Err why)
+
 -- What a round of a run comes to, whose runners' and hall's counts rise so.
 pub record Rounds {S : Type 0} (trust : Type 0) (gives : Function) (may_fail : Job → Failure → Type 0) (sources : Contents) (tells kept sure : Type 0) (files : S → Files) (may_leave : S → Outcomes) (moment : S → ℕ)
     (images_since : S → ℕ → Files → Type 0) (limit : ℕ) (d after : DeskState S) (count count_now failures failures_now hall hall_now idles idles_now : ℕ) (result : Result Turn Stopped) : Type 0 where
@@ -74,6 +83,7 @@ pub record Rounds {S : Type 0} (trust : Type 0) (gives : Function) (may_fail : J
   pub met : hall ≤ hall_now
   pub looks : idles ≤ idles_now
   pub turn : TurnsTo tells kept sure files limit after count count_now hall hall_now idles idles_now result
+  pub adds : TurnAdds (records_of d.moves) (records_of after.moves) result
 
 -- What a whole run comes to.
 pub record Works {S : Type 0} (trust : Type 0) (gives : Function) (may_fail : Job → Failure → Type 0) (sources : Contents) (tells kept sure : Type 0) (files : S → Files) (may_leave : S → Outcomes) (moment : S → ℕ)
@@ -87,6 +97,7 @@ pub record Works {S : Type 0} (trust : Type 0) (gives : Function) (may_fail : Jo
   pub looks : idles ≤ idles_now
   pub ended : EndedBy tells kept sure files limit after count count_now hall hall_now idles idles_now result
   pub lost : OnOk result (LosesOnLinks (records_of d.moves) (records_of after.moves))
+  pub adds : RunAdds (records_of d.moves) (records_of after.moves) result
 
 -- The answer of an end, by the moves and the stop that it found: behind it stand these moves and perhaps the end.
 pub record EndsAt {S : Type 0} (after : DeskState S) (moves : List Move) (stop : Option Stop) (check : Check) : Type 0 where
@@ -111,12 +122,19 @@ HasEnd tells kept files d after (Err (stopped.Refused why)) = ⊥
 HasEnd tells kept files d after (Err (stopped.Halted halt)) = HaltedBy tells kept (Unit {0}) files after 0 0 halt
 HasEnd tells kept files d after (Err stopped.Hall) = ⊥
 
+-- What an end that tells this adds to these records: a run that ended adds so, and one that goes on no end.
+abbrev pub EndAdds : List Record → List Record → Result (Option Check) Stopped → Type 0
+EndAdds H all (Ok (Some check)) = RunAdds H all (Ok check)
+EndAdds H all (Ok None) = AddsBehind H all None
+EndAdds H all (Err why) = RunAdds H all (Err why)
+
 -- What the end of a run makes of the desk: it has ended, with no stop; or nothing changed; or it stopped.
 pub record EndsNow {S : Type 0} (trust : Type 0) (gives : Function) (may_fail : Job → Failure → Type 0) (sources : Contents) (tells kept : Type 0) (files : S → Files) (may_leave : S → Outcomes) (moment : S → ℕ)
     (images_since : S → ℕ → Files → Type 0) (d after : DeskState S) (result : Result (Option Check) Stopped) : Type 0 where
   pub goes : GoesOn trust gives may_fail sources tells files may_leave moment images_since [] d after
   pub idle : IsFine after.trouble → length (running_rules after.plan (records_of after.moves)) ≤ 0
   pub ends : HasEnd tells kept files d after result
+  pub adds : EndAdds (records_of d.moves) (records_of after.moves) result
 
 -- an end that was reached, as one that may be
 abbrev pub with_check : Result Check Stopped → Result (Option Check) Stopped

@@ -9,6 +9,7 @@ ghost use Rattle.run_history.specs.Moves.{joins_and_changes};
 ghost use Rattle.run_history.specs.Storage.{running_rules};
 ghost use Rattle.worker_pool.specs.Crews.{AllSure, AllTell};
 ghost use Rattle.desk.specs.State.{IsFine};
+ghost use Rattle.local_run.specs.Added.{RunAdds};
 ghost use Rattle.local_run.specs.Course.{GoesOn, TellsJobs};
 ghost use Rattle.local_run.specs.Ends.{IsApart, IsWholeRun, RunDamage};
 ghost use Rattle.local_run.specs.Runs.{IsCutRun};
@@ -69,6 +70,7 @@ pub fn work<
         S.files S.may_leave S.moment S.images_since links desk.old desk.new }
     ensures idle { IsFine desk.new.trouble
         → length (running_rules desk.new.plan (records_of desk.new.moves)) ≤ 0 }
+    ensures added { RunAdds (records_of desk.old.moves) (records_of desk.new.moves) result }
     ensures stops { StopsBy desk.new.trouble (sum_by R.count runners.old)
         (sum_by R.count runners.new) (H.count hall.old) (H.count hall.new) result }
     ensures later { sum_by R.count runners.old ≤ sum_by R.count runners.new }

@@ -1,12 +1,14 @@
-use Rattle.std.proofs.Common.{◌∙◌, [], arith}
+use Rattle.std.proofs.Common.{◌∙◌, [], refl, arith}
 use Rattle.std.specs.Prelude.{sum_by}
 use Rattle.run_history.specs.Links.{records_of}
+use Rattle.local_run.specs.declared.halt.Halt.TheVariants as halts
+use Rattle.local_run.proofs.Added.{end_same}
 use Rattle.local_run.proofs.Alone.{log_alone}
 use Rattle.local_run.proofs.Closings.{ends_goes, ends_idle, ends_over}
 use Rattle.local_run.proofs.Going.{goes_on}
 use Rattle.local_run.proofs.Fresh.{fresh_unended}
 use Rattle.local_run.proofs.Logging.{ends_failed}
-use Rattle.local_run.proofs.Working.{complete_at, ending_at, failed_at, rests_at}
+use Rattle.local_run.proofs.Working.{complete_at, ended_at, ending_at, failed_at, rests_at, stopped_at}
 use Rattle.local_run.proofs.course.work.Goals as goal
 
 pub returns-in-Ok-end-clause-goes : goal.returns-in-Ok-end-clause-goes
@@ -76,13 +78,13 @@ pub returns-in-Ok-end-clause-ending : goal.returns-in-Ok-end-clause-ending
 returns-in-Ok-end-clause-ending g c fresh unset here =
     ending_at g.T.Terms.trust g.F.Commands.gives g.F.Commands.may_fail g.T.Terms.sources g.S.Site.tells g.S.Site.files g.S.Site.may_leave g.S.Site.moment g.S.Site.images_since [] c.args.desk.now c.serve_all.new.desk c.serve_all.ensures.came.goes g.S.Site.count c.now.result c.in-Ok-end.check c.end.new.self c.in-Ok-end.ensures.reply (c.in-Ok.ensures.came.closed.1 ∙ unset)
     (rests_at g.T.Terms.trust g.F.Commands.gives g.F.Commands.may_fail g.T.Terms.sources g.S.Site.tells g.S.Site.files g.S.Site.may_leave g.S.Site.moment g.S.Site.images_since [] c.args.desk.now c.serve_all.new.desk c.serve_all.ensures.came.goes c.requires.valid fresh (c.in-Ok.ensures.came.closed.1 ∙ unset)
-    c.works-works.ensures.legal c.works-works.ensures.opened (c.serve_all.ensures.came.idle c.in-Ok.ensures.came.closed.0) (c.serve_all.ensures.came.unended c.in-Ok.ensures.came.closed.0 (fresh_unended c.args.desk.now.options.limit (records_of c.args.desk.now.moves) fresh)) c.in-Ok.ensures.came.rests) here
+    c.works-works.ensures.legal c.works-works.ensures.opened (c.serve_all.ensures.came.idle c.in-Ok.ensures.came.closed.0) (c.serve_all.ensures.came.unended (fresh_unended c.args.desk.now.options.limit (records_of c.args.desk.now.moves) fresh)) c.in-Ok.ensures.came.rests) here
 
 pub returns-in-Ok-end-clause-failed : goal.returns-in-Ok-end-clause-failed
 returns-in-Ok-end-clause-failed g c fresh unset =
     failed_at g.T.Terms.trust g.F.Commands.gives g.F.Commands.may_fail g.T.Terms.sources g.S.Site.tells g.S.Site.files g.S.Site.may_leave g.S.Site.moment g.S.Site.images_since [] c.args.desk.now c.serve_all.new.desk c.serve_all.ensures.came.goes g.S.Site.count c.now.result c.in-Ok-end.check c.end.new.self
     (sum_by g.R.Runner.failures c.args.runners.now) (sum_by g.R.Runner.failures c.serve_all.new.runners) c.in-Ok-end.ensures.reply (c.in-Ok.ensures.came.closed.1 ∙ unset) fresh
-    (c.serve_all.ensures.came.unended c.in-Ok.ensures.came.closed.0 (fresh_unended c.args.desk.now.options.limit (records_of c.args.desk.now.moves) fresh)) (c.in-Ok.ensures.came.failed c.in-Ok.ensures.came.closed.0 (λ wants. wants)) c.serve_all.ensures.came.risen
+    (c.serve_all.ensures.came.unended (fresh_unended c.args.desk.now.options.limit (records_of c.args.desk.now.moves) fresh)) (c.in-Ok.ensures.came.failed c.in-Ok.ensures.came.closed.0 (λ wants. wants)) c.serve_all.ensures.came.risen
 
 pub returns-in-Ok-end-clause-completes : goal.returns-in-Ok-end-clause-completes
 returns-in-Ok-end-clause-completes g c fresh unset here told kept trusted fit sure few =
@@ -90,6 +92,24 @@ returns-in-Ok-end-clause-completes g c fresh unset here told kept trusted fit su
     complete_at g.T.Terms.trust g.F.Commands.gives g.F.Commands.may_fail g.T.Terms.sources g.S.Site.tells g.S.Site.files g.S.Site.may_leave g.S.Site.moment g.S.Site.images_since [] c.args.desk.now c.serve_all.new.desk c.serve_all.ensures.came.goes g.S.Site.count c.now.result c.in-Ok-end.check c.end.new.self
     (sum_by g.R.Runner.failures c.args.runners.now) (sum_by g.R.Runner.failures c.serve_all.new.runners) image c.in-Ok-end.ensures.reply (c.in-Ok.ensures.came.closed.1 ∙ unset)
     (rests_at g.T.Terms.trust g.F.Commands.gives g.F.Commands.may_fail g.T.Terms.sources g.S.Site.tells g.S.Site.files g.S.Site.may_leave g.S.Site.moment g.S.Site.images_since [] c.args.desk.now c.serve_all.new.desk c.serve_all.ensures.came.goes c.requires.valid fresh (c.in-Ok.ensures.came.closed.1 ∙ unset)
-    c.works-works.ensures.legal c.works-works.ensures.opened (c.serve_all.ensures.came.idle c.in-Ok.ensures.came.closed.0) (c.serve_all.ensures.came.unended c.in-Ok.ensures.came.closed.0 (fresh_unended c.args.desk.now.options.limit (records_of c.args.desk.now.moves) fresh)) c.in-Ok.ensures.came.rests) here fresh (c.in-Ok.ensures.came.failed c.in-Ok.ensures.came.closed.0 (λ wants. wants)) (c.in-Ok.ensures.came.none sure) trusted
+    c.works-works.ensures.legal c.works-works.ensures.opened (c.serve_all.ensures.came.idle c.in-Ok.ensures.came.closed.0) (c.serve_all.ensures.came.unended (fresh_unended c.args.desk.now.options.limit (records_of c.args.desk.now.moves) fresh)) c.in-Ok.ensures.came.rests) here fresh (c.in-Ok.ensures.came.failed c.in-Ok.ensures.came.closed.0 (λ wants. wants)) (c.in-Ok.ensures.came.none sure) trusted
     (c.works-works.ensures.now told kept c.in-Ok.ensures.came.closed.0 image ((g.met.S.Site g.world.𝓛 g.world.𝓜 g.world.𝓡 ((λ s x. x), (λ x. x), (λ x. x), λ x. x)).reads_image told c.serve_all.new.desk.site))
     fit (c.serve_all.ensures.came.idle c.in-Ok.ensures.came.closed.0) (c.in-Ok.ensures.came.due sure) few
+
+pub returns-in-Err-clause-added : goal.returns-in-Err-clause-added
+returns-in-Err-clause-added g c fresh =
+    stopped_at g.T.Terms.trust g.F.Commands.gives g.F.Commands.may_fail g.T.Terms.sources g.S.Site.tells g.S.Site.files g.S.Site.may_leave g.S.Site.moment g.S.Site.images_since [] c.args.desk.now c.serve_all.new.desk c.serve_all.ensures.came.goes c.in-Err.halt c.serve_all.new.desk fresh c.serve_all.ensures.came.unended refl
+
+pub returns-in-Err-Broken-clause-added : goal.returns-in-Err-Broken-clause-added
+returns-in-Err-Broken-clause-added g c fresh =
+    stopped_at g.T.Terms.trust g.F.Commands.gives g.F.Commands.may_fail g.T.Terms.sources g.S.Site.tells g.S.Site.files g.S.Site.may_leave g.S.Site.moment g.S.Site.images_since [] c.args.desk.now c.serve_all.new.desk c.serve_all.ensures.came.goes halts.Site c.end.new.self fresh c.serve_all.ensures.came.unended
+    (end_same g.S.Site.count c.serve_all.new.desk c.now.result _ c.end.new.self c.in-Err-Broken.ensures.reply)
+
+pub returns-in-Err-Memory-clause-added : goal.returns-in-Err-Memory-clause-added
+returns-in-Err-Memory-clause-added g c fresh =
+    stopped_at g.T.Terms.trust g.F.Commands.gives g.F.Commands.may_fail g.T.Terms.sources g.S.Site.tells g.S.Site.files g.S.Site.may_leave g.S.Site.moment g.S.Site.images_since [] c.args.desk.now c.serve_all.new.desk c.serve_all.ensures.came.goes halts.Memory c.end.new.self fresh c.serve_all.ensures.came.unended
+    (end_same g.S.Site.count c.serve_all.new.desk c.now.result _ c.end.new.self c.in-Err-Memory.ensures.reply)
+
+pub returns-in-Ok-end-clause-added : goal.returns-in-Ok-end-clause-added
+returns-in-Ok-end-clause-added g c fresh =
+    ended_at g.T.Terms.trust g.F.Commands.gives g.F.Commands.may_fail g.T.Terms.sources g.S.Site.tells g.S.Site.files g.S.Site.may_leave g.S.Site.moment g.S.Site.images_since [] c.args.desk.now c.serve_all.new.desk c.serve_all.ensures.came.goes g.S.Site.count c.now.result c.in-Ok-end.check c.end.new.self fresh c.serve_all.ensures.came.unended c.in-Ok-end.ensures.reply

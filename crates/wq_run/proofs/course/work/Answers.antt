@@ -18,6 +18,8 @@ use Rattle.wq_run.proofs.Duly.{due_whole}
 use Rattle.wq_run.proofs.Heards.{ok_step}
 use Rattle.wq_run.proofs.Whole.{vain_whole}
 use Rattle.wq_run.specs.Calm.{Asked, ComeFew, IsComing, IsSureOf, IsSureCompany, IsUnmet}
+use Rattle.local_run.specs.declared.halt.Halt.TheVariants as halts
+use Rattle.wq_run.proofs.Added.{adds_none, run_failed, run_halted, run_wants}
 use Rattle.wq_run.proofs.Calmly.{calm_ended, calm_whole, few_whole}
 use Rattle.wq_run.proofs.course.work.Goals as goal
 
@@ -29,6 +31,7 @@ returns-in-Err-Failed g c =
       goes = (s.links, s.goes);
       idle = λ fine. c.requires.idle;
       stops = (c.requires.fine, c.listen.ensures.cause.failed (search rules));
+      added = run_failed (records_of c.args.desk.now.moves) (records_of c.args.desk.now.moves) (adds_none (records_of c.args.desk.now.moves));
       later = omega arith;
       risen = omega arith;
       met = rose;
@@ -52,6 +55,7 @@ returns-in-Err-Memory g c =
       goes = (s.links, s.goes);
       idle = λ fine. c.requires.idle;
       stops = tt;
+      added = run_halted (records_of c.args.desk.now.moves) (records_of c.args.desk.now.moves) halts.Memory (adds_none (records_of c.args.desk.now.moves));
       later = omega arith;
       risen = omega arith;
       met = rose;
@@ -95,6 +99,7 @@ returns-then-has_lost g c =
       goes = (w.links, w.goes);
       idle = w.idle;
       stops = tt;
+      added = run_wants (records_of c.args.desk.now.moves) (records_of c.run_all-done.new.desk.moves) c.run_all-done.result w.adds;
       later = w.later;
       risen = w.risen;
       met = omega (arith, heard, met, last);
@@ -123,6 +128,7 @@ returns g c =
       goes = (w.links, w.goes);
       idle = w.idle;
       stops = stops_by g.S.Site.tells g.T.Terms.kept (AllSure g.R.Runner.sure c.args.runners.now) g.S.Site.files c.args.workers.limit c.run_all-done.new.desk (sum_by g.R.Runner.count c.args.runners.now) (sum_by g.R.Runner.count c.run_all-done.new.runners) (g.H.Hall.count c.listen.new.self) (g.H.Hall.count c.run_all-done.new.hall) (g.H.Hall.idle_count c.listen.new.self) (g.H.Hall.idle_count c.run_all-done.new.hall) (g.H.Hall.count c.args.hall.now) (g.H.Hall.count c.disband.new.hall) c.run_all-done.result (omega (arith, heard)) (omega (arith, last)) w.ended;
+      added = w.adds;
       later = w.later;
       risen = w.risen;
       met = omega (arith, heard, met, last);

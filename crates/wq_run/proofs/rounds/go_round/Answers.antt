@@ -13,6 +13,7 @@ use Rattle.wq_run.specs.Seats.{AreSeats}
 use Rattle.run_history.specs.declared.answers.Check.{Check}
 use Rattle.wq_run.specs.Works.{EndsNow, IsOn}
 use Rattle.wq_run.specs.Trusted.{IsOf}
+use Rattle.wq_run.proofs.Added.{run_failed, run_halted}
 use Rattle.wq_run.proofs.Earned.{joins_still}
 use Rattle.wq_run.proofs.Ending.{memory_halt, none_same}
 use Rattle.wq_run.proofs.Services.{met_then}
@@ -30,7 +31,7 @@ use Rattle.wq_run.proofs.rounds.go_round.Goals as goal
 
 pub returns-in-Err : goal.returns-in-Err
 returns-in-Err g c = record {
-  rounds = λ k less failed. round_halted g.T.Terms.trust g.F.Commands.gives g.F.Commands.may_fail g.T.Terms.sources g.S.Site.tells g.T.Terms.kept g.S.Site.files g.S.Site.may_leave g.S.Site.moment g.S.Site.images_since (AllSure g.R.Runner.sure c.args.runners.now) c.args.limit c.args.desk.now c.serve_all.new.desk (sum_by g.R.Runner.count c.args.runners.now) (sum_by g.R.Runner.count c.serve_all.new.runners) (sum_by g.R.Runner.failures c.args.runners.now) (sum_by g.R.Runner.failures c.serve_all.new.runners) k (g.H.Hall.count c.serve_all.new.hall) (g.H.Hall.idle_count c.args.hall.now) (g.H.Hall.idle_count c.serve_all.new.hall) c.in-Err.halt c.in-Err.ensures.came (let later = c.serve_all.ensures.met.later in omega (arith, less, later)) c.serve_all.ensures.met.idles_later;
+  rounds = λ k less failed. round_halted g.T.Terms.trust g.F.Commands.gives g.F.Commands.may_fail g.T.Terms.sources g.S.Site.tells g.T.Terms.kept g.S.Site.files g.S.Site.may_leave g.S.Site.moment g.S.Site.images_since (AllSure g.R.Runner.sure c.args.runners.now) c.args.limit c.args.desk.now c.serve_all.new.desk (sum_by g.R.Runner.count c.args.runners.now) (sum_by g.R.Runner.count c.serve_all.new.runners) (sum_by g.R.Runner.failures c.args.runners.now) (sum_by g.R.Runner.failures c.serve_all.new.runners) k (g.H.Hall.count c.serve_all.new.hall) (g.H.Hall.idle_count c.args.hall.now) (g.H.Hall.idle_count c.serve_all.new.hall) c.in-Err.halt c.in-Err.ensures.came c.requires.on (let later = c.serve_all.ensures.met.later in omega (arith, less, later)) c.serve_all.ensures.met.idles_later;
   seats = c.serve_all.ensures.seats;
   none = c.serve_all.ensures.none;
   met = c.serve_all.ensures.met;
@@ -45,8 +46,8 @@ returns-in-Err g c = record {
 
 pub returns-then-has_lost : goal.returns-then-has_lost
 returns-then-has_lost g c = record {
-  rounds = λ k less failed. round_by g.T.Terms.trust g.F.Commands.gives g.F.Commands.may_fail g.T.Terms.sources g.S.Site.tells g.T.Terms.kept g.S.Site.files g.S.Site.may_leave g.S.Site.moment g.S.Site.images_since (AllSure g.R.Runner.sure c.args.runners.now) c.args.limit c.args.desk.now c.serve_all.new.desk (sum_by g.R.Runner.count c.args.runners.now) (sum_by g.R.Runner.count c.serve_all.new.runners) (sum_by g.R.Runner.failures c.args.runners.now) (sum_by g.R.Runner.failures c.serve_all.new.runners) k (g.H.Hall.count c.serve_all.new.hall) (g.H.Hall.idle_count c.args.hall.now) (g.H.Hall.idle_count c.serve_all.new.hall) (Ok tt) (Err (stopped.Halted halts.Memory)) c.in-Ok.ensures.came (let later = c.serve_all.ensures.met.later in omega (arith, less, later)) c.serve_all.ensures.met.idles_later
-      (memory_halt g.S.Site.tells g.T.Terms.kept (AllSure g.R.Runner.sure c.args.runners.now) g.S.Site.files c.serve_all.new.desk (sum_by g.R.Runner.count c.args.runners.now) (sum_by g.R.Runner.count c.serve_all.new.runners));
+  rounds = λ k less failed. round_by g.T.Terms.trust g.F.Commands.gives g.F.Commands.may_fail g.T.Terms.sources g.S.Site.tells g.T.Terms.kept g.S.Site.files g.S.Site.may_leave g.S.Site.moment g.S.Site.images_since (AllSure g.R.Runner.sure c.args.runners.now) c.args.limit c.args.desk.now c.serve_all.new.desk (sum_by g.R.Runner.count c.args.runners.now) (sum_by g.R.Runner.count c.serve_all.new.runners) (sum_by g.R.Runner.failures c.args.runners.now) (sum_by g.R.Runner.failures c.serve_all.new.runners) k (g.H.Hall.count c.serve_all.new.hall) (g.H.Hall.idle_count c.args.hall.now) (g.H.Hall.idle_count c.serve_all.new.hall) (Ok tt) (Err (stopped.Halted halts.Memory)) c.in-Ok.ensures.came c.requires.on (let later = c.serve_all.ensures.met.later in omega (arith, less, later)) c.serve_all.ensures.met.idles_later
+      (memory_halt g.S.Site.tells g.T.Terms.kept (AllSure g.R.Runner.sure c.args.runners.now) g.S.Site.files c.serve_all.new.desk (sum_by g.R.Runner.count c.args.runners.now) (sum_by g.R.Runner.count c.serve_all.new.runners)) (run_halted (records_of c.args.desk.now.moves) (records_of c.serve_all.new.desk.moves) halts.Memory);
   seats = c.serve_all.ensures.seats;
   none = c.serve_all.ensures.none;
   met = c.serve_all.ensures.met;
@@ -61,8 +62,8 @@ returns-then-has_lost g c = record {
 
 pub returns-then-has_failed : goal.returns-then-has_failed
 returns-then-has_failed g c = record {
-  rounds = λ k less failed. round_by g.T.Terms.trust g.F.Commands.gives g.F.Commands.may_fail g.T.Terms.sources g.S.Site.tells g.T.Terms.kept g.S.Site.files g.S.Site.may_leave g.S.Site.moment g.S.Site.images_since (AllSure g.R.Runner.sure c.args.runners.now) c.args.limit c.args.desk.now c.serve_all.new.desk (sum_by g.R.Runner.count c.args.runners.now) (sum_by g.R.Runner.count c.serve_all.new.runners) (sum_by g.R.Runner.failures c.args.runners.now) (sum_by g.R.Runner.failures c.serve_all.new.runners) k (g.H.Hall.count c.serve_all.new.hall) (g.H.Hall.idle_count c.args.hall.now) (g.H.Hall.idle_count c.serve_all.new.hall) (Ok tt) (Err stopped.Hall) c.in-Ok.ensures.came (let later = c.serve_all.ensures.met.later in omega (arith, less, later)) c.serve_all.ensures.met.idles_later
-      (c.in-Ok.ensures.came.closed.0, hall_rose k (g.H.Hall.count c.args.hall.now) (g.H.Hall.count c.serve_all.new.hall) c.args.company.now.failed c.serve_all.new.company.failed less failed c.serve_all.ensures.met.fails c.serve_all.ensures.met.later (search rules));
+  rounds = λ k less failed. round_by g.T.Terms.trust g.F.Commands.gives g.F.Commands.may_fail g.T.Terms.sources g.S.Site.tells g.T.Terms.kept g.S.Site.files g.S.Site.may_leave g.S.Site.moment g.S.Site.images_since (AllSure g.R.Runner.sure c.args.runners.now) c.args.limit c.args.desk.now c.serve_all.new.desk (sum_by g.R.Runner.count c.args.runners.now) (sum_by g.R.Runner.count c.serve_all.new.runners) (sum_by g.R.Runner.failures c.args.runners.now) (sum_by g.R.Runner.failures c.serve_all.new.runners) k (g.H.Hall.count c.serve_all.new.hall) (g.H.Hall.idle_count c.args.hall.now) (g.H.Hall.idle_count c.serve_all.new.hall) (Ok tt) (Err stopped.Hall) c.in-Ok.ensures.came c.requires.on (let later = c.serve_all.ensures.met.later in omega (arith, less, later)) c.serve_all.ensures.met.idles_later
+      (c.in-Ok.ensures.came.closed.0, hall_rose k (g.H.Hall.count c.args.hall.now) (g.H.Hall.count c.serve_all.new.hall) c.args.company.now.failed c.serve_all.new.company.failed less failed c.serve_all.ensures.met.fails c.serve_all.ensures.met.later (search rules)) (run_failed (records_of c.args.desk.now.moves) (records_of c.serve_all.new.desk.moves));
   seats = c.serve_all.ensures.seats;
   none = c.serve_all.ensures.none;
   met = c.serve_all.ensures.met;
@@ -79,7 +80,7 @@ pub end-requires-clause-fine : goal.end-requires-clause-fine
 end-requires-clause-fine g c κs within = c.in-Ok.ensures.came.closed.0
 
 pub end-requires-clause-unended : goal.end-requires-clause-unended
-end-requires-clause-unended g c κs within = c.in-Ok.ensures.came.unended c.in-Ok.ensures.came.closed.0 c.requires.on.unended
+end-requires-clause-unended g c κs within = c.in-Ok.ensures.came.unended c.requires.on.unended
 
 pub end-requires-clause-idle : goal.end-requires-clause-idle
 end-requires-clause-idle g c κs within = c.in-Ok.ensures.came.idle c.in-Ok.ensures.came.closed.0
@@ -107,7 +108,7 @@ returns-in-Ok-Some g c = record {
 
 pub returns-in-Err-end : goal.returns-in-Err-end
 returns-in-Err-end g c = record {
-  rounds = λ k less failed. round_unended g.T.Terms.trust g.F.Commands.gives g.F.Commands.may_fail g.T.Terms.sources g.S.Site.tells g.T.Terms.kept g.S.Site.files g.S.Site.may_leave g.S.Site.moment g.S.Site.images_since (AllSure g.R.Runner.sure c.args.runners.now) c.args.limit c.args.desk.now c.serve_all.new.desk c.end.new.desk (sum_by g.R.Runner.count c.args.runners.now) (sum_by g.R.Runner.count c.serve_all.new.runners) (sum_by g.R.Runner.failures c.args.runners.now) (sum_by g.R.Runner.failures c.serve_all.new.runners) k (g.H.Hall.count c.serve_all.new.hall) (g.H.Hall.idle_count c.args.hall.now) (g.H.Hall.idle_count c.serve_all.new.hall) (Ok tt) c.in-Err-end.why c.in-Ok.ensures.came (let later = c.serve_all.ensures.met.later in omega (arith, less, later)) c.serve_all.ensures.met.idles_later c.in-Err-end.ensures.ended;
+  rounds = λ k less failed. round_unended g.T.Terms.trust g.F.Commands.gives g.F.Commands.may_fail g.T.Terms.sources g.S.Site.tells g.T.Terms.kept g.S.Site.files g.S.Site.may_leave g.S.Site.moment g.S.Site.images_since (AllSure g.R.Runner.sure c.args.runners.now) c.args.limit c.args.desk.now c.serve_all.new.desk c.end.new.desk (sum_by g.R.Runner.count c.args.runners.now) (sum_by g.R.Runner.count c.serve_all.new.runners) (sum_by g.R.Runner.failures c.args.runners.now) (sum_by g.R.Runner.failures c.serve_all.new.runners) k (g.H.Hall.count c.serve_all.new.hall) (g.H.Hall.idle_count c.args.hall.now) (g.H.Hall.idle_count c.serve_all.new.hall) (Ok tt) c.in-Err-end.why c.in-Ok.ensures.came c.requires.on (let later = c.serve_all.ensures.met.later in omega (arith, less, later)) c.serve_all.ensures.met.idles_later c.in-Err-end.ensures.ended;
   seats = seats_goes g.T.Terms.trust g.F.Commands.gives g.F.Commands.may_fail g.T.Terms.sources g.S.Site.tells g.S.Site.files g.S.Site.may_leave g.S.Site.moment g.S.Site.images_since c.serve_all.new.desk c.end.new.desk c.end.ensures.ended.goes c.serve_all.new.company.seats c.serve_all.ensures.seats;
   none = c.serve_all.ensures.none;
   met = c.serve_all.ensures.met;
@@ -140,7 +141,7 @@ wait_round-requires-clause-seats g c κs within = subst (λ (x : DeskState g.row
 pub returns : goal.returns
 returns g c = record {
   rounds = λ k less failed. round_waits g.T.Terms.trust g.F.Commands.gives g.F.Commands.may_fail g.T.Terms.sources g.S.Site.tells g.T.Terms.kept g.S.Site.files g.S.Site.may_leave g.S.Site.moment g.S.Site.images_since (AllSure g.R.Runner.sure c.args.runners.now) c.args.limit c.args.desk.now c.serve_all.new.desk c.end.new.desk c.wait_round.new.desk (sum_by g.R.Runner.count c.args.runners.now) (sum_by g.R.Runner.count c.serve_all.new.runners) (sum_by g.R.Runner.failures c.args.runners.now) (sum_by g.R.Runner.failures c.serve_all.new.runners) k (g.H.Hall.count c.serve_all.new.hall) (g.H.Hall.count c.wait_round.new.hall) (g.H.Hall.idle_count c.args.hall.now) (g.H.Hall.idle_count c.serve_all.new.hall) (g.H.Hall.idle_count c.wait_round.new.hall) (Ok tt) c.wait_round.result
-      c.in-Ok.ensures.came (none_same g.S.Site.tells g.T.Terms.kept g.S.Site.files c.serve_all.new.desk c.end.new.desk c.in-Ok-None.field-0 c.in-Ok-None.field-0-is c.in-Ok-None.ensures.ended.ends) (let later = c.serve_all.ensures.met.later in omega (arith, less, later)) c.serve_all.ensures.met.idles_later (c.wait_round.ensures.rounds (sum_by g.R.Runner.count c.serve_all.new.runners) (sum_by g.R.Runner.failures c.serve_all.new.runners));
+      c.in-Ok.ensures.came c.requires.on (none_same g.S.Site.tells g.T.Terms.kept g.S.Site.files c.serve_all.new.desk c.end.new.desk c.in-Ok-None.field-0 c.in-Ok-None.field-0-is c.in-Ok-None.ensures.ended.ends) (let later = c.serve_all.ensures.met.later in omega (arith, less, later)) c.serve_all.ensures.met.idles_later (c.wait_round.ensures.rounds (sum_by g.R.Runner.count c.serve_all.new.runners) (sum_by g.R.Runner.failures c.serve_all.new.runners));
   seats = c.wait_round.ensures.seats;
   none = c.wait_round.ensures.none;
   met = met_then c.serve_all.ensures.met c.wait_round.ensures.met;

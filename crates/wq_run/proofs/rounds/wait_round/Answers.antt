@@ -8,7 +8,7 @@ use Rattle.wq_run.proofs.rounds.wait_round.Goals as goal
 pub returns-in-Err : goal.returns-in-Err
 returns-in-Err g c = record {
   rounds = λ k l. round_halted g.T.Terms.trust g.F.Commands.gives g.F.Commands.may_fail g.T.Terms.sources g.S.Site.tells g.T.Terms.kept g.S.Site.files g.S.Site.may_leave g.S.Site.moment g.S.Site.images_since (Unit {0}) c.args.limit c.args.desk.now c.wait.new.desk k k l l (g.H.Hall.count c.args.hall.now) (g.H.Hall.count c.wait.new.hall) (g.H.Hall.idle_count c.args.hall.now) (g.H.Hall.idle_count c.wait.new.hall) c.in-Err.halt
-      (on_less g.T.Terms.trust g.F.Commands.gives g.F.Commands.may_fail g.T.Terms.sources g.S.Site.tells g.T.Terms.kept (IsSurePool (λ job outcome. ⊥)) g.S.Site.files g.S.Site.may_leave g.S.Site.moment g.S.Site.images_since (Unit {0}) c.args.desk.now c.wait.new.desk k k l l (Err c.in-Err.halt) (λ is job outcome none. absurd none) (c.in-Err.ensures.came k l)) c.wait.ensures.met.later c.wait.ensures.met.idles_later;
+      (on_less g.T.Terms.trust g.F.Commands.gives g.F.Commands.may_fail g.T.Terms.sources g.S.Site.tells g.T.Terms.kept (IsSurePool (λ job outcome. ⊥)) g.S.Site.files g.S.Site.may_leave g.S.Site.moment g.S.Site.images_since (Unit {0}) c.args.desk.now c.wait.new.desk k k l l (Err c.in-Err.halt) (λ is job outcome none. absurd none) (c.in-Err.ensures.came k l)) c.requires.on c.wait.ensures.met.later c.wait.ensures.met.idles_later;
   seats = c.wait.ensures.seats;
   none = c.wait.ensures.none;
   listens = c.wait.ensures.listens;
@@ -27,14 +27,14 @@ returns-then-idles-from-clause-rounds g c k l =
     let same = c.from.ensures in
     let now = c.idles.ensures in
     let before = c.idles-before.ensures in
-    round_by g.T.Terms.trust g.F.Commands.gives g.F.Commands.may_fail g.T.Terms.sources g.S.Site.tells g.T.Terms.kept g.S.Site.files g.S.Site.may_leave g.S.Site.moment g.S.Site.images_since (Unit {0}) c.args.limit c.args.desk.now c.wait.new.desk k k l l (g.H.Hall.count c.args.hall.now) (g.H.Hall.count c.wait.new.hall) (g.H.Hall.idle_count c.args.hall.now) (g.H.Hall.idle_count c.wait.new.hall) (Ok tt) _ came c.wait.ensures.met.later c.wait.ensures.met.idles_later (on, omega (arith, many, same), omega (arith, now, before))
+    round_by g.T.Terms.trust g.F.Commands.gives g.F.Commands.may_fail g.T.Terms.sources g.S.Site.tells g.T.Terms.kept g.S.Site.files g.S.Site.may_leave g.S.Site.moment g.S.Site.images_since (Unit {0}) c.args.limit c.args.desk.now c.wait.new.desk k k l l (g.H.Hall.count c.args.hall.now) (g.H.Hall.count c.wait.new.hall) (g.H.Hall.idle_count c.args.hall.now) (g.H.Hall.idle_count c.wait.new.hall) (Ok tt) _ came c.requires.on c.wait.ensures.met.later c.wait.ensures.met.idles_later (on, omega (arith, many, same), omega (arith, now, before)) (λ adds. adds)
 
 pub returns : goal.returns
 returns g c = record {
   rounds = λ k l.
       let came = (on_less g.T.Terms.trust g.F.Commands.gives g.F.Commands.may_fail g.T.Terms.sources g.S.Site.tells g.T.Terms.kept (IsSurePool (λ job outcome. ⊥)) g.S.Site.files g.S.Site.may_leave g.S.Site.moment g.S.Site.images_since (Unit {0}) c.args.desk.now c.wait.new.desk k k l l (Ok tt) (λ is job outcome none. absurd none) (c.in-Ok.ensures.came k l)) in
       let on = is_on g.T.Terms.trust g.F.Commands.gives g.F.Commands.may_fail g.T.Terms.sources g.S.Site.tells g.T.Terms.kept g.S.Site.files g.S.Site.may_leave g.S.Site.moment g.S.Site.images_since (Unit {0}) c.args.desk.now c.wait.new.desk k k l l came c.requires.on in
-      round_by g.T.Terms.trust g.F.Commands.gives g.F.Commands.may_fail g.T.Terms.sources g.S.Site.tells g.T.Terms.kept g.S.Site.files g.S.Site.may_leave g.S.Site.moment g.S.Site.images_since (Unit {0}) c.args.limit c.args.desk.now c.wait.new.desk k k l l (g.H.Hall.count c.args.hall.now) (g.H.Hall.count c.wait.new.hall) (g.H.Hall.idle_count c.args.hall.now) (g.H.Hall.idle_count c.wait.new.hall) (Ok tt) (Ok turns.Again) came c.wait.ensures.met.later c.wait.ensures.met.idles_later on;
+      round_by g.T.Terms.trust g.F.Commands.gives g.F.Commands.may_fail g.T.Terms.sources g.S.Site.tells g.T.Terms.kept g.S.Site.files g.S.Site.may_leave g.S.Site.moment g.S.Site.images_since (Unit {0}) c.args.limit c.args.desk.now c.wait.new.desk k k l l (g.H.Hall.count c.args.hall.now) (g.H.Hall.count c.wait.new.hall) (g.H.Hall.idle_count c.args.hall.now) (g.H.Hall.idle_count c.wait.new.hall) (Ok tt) (Ok turns.Again) came c.requires.on c.wait.ensures.met.later c.wait.ensures.met.idles_later on (λ adds. adds);
   seats = c.wait.ensures.seats;
   none = c.wait.ensures.none;
   listens = c.wait.ensures.listens;
