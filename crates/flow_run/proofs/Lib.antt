@@ -2,6 +2,7 @@ pub mod Stops
 pub mod Losses
 pub mod Dues
 pub mod Placed
+mod Added
 mod Reliance
 pub mod Calms
 mod Enough

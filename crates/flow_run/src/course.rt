@@ -13,6 +13,7 @@ ghost use Rattle.run_history.specs.Moves.{joins_and_changes};
 ghost use Rattle.run_history.specs.Storage.{running_rules};
 ghost use Rattle.worker_pool.specs.Crews.{AllSure, AllTell};
 ghost use Rattle.desk.specs.State.{IsFine};
+ghost use Rattle.local_run.specs.Added.{RunAdds};
 ghost use Rattle.local_run.specs.Completing.{SerialInputsFit};
 ghost use Rattle.local_run.specs.Course.{GoesOn, TellsJobs};
 ghost use Rattle.local_run.specs.Ends.{BeganOver, FitsHere, HasFailed, IsApart, IsCompleteEnd};
@@ -84,6 +85,7 @@ pub fn work<
     requires keen { (k : ℕ) → 0 < k → T.keen k → ⊥ }
     ensures goes { (links : List Move) × GoesOn T.trust F.gives F.may_fail T.sources S.tells
         S.files S.may_leave S.moment S.images_since links desk.old desk.new }
+    ensures added { RunAdds (records_of desk.old.moves) (records_of desk.new.moves) result }
     ensures idle { IsFine desk.new.trouble
         → length (running_rules desk.new.plan (records_of desk.new.moves)) ≤ 0 }
     ensures stops { StopsBy desk.new.trouble (sum_by R.count runners.old)

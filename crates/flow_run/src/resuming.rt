@@ -16,6 +16,7 @@ ghost use Rattle.worker_pool.specs.Crews.{AllSure, AllTell};
 ghost use Rattle.desk.specs.Kept.{IsLegal, Keeps, ReadsStay, StaysBeside};
 ghost use Rattle.log_recover.specs.declared.fault.RecoverFault.TheVariants as faults;
 ghost use Rattle.log_recover.specs.Recovery.{IsRecovering};
+ghost use Rattle.local_run.specs.Added.{AddsRun};
 ghost use Rattle.local_run.specs.Collecting.{AreGone, CollectsBy, RunCollects};
 ghost use Rattle.local_run.specs.Completing.{HasRecordRoom, SerialInputsFit};
 ghost use Rattle.local_run.specs.Course.{IsUnmade, TellsJobs};
@@ -107,6 +108,8 @@ pub fn resume<
         (sum_by R.count runners.old) (sum_by R.count runners.new) ended.how) }
     ensures grows { IfOk result (λ ended. S.tells → (H : List RecordValue)
         → Spells H (S.files site «name») → BeginsWith H ended.records) }
+    ensures added { IfOk result (λ ended. S.tells → (H : List RecordValue)
+        → Spells H (S.files site «name») → AddsRun options H ended.records ended.how) }
     ensures legal { IfOk result (λ ended. IsAdmitted ended.how → IsLegal plan ended.records) }
     ensures spent { IfOk result (λ ended. IsClosedRun ended.how
         → SpentOnce (since_opening ended.records)) }

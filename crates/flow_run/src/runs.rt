@@ -20,6 +20,7 @@ ghost use Rattle.file_store.specs.Outputs.{file_name};
 ghost use Rattle.worker_pool.specs.Crews.{AllSure, AllTell};
 ghost use Rattle.desk.specs.Kept.{Fits, IsLegal, Keeps, ReadsStay, StaysBeside, WasKept};
 ghost use Rattle.desk.specs.State.{IsFine, Takes};
+ghost use Rattle.local_run.specs.Added.{AddsRun, RunAdds};
 ghost use Rattle.local_run.specs.Collecting.{AreGone, CollectsBy, RunCollects};
 ghost use Rattle.local_run.specs.Completing.{HasRecordRoom, SerialInputsFit};
 ghost use Rattle.local_run.specs.Course.{IsUnmade, LeavesAlone, TellsJobs};
@@ -93,6 +94,7 @@ fn run_desk<
     requires keen { (k : ℕ) → 0 < k → T.keen k → ⊥ }
     ensures more { Adds T.trust F.gives F.may_fail T.sources desk.plan (records_of desk.moves)
         result.records }
+    ensures added { RunAdds (records_of desk.moves) result.records result.how }
     ensures legal { IsLegal desk.plan result.records }
     ensures causes { HasCauses desk.faults (S.count result.site) (sum_by R.count runners.old)
         (sum_by R.count runners.new) result.how }
@@ -234,6 +236,7 @@ fn run_by<
     requires honest { T.trust → options.wq ≡ true → H.honest hall.old }
     requires keen { (k : ℕ) → 0 < k → T.keen k → ⊥ }
     ensures more { Adds T.trust F.gives F.may_fail T.sources plan history result.records }
+    ensures added { AddsRun options history result.records result.how }
     ensures causes { HasCauses (S.count site) (S.count result.site) (sum_by R.count runners.old)
         (sum_by R.count runners.new) result.how }
     ensures legal { IsAdmitted result.how → IsLegal plan result.records }
@@ -369,6 +372,7 @@ pub fn run<
     ensures causes { HasCauses (S.count site) (S.count result.site) (sum_by R.count runners.old)
         (sum_by R.count runners.new) result.how }
     ensures grows { BeginsWith history result.records }
+    ensures added { AddsRun options history result.records result.how }
     ensures legal { IsAdmitted result.how → IsLegal plan result.records }
     ensures idle { IsClosedRun result.how
         → length (running_rules plan result.records) ≤ 0 }

@@ -3,6 +3,7 @@ use Rattle.std.specs.Prelude.{OnOk}
 use Rattle.run_history.specs.declared.answers.Check.{Check}
 use Rattle.run_history.specs.Links.{records_of}
 use Rattle.local_run.specs.declared.ended.Stopped.{Stopped}
+use Rattle.local_run.specs.Added.{RunAdds}
 use Rattle.local_run.specs.Ends.{IsApart, RunDamage}
 use Rattle.local_run.specs.Runs.{LosesNone}
 use Rattle.local_run.proofs.Done.{damage_ended}
@@ -15,6 +16,10 @@ use Rattle.flow_run.proofs.course.work.Goals as goal
 
 pub work-requires-clause-honest : goal.work-requires-clause-honest
 work-requires-clause-honest g c κs within holds = let is : c.args.wq ≡ true = search rules in c.requires.honest (c.requires.of.trusts holds) (sym c.requires.asked ∙ is)
+
+pub returns-else-wq-clause-added : goal.returns-else-wq-clause-added
+returns-else-wq-clause-added g c =
+    subst (λ (how : Result Check Stopped). RunAdds (records_of c.args.desk.now.moves) (records_of c.work-else-wq.new.desk.moves) how) (sym c.ended_by.ensures) (c.work-else-wq.ensures.added c.requires.fresh)
 
 pub returns-else-wq-clause-back : goal.returns-else-wq-clause-back
 returns-else-wq-clause-back g c whole = back_same (g.H.Hall.got c.args.hall.now) (g.H.Hall.given c.args.hall.now)

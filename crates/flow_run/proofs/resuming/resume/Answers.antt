@@ -4,6 +4,7 @@ use Rattle.flow_types.specs.Serial.{Contents, serial}
 use Rattle.file_store.specs.Outputs.{file_name}
 use Rattle.desk.specs.Kept.{WasKept}
 use Rattle.worker_pool.specs.Crews.{AllTell}
+use Rattle.local_run.specs.Added.{AddsRun}
 use Rattle.local_run.specs.Completing.{HasRecordRoom, SerialInputsFit}
 use Rattle.local_run.specs.Collecting.{AreGone, CollectsBy}
 use Rattle.local_run.specs.Course.{TellsJobs}
@@ -57,6 +58,9 @@ returns-in-Ok-clause-causes g c =
 
 pub returns-in-Ok-clause-grows : goal.returns-in-Ok-clause-grows
 returns-in-Ok-clause-grows g c told H spelled = subst (λ (G : List Record). BeginsWith G c.run.result.records) (c.in-Ok.ensures.exact told H spelled) c.run.ensures.grows
+
+pub returns-in-Ok-clause-added : goal.returns-in-Ok-clause-added
+returns-in-Ok-clause-added g c told H spelled = subst (λ (G : List Record). AddsRun c.args.options G c.run.result.records c.run.result.how) (c.in-Ok.ensures.exact told H spelled) c.run.ensures.added
 
 pub returns-in-Ok-clause-lost : goal.returns-in-Ok-clause-lost
 returns-in-Ok-clause-lost g c alone =

@@ -1,4 +1,4 @@
-use Rattle.std.proofs.Common.{◌≡◌, ◌≢◌, ◌+◌, ◌-◌, ◌∙◌, ◌≤◌, ℕ, List, Option, ap, length, refl, subst, sym}
+use Rattle.std.proofs.Common.{◌≡◌, ◌≢◌, ◌+◌, ◌-◌, ◌∙◌, ◌≤◌, inl, ℕ, List, Option, ap, length, refl, subst, sym}
 use Rattle.std.specs.Prelude.{sum_by, IfOk, None}
 use Rattle.flow_types.specs.declared.records.Record.{Record}
 use Rattle.run_history.specs.declared.options.Options.{Options}
@@ -35,6 +35,7 @@ use Rattle.wq_run.specs.Vain.{AreVain, IfWaited, NeedsAtMost}
 use Rattle.flow_run.proofs.Losses.{loses_begun}
 use Rattle.flow_run.proofs.Dues.{by_either, due_begun, due_none, joins_begun}
 use Rattle.flow_run.proofs.Calms.{well_begun}
+use Rattle.flow_run.proofs.Added.{adds_begun}
 use Rattle.flow_run.proofs.Placed.{placed_none}
 use Rattle.flow_run.proofs.Reliance.{of_begun}
 use Rattle.flow_run.proofs.Stops.{back_same}
@@ -196,6 +197,15 @@ returns-in-Ok-clause-unmet g c refused = absurd (c.run_desk.ensures.started refu
 
 pub returns-in-Err-clause-back : goal.returns-in-Err-clause-back
 returns-in-Err-clause-back g c whole = back_same (g.H.Hall.got c.args.hall.now) (g.H.Hall.given c.args.hall.now)
+
+pub returns-in-Ok-clause-added : goal.returns-in-Ok-clause-added
+returns-in-Ok-clause-added g c =
+    let b : IsBegun (g.S.Site.count c.args.site) c.args.plan c.args.options c.args.log.name c.args.history g.F.Commands.may_fail (serial c.args.plan g.F.Commands.gives g.T.Terms.sources) c.in-Ok.desk = (begun g.S.Site.count c.args.plan c.args.options c.args.log.name c.args.history c.now.result g.S.Site.tells (g.S.Site.files c.args.site) c.args.site g.F.Commands.may_fail (serial c.args.plan g.F.Commands.gives g.T.Terms.sources) c.in-Ok.desk c.in-Ok.ensures.reply) in
+    adds_begun c.args.options c.args.history c.run_desk.result.records c.run_desk.result.how c.in-Ok.desk b.over
+    (opens_by g.S.Site.count c.args.plan c.args.options c.args.log.name c.args.history c.now.result g.S.Site.tells (g.S.Site.files c.args.site) c.args.site g.F.Commands.may_fail (serial c.args.plan g.F.Commands.gives g.T.Terms.sources) c.in-Ok.desk c.in-Ok.ensures.reply) c.run_desk.ensures.added
+
+pub returns-in-Err-clause-added : goal.returns-in-Err-clause-added
+returns-in-Err-clause-added g c = inl (tt, c.in-Err.ensures.reply.0)
 
 pub returns-in-Ok-clause-places : goal.returns-in-Ok-clause-places
 returns-in-Ok-clause-places g c =

@@ -9,6 +9,7 @@ use Rattle.flow_types.specs.declared.plan.Plan.{Plan}
 use Rattle.run_history.specs.Storage.{running_rules}
 use Rattle.desk.specs.Kept.{Fits, IsLegal}
 use Rattle.desk.proofs.Named.{named}
+use Rattle.local_run.specs.Added.{RunAdds}
 use Rattle.local_run.specs.Collecting.{IsUntouched}
 use Rattle.local_run.specs.Course.{IsUnmade, LeavesAlone}
 use Rattle.local_run.specs.Ends.{IsApart, LogsFailures, RunDamage}
@@ -43,6 +44,10 @@ returns-clause-now g c told kept whole image now =
     is_kept (Fits g.T.Terms.trust g.F.Commands.gives g.T.Terms.sources) c.args.desk c.work-how.new.desk c.into_parts-site.result.1 g.T.Terms.trust g.F.Commands.gives g.F.Commands.may_fail g.T.Terms.sources g.S.Site.tells g.S.Site.files g.S.Site.may_leave g.S.Site.moment g.S.Site.images_since c.work-how.ensures.goes.0 image c.into_parts-site.ensures.records c.work-how.ensures.goes.1
     (c.works-works.ensures.now told kept (fine_stop c.work-how.new.desk.trouble (sum_by g.R.Runner.count c.args.runners.now) (sum_by g.R.Runner.count c.work-how.new.runners) (g.H.Hall.count c.args.hall.now) (g.H.Hall.count c.work-how.new.hall) c.work-how.result c.work-how.ensures.stops whole)
     image (subst (λ (s : g.row.S.Denot). IsImage (g.S.Site.may_leave s) image) c.into_parts-site.ensures.site now))
+
+pub returns-clause-added : goal.returns-clause-added
+returns-clause-added g c =
+    subst (λ (G : List Record). RunAdds (records_of c.args.desk.moves) G c.work-how.result) (sym c.into_parts-site.ensures.records) c.work-how.ensures.added
 
 pub returns-clause-legal : goal.returns-clause-legal
 returns-clause-legal g c = subst (λ (P : Plan). IsLegal P c.into_parts-site.result.1) c.work-how.ensures.goes.1.plan (subst (IsLegal c.work-how.new.desk.plan) (sym c.into_parts-site.ensures.records) c.into_parts-site.ensures.legal)
