@@ -27,6 +27,7 @@ use Rattle.report.specs.declared.cause.Kind.{Kind}
 use Rattle.report.specs.declared.cause.Kind.TheVariants as kinds
 use Rattle.report.specs.Causes.{is_completion, is_cut, is_failing, is_refusal, kind_of, may_lose, may_replace, was_read}
 use Rattle.master_run.specs.declared.ask.Ask.{Ask}
+use Rattle.master_run.specs.Added.{CallAdds}
 use Rattle.master_run.specs.Counts.{Counts}
 use Rattle.master_run.specs.Ends.{FaultEnd, GoesOn, IsStop, NoneRose, RunEnds, Yields, clean_refusal, idle_rise, log_refusal, run_refusal}
 use Rattle.master_run.specs.Headline.{HasLog, IsCleanedBy, IsLegalOr, is_early, is_run_end, is_runner_fault}
@@ -121,6 +122,7 @@ module _ {S : Type 0} (tells : Type 0) (files : S → Files) (may_leave : S → 
     pub cut : is_cut (kind_of cause) ≡ true
     pub faults : FaultEnd before after cause
     pub has_log : tells → (H : List Record) → Spells H (files old ask.log) → HasLog H records (kind_of cause)
+    pub added : tells → (H : List Record) → Spells H (files old ask.log) → CallAdds ask H records cause
     pub logged : tells → (H : List Record) → Spells H (files old ask.log) → IsLegalOr ask.plan H records (kind_of cause)
     pub moments : tells → (H : List Record) → Spells H (files old ask.log) → AllMoments files may_leave images_since Held born ask H old new records cause
     pub resumable : tells → StaysResumable may_leave images_since born ask old new
@@ -146,6 +148,7 @@ module _ {S : Type 0} (tells : Type 0) (files : S → Files) (may_leave : S → 
     late = (fault_kind (kind_of cause) f.cut).late;
     faults = f.faults;
     has_log = f.has_log;
+    added = f.added;
     legal = λ read. absurd (true≢false (sym read ∙ (fault_kind (kind_of cause) f.cut).unread));
     logged = f.logged;
     closed = λ ends. absurd (true≢false (sym ends ∙ (fault_kind (kind_of cause) f.cut).no_end));

@@ -9,6 +9,7 @@ pub mod Faults
 pub mod Reading
 pub mod Ran
 pub mod Cared
+pub mod Adding
 pub mod Works
 pub mod Reprinted
 pub mod Refusals

@@ -24,6 +24,7 @@ use Rattle.desk.specs.Kept.{IsLegal, Keeps, StaysBeside}
 use Rattle.local_run.specs.declared.halt.Halt.TheVariants as halts
 use Rattle.local_run.specs.declared.ended.Stopped.{Stopped}
 use Rattle.local_run.specs.declared.ended.Stopped.TheVariants as stopped
+use Rattle.local_run.specs.Added.{AddsRun}
 use Rattle.local_run.specs.Collecting.{AreGone, CollectsBy}
 use Rattle.local_run.specs.Completing.{HasRecordRoom, SerialInputsFit}
 use Rattle.local_run.specs.Course.{IsUnmade, TellsJobs}
@@ -41,12 +42,14 @@ use Rattle.flow_run.specs.Places.{PlacedBy}
 use Rattle.flow_run.proofs.Losses.{away_none}
 use Rattle.master_run.proofs.Counted.{hall_rise, site_rise}
 use Rattle.master_run.specs.declared.ask.Ask.{Ask}
+use Rattle.master_run.specs.Added.{AddsBy}
 use Rattle.master_run.specs.Counts.{Counts}
 use Rattle.master_run.specs.declared.rises.Rise.{Rise}
 use Rattle.master_run.specs.Ends.{ComesToEnd, FaultEnd, GoesOn, IsStop, OneRose, RunEnds, Yields, end_cause, idle_rise, start_cause}
 use Rattle.master_run.specs.Headline.{FailureEnd, IsCleanedBy, IsLegalOr, IsSpentBy, LogsFailed, StartsNone, is_early, is_run_end, is_runner_fault}
 use Rattle.master_run.specs.Runs.{damage_cause, run_cause}
 use Rattle.master_run.specs.Serves.{Completes, IsCut, Serves}
+use Rattle.master_run.proofs.Adding.{run_adds}
 use Rattle.master_run.proofs.Faults.{fault_goes}
 use Rattle.master_run.proofs.Moved.{append_nothing, moment_after}
 
@@ -532,6 +535,7 @@ module _ {S : Type 0} (tells : Type 0) (files : S → Files) (may_leave : S → 
     pub log : tells → (H : List Record) × Spells H (files old ask.log)
     pub grows : tells → (H : List Record) → Spells H (files old ask.log) → BeginsWith H records
     pub same : tells → (H : List Record) → Spells H (files old ask.log) → IsRefusedRun how → records ≡ H
+    pub added : tells → (H : List Record) → Spells H (files old ask.log) → AddsRun ask.options H records how
     pub quiet : tells → IsEarlyRun how → (m : List ℕ) → files new m ≡ files old m
     pub starts : tells → (H : List Record) → Spells H (files old ask.log) → StartEnds (run_fault ask.plan ask.options H (files old)) how
     pub closed : ask.options.wq ≡ false → IfOk how (IsRunEnd ask.options.limit)
@@ -588,6 +592,8 @@ module _ {S : Type 0} (tells : Type 0) (files : S → Files) (may_leave : S → 
     late = run_late (site_rise b a) r (hall_rise b a) ask.plan how;
     faults = k.faults;
     has_log = λ t H spelled. inl (k.grows t H spelled);
+    added = λ t H spelled. subst (λ (w : Work). AddsBy w ask.options H records (run_cause (site_rise b a) r (hall_rise b a) ask.plan how)) (sym k.work)
+        (run_adds (site_rise b a) r (hall_rise b a) ask.plan ask.options H records how (k.same t H spelled) (k.added t H spelled));
     legal = λ read. k.legal (admitted_run (site_rise b a) r (hall_rise b a) ask.plan how read);
     logged = λ t H spelled. legal_run (site_rise b a) r (hall_rise b a) ask.plan H records how (k.same t H spelled) k.legal;
     closed = λ ends. k.spent (closed_run (site_rise b a) r (hall_rise b a) ask.plan how ends);

@@ -67,6 +67,7 @@ module _ {S : Type 0} (tells : Type 0) (files : S → Files) (may_leave : S → 
     late = s.late;
     faults = s.faults;
     has_log = λ t H spelled. s.has_log t H (at_mid t H spelled);
+    added = λ t H spelled. s.added t H (at_mid t H spelled);
     legal = s.legal;
     logged = λ t H spelled. s.logged t H (at_mid t H spelled);
     closed = s.closed;

@@ -25,6 +25,7 @@ use Rattle.master_run.specs.Headline.{is_early, is_run_end, is_runner_fault, is_
 use Rattle.master_run.specs.Runs.{refusal_cause}
 use Rattle.master_run.specs.Serves.{Serves}
 use Rattle.master_run.specs.Stages.{SaysRefusal, Stage, WordsStage, is_refusal}
+use Rattle.master_run.proofs.Adding.{unread_adds}
 use Rattle.master_run.proofs.Faults.{adds_none, before_all, before_beside, fault_goes, fault_serves, unread_collects, unread_placed}
 use Rattle.master_run.proofs.Reading.{WasLooked, entry_before}
 
@@ -130,6 +131,7 @@ module _ {S : Type 0} (tells : Type 0) (files : S → Files) (may_leave : S → 
         cut = cut;
         faults = fault;
         has_log = λ t H spelled. inr (refl, replaces);
+        added = λ t H spelled. unread_adds ask.work ask.options H cause cut;
         logged = λ t H spelled. inr (inr refl, unread);
         moments = λ t H spelled. before_all tells files may_leave moment images_since born gives may_fail told sure honest_links b a ask old new [] cause Held H (later t) (only t);
         resumable = λ t some image left. ⊎_elim (λ was. inl was) (λ (is : IsImage (may_leave old) image). inr (some image is)) ((looked t).only.before born image (later t) left);

@@ -30,6 +30,7 @@ use Rattle.master_run.specs.Headline.{FailureEnd, HasLog, IfWaited, IsLegalOr, i
 use Rattle.master_run.specs.Prints.{IsPrinted, is_no_memory, printed_cause}
 use Rattle.master_run.specs.Serves.{IsCut, Serves}
 use Rattle.master_run.specs.Words.{chosen}
+use Rattle.master_run.proofs.Adding.{memory_adds, sink_adds}
 use Rattle.master_run.proofs.Moved.{all_after}
 
 -- The cause that stands is the same, or that of the sink's fault at the end of what was asked for, or want of memory.
@@ -249,6 +250,7 @@ module _ {S : Type 0} (tells : Type 0) (files : S → Files) (may_leave : S → 
         late = s.late;
         faults = wider_fault sb rb hb ib b sa ra ha ia a cause s.faults;
         has_log = s.has_log;
+        added = s.added;
         legal = s.legal;
         logged = s.logged;
         closed = s.closed;
@@ -275,6 +277,7 @@ module _ {S : Type 0} (tells : Type 0) (files : S → Files) (may_leave : S → 
         ends = λ t. printed_log b a ask (ia - ib) (files old) (files new) records cause (causes.SinkFault b a) (inr (inl (refl, rose, is))) (s.ends t);
         late = refl;
         faults = (refl, refl, rose);
+        added = λ t H spelled. sink_adds ask.work ask.options H records b a cause is (s.added t H spelled);
         has_log = λ t H spelled. log_after H records (kind_of cause) kinds.SinkBroke (λ replaced. absurd (true≢false (sym replaced ∙ end_stays (kind_of cause) is))) (s.has_log t H spelled);
         legal = λ read. s.legal (end_read (kind_of cause) is);
         logged = λ t H spelled. legal_after ask.plan H records (kind_of cause) kinds.SinkBroke (λ unread. absurd (true≢false (sym (end_read (kind_of cause) is) ∙ unread))) (s.logged t H spelled);
@@ -301,6 +304,7 @@ module _ {S : Type 0} (tells : Type 0) (files : S → Files) (may_leave : S → 
         ends = λ t. printed_log b a ask (ia - ib) (files old) (files new) records cause causes.Memory (inr (inr refl)) (s.ends t);
         late = refl;
         faults = tt;
+        added = λ t H spelled. memory_adds ask.work ask.options H records cause (s.added t H spelled);
         has_log = λ t H spelled. log_after H records (kind_of cause) kinds.NoMemory (λ replaced. refl) (s.has_log t H spelled);
         legal = λ wrong. absurd (true≢false (sym wrong));
         logged = λ t H spelled. legal_after ask.plan H records (kind_of cause) kinds.NoMemory (λ unread. refl) (s.logged t H spelled);

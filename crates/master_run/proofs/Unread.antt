@@ -25,6 +25,7 @@ use Rattle.master_run.specs.Ends.{FaultEnd, IsDamagedAt, NoneRose}
 use Rattle.master_run.specs.Headline.{FailureEnd, is_run_end}
 use Rattle.master_run.specs.Runs.{unread_cause}
 use Rattle.master_run.specs.Serves.{Serves}
+use Rattle.master_run.proofs.Adding.{unread_adds}
 use Rattle.master_run.proofs.Faults.{adds_none, before_all, before_beside, fault_serves, unread_collects, unread_placed}
 
 -- what a recovery leaves is of before the log was read
@@ -77,6 +78,7 @@ module _ {S : Type 0} (tells : Type 0) (files : S → Files) (may_leave : S → 
         cut = cut;
         faults = fault;
         has_log = λ t H spelled. inr (refl, replaces);
+        added = λ t H spelled. unread_adds ask.work ask.options H cause cut;
         logged = λ t H spelled. inr (inr refl, unread);
         moments = λ t H spelled. before_all tells files may_leave moment images_since born gives may_fail told sure honest_links b a ask old new [] cause Held H (later t) (only t);
         resumable = goes_on;
@@ -99,6 +101,7 @@ module _ {S : Type 0} (tells : Type 0) (files : S → Files) (may_leave : S → 
     late = refl;
     faults = tt;
     has_log = λ t H spelled. absurd (none t H spelled);
+    added = λ t H spelled. absurd (none t H spelled);
     legal = λ wrong. absurd (true≢false (sym wrong));
     logged = λ t H spelled. absurd (none t H spelled);
     closed = λ wrong. absurd (true≢false (sym wrong));

@@ -67,6 +67,7 @@ module _ {S : Type 0} (tells : Type 0) (files : S → Files) (may_leave : S → 
     late = s.late;
     faults = fault s.faults;
     has_log = s.has_log;
+    added = s.added;
     legal = s.legal;
     logged = s.logged;
     closed = s.closed;

@@ -20,6 +20,7 @@ use Rattle.report.specs.declared.cause.Kind.{Kind}
 use Rattle.report.specs.declared.cause.Kind.TheVariants as kinds
 use Rattle.report.specs.Causes.{is_cut, is_failing, is_refusal, kind_of, may_lose, was_read}
 use Rattle.master_run.specs.declared.ask.Ask.{Ask}
+use Rattle.master_run.specs.Added.{CallAdds}
 use Rattle.master_run.specs.Counts.{Counts}
 use Rattle.master_run.specs.Ends.{FaultEnd, GoesOn, IsDamagedAt, IsReadOr, idle_rise}
 use Rattle.master_run.specs.Headline.{HasLog, IsCleanedBy, IsLegalOr, is_early, is_run_end, is_runner_fault}
@@ -50,6 +51,7 @@ module _ {S : Type 0} (tells : Type 0) (files : S → Files) (may_leave : S → 
     pub read : tells → IsReadOr (files old ask.log) cause
     pub goes : tells → (H : List Record) → Spells H (files old ask.log) → GoesOn ask.work ask (idle_rise before after) H (files old) (files new) records cause
     pub has_log : tells → (H : List Record) → Spells H (files old ask.log) → HasLog H records (kind_of cause)
+    pub added : tells → (H : List Record) → Spells H (files old ask.log) → CallAdds ask H records cause
     pub legal : was_read (kind_of cause) ≡ true → IsLegal ask.plan records
     pub logged : tells → (H : List Record) → Spells H (files old ask.log) → IsLegalOr ask.plan H records (kind_of cause)
     pub either : tells → (H : List Record) → Spells H (files old ask.log) → (is_cut (kind_of cause) ≡ true → ⊥) → AreEither H time records
@@ -83,6 +85,7 @@ module _ {S : Type 0} (tells : Type 0) (files : S → Files) (may_leave : S → 
     late = c.late;
     faults = c.faults;
     has_log = c.has_log;
+    added = c.added;
     legal = c.legal;
     logged = c.logged;
     closed = λ ends. absurd (true≢false (sym ends ∙ c.runs_not.0));

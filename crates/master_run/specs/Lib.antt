@@ -11,3 +11,4 @@ pub mod Serves
 pub mod Stages
 pub mod Runs
 pub mod Reaching
+pub mod Added

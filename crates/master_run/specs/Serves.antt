@@ -24,6 +24,7 @@ use Rattle.report.specs.declared.cause.Cause.{Cause}
 use Rattle.report.specs.declared.cause.Cause.TheVariants as causes
 use Rattle.report.specs.Causes.{is_completion, is_cut, is_failing, is_refusal, kind_of, may_lose, was_read}
 use Rattle.master_run.specs.declared.ask.Ask.{Ask}
+use Rattle.master_run.specs.Added.{CallAdds}
 use Rattle.master_run.specs.Counts.{Counts}
 use Rattle.master_run.specs.Ends.{FaultEnd, LogEnds, NoneRose, idle_rise, run_refusal}
 use Rattle.master_run.specs.Headline.{HasLog, IsCleanedBy, IsLegalOr, IsSpentBy, is_early, is_run_end, is_runner_fault}
@@ -78,6 +79,7 @@ pub record Serves {S : Type 0} (tells : Type 0) (files : S → Files) (may_leave
   pub late : IsFalse (is_early (kind_of cause))
   pub faults : FaultEnd before after cause
   pub has_log : tells → (H : List Record) → Spells H (files old ask.log) → HasLog H records (kind_of cause)
+  pub added : tells → (H : List Record) → Spells H (files old ask.log) → CallAdds ask H records cause
   pub legal : IsTrue (was_read (kind_of cause)) → IsLegal ask.plan records
   pub logged : tells → (H : List Record) → Spells H (files old ask.log) → IsLegalOr ask.plan H records (kind_of cause)
   pub closed : IsTrue (is_run_end (kind_of cause)) → SpentOnce (since_opening records)

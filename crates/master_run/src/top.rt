@@ -28,6 +28,7 @@ ghost use Rattle.wq_run.specs.Ends.{AreBack, LosesOnLinks};
 ghost use Rattle.wq_run.specs.Losses.{AreDueLosses};
 ghost use Rattle.wq_run.specs.Vain.{AreVain};
 ghost use Rattle.flow_run.specs.Places.{PlacedBy};
+ghost use Rattle.master_run.specs.Added.{CallAdds};
 ghost use Rattle.master_run.specs.Asked.{IsLocal, choice, request, run_mode, run_options};
 ghost use Rattle.master_run.specs.Asked.{workers_of};
 ghost use Rattle.master_run.specs.Ends.{CallEnds, FaultEnd, WordsEnd, counts};
@@ -343,6 +344,12 @@ pub fn makeflow_top<
     ensures legal { IsLegalEnd
         (λ plan. S.tells → IsPlanOf (request words.now env.now (S.files site)) plan)
         (kind_of result.cause) result.records }
+
+    // One call adds one run, with one opening and the Ended of its cause, or nothing; a cleaning
+    // the end of the part where that was begun. Behind a fault of the folder or the sink, or want
+    // of memory, either may be so.
+    ensures added { S.tells → OfLog (request words.now env.now (S.files site)) (S.files site)
+        (λ ask H. CallAdds ask H result.records result.cause) }
 
     // The opening of a run has the limit and the retries of the words, and by the records what is
     // stored and reserved is within the limit of the last one.

@@ -12,6 +12,7 @@ use Rattle.command_words.specs.declared.options.Work.TheVariants as works
 use Rattle.report.specs.declared.cause.Cause.{Cause}
 use Rattle.report.specs.declared.cause.Cause.TheVariants as causes
 use Rattle.report.specs.Causes.{is_cut, kind_of}
+use Rattle.master_run.specs.Added.{AddsBy}
 use Rattle.master_run.specs.Ends.{GoesOn, counts}
 use Rattle.local_run.specs.Ends.{failed_count}
 use Rattle.master_run.specs.Headline.{is_run_end}
@@ -21,6 +22,7 @@ use Rattle.local_run.specs.Course.{IsUnmade}
 use Rattle.local_run.proofs.Alone.{beside_less}
 use Rattle.master_run.proofs.Moved.{append_nothing}
 use Rattle.master_run.proofs.Counted.{site_rise}
+use Rattle.master_run.proofs.Adding.{look_adds}
 use Rattle.master_run.proofs.Works.{cared_serves}
 use Rattle.cleaning.specs.Looks.{IsCutFault}
 use Rattle.master_run.proofs.Cared.{cut_look, done_goes, fails_nothing, look_begins, look_begun, look_cleans, look_cut, look_damaged, look_either, look_faults, look_goes, look_late, look_legal, look_log, look_read, look_seen, look_still, look_unread, loses_nothing, part_within}
@@ -48,6 +50,7 @@ returns-in-Ok-clause-serves g c =
           (done_goes (history_fault c.args.ask.plan H) (causes.Printed (length (part H))) cause (c.in-Ok.ensures.ends t H spelled).1
           (ap (λ n. causes.Printed n) (ap length c.part_of.ensures ∙ ap (λ (xs : List Record). length (part xs)) (c.as_slice.ensures ∙ (c.in-Ok.ensures.ends t H spelled).0))));
       has_log = λ t H spelled. inl ([], (c.in-Ok.ensures.ends t H spelled).0 ∙ sym (append_nothing H));
+      added = λ t H spelled. subst (λ (w : Work). AddsBy w c.args.ask.options H c.in-Ok.records cause) (sym c.requires.work) (c.in-Ok.ensures.ends t H spelled).0;
       legal = λ read. c.in-Ok.ensures.legal;
       logged = λ t H spelled. inl c.in-Ok.ensures.legal;
       either = λ t H spelled whole. inl (c.in-Ok.ensures.ends t H spelled).0;
@@ -82,6 +85,8 @@ returns-in-Err-clause-serves g c =
       goes = λ t H spelled. subst (λ (w : Work). GoesOn w c.args.ask 0 H (g.S.Site.files c.args.site) (g.S.Site.files c.look.new.site) given (look_cause (site_rise (counts c.args.before [] 0 0 0) (counts (g.S.Site.count c.look.new.site) [] 0 0 0)) why)) (sym c.requires.work)
           (look_goes (site_rise (counts c.args.before [] 0 0 0) (counts (g.S.Site.count c.look.new.site) [] 0 0 0)) c.args.ask 0 H (g.S.Site.files c.args.site) (g.S.Site.files c.look.new.site) given why (c.in-Err.ensures.ends t H spelled).0);
       has_log = λ t H spelled. look_log (site_rise (counts c.args.before [] 0 0 0) (counts (g.S.Site.count c.look.new.site) [] 0 0 0)) c.args.ask.plan H given why (c.in-Err.ensures.ends t H spelled).0 (c.in-Err.ensures.ends t H spelled).1;
+      added = λ t H spelled. subst (λ (w : Work). AddsBy w c.args.ask.options H given (look_cause (site_rise (counts c.args.before [] 0 0 0) (counts (g.S.Site.count c.look.new.site) [] 0 0 0)) why)) (sym c.requires.work)
+          (look_adds (site_rise (counts c.args.before [] 0 0 0) (counts (g.S.Site.count c.look.new.site) [] 0 0 0)) c.args.ask.plan H given why (c.in-Err.ensures.ends t H spelled).0 (c.in-Err.ensures.ends t H spelled).1);
       legal = λ read. absurd (true≢false (sym read ∙ look_unread (site_rise (counts c.args.before [] 0 0 0) (counts (g.S.Site.count c.look.new.site) [] 0 0 0)) why));
       logged = λ t H spelled. look_legal (site_rise (counts c.args.before [] 0 0 0) (counts (g.S.Site.count c.look.new.site) [] 0 0 0)) c.args.ask.plan H given why (c.in-Err.ensures.ends t H spelled).1;
       either = λ t H spelled whole. look_either H given 0 (site_rise (counts c.args.before [] 0 0 0) (counts (g.S.Site.count c.look.new.site) [] 0 0 0)) c.args.ask.plan why (c.in-Err.ensures.ends t H spelled).0 (c.in-Err.ensures.ends t H spelled).1 whole;

@@ -61,6 +61,7 @@ returns-in-Ok-resume-clause-serves g c =
       log = c.in-Ok-resume.ensures.log;
       grows = c.in-Ok-resume.ensures.grows;
       same = c.in-Ok-resume.ensures.same;
+      added = c.in-Ok-resume.ensures.added;
       quiet = c.in-Ok-resume.ensures.quiet;
       starts = c.in-Ok-resume.ensures.starts;
       closed = λ alone. c.in-Ok-resume.ensures.closed (fits_here c.args.ask.plan c.args.ask.options c.requires.fits alone);
