@@ -433,7 +433,8 @@ def factory_of_a_flow():
     with Works("work_queue_factory: a flow from its begin to its end", 12,
                "sleep 0.3; echo N > oN") as it:
         factory, said = it.factory("-W", "2", "--cores", "2")
-        it.wait("a worker", lambda: it.workers() or factory.poll() is not None)
+        begun = f"{FACTORY}: 12 rules left, 2 workers"
+        it.wait("two workers", lambda: begun in said() or factory.poll() is not None)
         it.no_log("before the run")
         it.begin_master()
         it.is_complete()
