@@ -402,10 +402,10 @@ class Works(Farm, Look):
         for name, text in (("sbatch", SBATCH), ("squeue", SQUEUE), ("scancel", SCANCEL)):
             self.stand_in(name, text)
 
-    def unheard(self, name, *words):
+    def unheard(self, name, *words, end="exit 5"):
         """A factory of one worker that nobody answers, and what tells who started it, and when, in
         nanoseconds."""
-        self.stand_in(name, f'echo "$PPID $(date +%s%N)" >> ROOM/starts.{name}; exit 5')
+        self.stand_in(name, f'echo "$PPID $(date +%s%N)" >> ROOM/starts.{name}; {end}')
         path = f"{self.place.room}/starts.{name}"
         self.beside(f"starts.{name}")
         self.place.give()
@@ -513,6 +513,7 @@ def factory_in_vain():
                                               (("-T", "slurm"), "mistyped", "status 2, usage")]]
         again, starts = it.unheard("again")
         brief = [it.unheard("life", "--life", "1"), it.unheard("idle", "--idle-end", "1")]
+        killed, kills = it.unheard("killed", end="kill -KILL $$")
         for (factory, said), line in hopeless:
             it.factory_ends(factory, said, 1, f"a worker ended at once with {line}")
         it.wait("three starts", lambda: len(starts()) >= 3)
@@ -520,7 +521,8 @@ def factory_in_vain():
         it.check("a worker that nobody answers", gaps[0] >= 1 and gaps[1] >= 2, gaps)
         for _, begun in brief:
             it.wait("a second job", lambda: len({job for job, _ in begun()}) >= 2)
-        for factory, said in [again, *(factory for factory, _ in brief)]:
+        it.wait("a fifth job behind four that were killed", lambda: len(kills()) >= 5)
+        for factory, said in [again, killed, *(factory for factory, _ in brief)]:
             factory.terminate()
             it.factory_ends(factory, said, 143)
 
