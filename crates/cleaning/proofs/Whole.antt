@@ -51,6 +51,13 @@ pub unmoved_reads : {S : Type 0} (tells : Type 0) (files : S → Files) (name : 
 unmoved_reads {S} tells files name old mid new (Ok done) unmoved same = tt
 unmoved_reads {S} tells files name old mid new (Err refused) unmoved same = λ told uncut begun m. ap (λ s. files s m) (unmoved uncut) ∙ same told begun m
 
+-- a refusal behind the reading leaves what the reading did
+pub unmoved_before : {S : Type 0} (tells : Type 0) (moment_of : S → ℕ) (images_since : S → ℕ → Files → Type 0) (left : Files → Type 0) (old mid new : S) (r : Result Cleaned CleanRefused) → IsUnmoved mid new r
+    → (tells → LeavesOnly moment_of images_since old mid left)
+    → IfErr r (λ refused. tells → (IsCutFor refused.why → ⊥) → LeavesOnly moment_of images_since old new left)
+unmoved_before {S} tells moment_of images_since left old mid new (Ok done) unmoved was = tt
+unmoved_before {S} tells moment_of images_since left old mid new (Err refused) unmoved was = λ told uncut. subst (λ (s : S). LeavesOnly moment_of images_since old s left) (sym (unmoved uncut)) (was told)
+
 -- ---- the moments
 
 module _ {S : Type 0} (files : S → Files) (may_leave : S → Outcomes) (moment_of : S → ℕ) (images_since : S → ℕ → Files → Type 0) (P : Plan) (name other : List ℕ) (same : other ≡ name) (G H : List Record) (these : G ≡ H) (old mid new : S)

@@ -14,7 +14,7 @@ ghost use Rattle.desk.specs.Histories.{history_fault};
 ghost use Rattle.desk.specs.Kept.{IsElse, Keeps};
 ghost use Rattle.desk.specs.State.{Takes};
 ghost use Rattle.local_run.specs.Course.{IsUnmade, LeavesAlone};
-ghost use Rattle.local_run.specs.Moments.{IsMoment, IsResumable, KeepsSome};
+ghost use Rattle.local_run.specs.Moments.{IsBefore, IsMoment, IsResumable, KeepsSome};
 ghost use Rattle.local_run.specs.Runs.{Held, SerialFits};
 ghost use Rattle.cleaning.specs.declared.answers.CleanFault.TheVariants as cleans;
 ghost use Rattle.cleaning.specs.declared.answers.LookFault.TheVariants as looks;
@@ -173,6 +173,9 @@ pub fn clean<S: Site>(
     ensures reads { IfErr result (λ refused. S.tells → (IsCutFor refused.why → ⊥)
         → (IsUnbegun (S.files site.old «name») → ⊥)
         → (m : List ℕ) → S.files site.new m ≡ S.files site.old m) }
+    ensures before { IfErr result (λ refused. S.tells → (IsCutFor refused.why → ⊥)
+        → LeavesOnly S.moment S.images_since site.old site.new
+        (IsBefore «name» (S.files site.old «name») (S.may_leave site.old))) }
     ensures later { S.count site.old ≤ S.count site.new }
     ensures cause { FailsRisen (S.count site.old) (S.count site.new) result }
 {

@@ -1,3 +1,4 @@
+pub mod Overs
 pub mod Places
 pub mod Relied
 pub mod Reached

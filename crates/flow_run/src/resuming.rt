@@ -23,8 +23,8 @@ ghost use Rattle.local_run.specs.Course.{IsUnmade, TellsJobs};
 ghost use Rattle.local_run.specs.Ends.{FitsHere, HasFailed, IsDone, IsRunEnd, IsSureEnd};
 ghost use Rattle.local_run.specs.Ends.{OpensBy};
 ghost use Rattle.local_run.specs.Ends.{IsWholeRun, LogsFailures, RunDamage, StartEnds, run_fault};
-ghost use Rattle.local_run.specs.Moments.{IsDamageFault, IsMoment, IsResumable, IsUnread};
-ghost use Rattle.local_run.specs.Moments.{KeepsSome};
+ghost use Rattle.local_run.specs.Moments.{IsBefore, IsDamageFault, IsMoment, IsResumable};
+ghost use Rattle.local_run.specs.Moments.{IsUnread, KeepsSome};
 ghost use Rattle.local_run.specs.Runs.{Adds, IsEarlyRun, IsRefusedRun};
 ghost use Rattle.local_run.specs.Runs.{BeginsWith, HasCauses, Held, IsAdmitted, IsClosedRun};
 ghost use Rattle.local_run.specs.Runs.{IsCutRun, IsHallEnd, IsSparedName, LosesNone, SerialFits};
@@ -33,6 +33,7 @@ ghost use Rattle.wq_run.specs.Calm.{ComeFew, GoesWell};
 ghost use Rattle.wq_run.specs.Ends.{AreBack, EndsWaiting, IsSparedRunners, LosesOnLinks};
 ghost use Rattle.wq_run.specs.Losses.{AreDueLosses};
 ghost use Rattle.wq_run.specs.Vain.{AreVain, IfWaited, NeedsAtMost};
+ghost use Rattle.flow_run.specs.Overs.{RunsOver};
 ghost use Rattle.flow_run.specs.Places.{PlacedBy};
 ghost use Rattle.flow_run.specs.Reached.{IsDoneAway};
 
@@ -85,6 +86,8 @@ pub fn resume<
         → S.count site < S.count refused.site) }
     ensures unchanged { IfErr result (λ refused. S.tells → IsDamageFault refused.why
         → (m : List ℕ) → S.files refused.site m ≡ S.files site m) }
+    ensures beside { IfErr result (λ refused. S.tells
+        → ReadsStay S.files (λ m. m ≢ «name») site refused.site) }
     ensures unrun { IfErr result (λ refused. runners.new ≡ runners.old) }
     ensures crash { IfErr result (λ refused. S.tells → (m : List ℕ) (file : Option (List ℕ))
         → m ≢ «name» → S.may_leave refused.site m file → S.may_leave site m file) }
@@ -97,6 +100,13 @@ pub fn resume<
         → Spells H (S.files site «name») → IsRefusedRun ended.how → ended.records ≡ H) }
     ensures quiet { IfOk result (λ ended. S.tells → IsEarlyRun ended.how
         → (m : List ℕ) → S.files ended.site m ≡ S.files site m) }
+    ensures before { IfOk result (λ ended. S.tells → IsEarlyRun ended.how
+        → LeavesOnly S.moment S.images_since site ended.site
+        (IsBefore «name» (S.files site «name») (S.may_leave site))) }
+    ensures over { IfOk result (λ ended.
+        RunsOver (λ past. S.tells → Spells past (S.files site «name»)) H.Way.tells F.gives
+        F.may_fail H.Way.history H.Way.count H.Way.idle_count H.Way.is_closed workers.limit
+        (H.got hall.old) (H.got hall.new) plan options ended.records ended.how) }
     ensures honest { IfOk result (λ ended. (options.wq ≡ true → H.honest hall.old)
         → S.tells → (H : List RecordValue)
         → Spells H (S.files site «name»)

@@ -2,13 +2,14 @@ use Rattle.std.proofs.Common.{inr, List, Err, ap, refl, sym, subst}
 use Rattle.flow_types.specs.declared.records.Record.{Record}
 use Rattle.desk.specs.Kept.{IsElse}
 use Rattle.local_run.specs.Course.{IsUnmade}
+use Rattle.local_run.specs.Moments.{IsBefore}
 use Rattle.local_run.specs.Runs.{Held, SerialFits}
 use Rattle.local_run.proofs.Joining.{is_named, keeping}
 use Rattle.cleaning.specs.declared.answers.CleanRefused.{CleanRefused}
 use Rattle.cleaning.specs.Cleanings.{CleanEnds, CleansLog, GivesRecords, HasGone, IsCutClean, IsCutFor, IsOfSite, WasAdmitted, present_made, records_in}
 use Rattle.cleaning.proofs.Looked.{unread_damage, unread_ends, unread_site, unread_whole}
-use Rattle.cleaning.proofs.Reading.{read_alone, read_keeps, reads_all}
-use Rattle.cleaning.proofs.Whole.{beside_alone, cleans_log, inside_joined, moments_joined, moments_keep, risen_since, unmade_alone, unmoved_reads, unread_moments}
+use Rattle.cleaning.proofs.Reading.{read_alone, read_keeps, read_moments, reads_all}
+use Rattle.cleaning.proofs.Whole.{beside_alone, cleans_log, inside_joined, moments_joined, moments_keep, risen_since, unmade_alone, unmoved_before, unmoved_reads, unread_moments}
 use Rattle.cleaning.proofs.sweeping.clean.Goals as goal
 
 pub returns-in-Ok-clause-log : goal.returns-in-Ok-clause-log
@@ -113,6 +114,15 @@ pub returns-in-Err-clause-reads : goal.returns-in-Err-clause-reads
 returns-in-Err-clause-reads g c told uncut begun =
     reads_all c.args.name (g.S.Site.files c.args.site.now) (g.S.Site.files c.recover.new.site)
     (c.in-Err.ensures.unchanged told (unread_damage c.in-Err.why (subst (λ (r : CleanRefused). IsCutFor r.why → ⊥) c.unread.ensures uncut))) (c.recover.ensures.others told)
+
+pub returns-in-Ok-clause-before : goal.returns-in-Ok-clause-before
+returns-in-Ok-clause-before g c =
+    unmoved_before g.S.Site.tells g.S.Site.moment g.S.Site.images_since (IsBefore c.args.name (g.S.Site.files c.args.site.now c.args.name) (g.S.Site.may_leave c.args.site.now)) c.args.site.now c.recover.new.site c.clean_read.new.site c.clean_read.result c.clean_read.ensures.unmoved
+    (λ told. read_moments g.S.Site.files g.S.Site.may_leave g.S.Site.moment g.S.Site.images_since c.args.name c.args.site.now c.recover.new.site (c.recover.ensures.any_moment told))
+
+pub returns-in-Err-clause-before : goal.returns-in-Err-clause-before
+returns-in-Err-clause-before g c told uncut =
+    read_moments g.S.Site.files g.S.Site.may_leave g.S.Site.moment g.S.Site.images_since c.args.name c.args.site.now c.recover.new.site (c.recover.ensures.any_moment told)
 
 pub returns-in-Ok-clause-cause : goal.returns-in-Ok-clause-cause
 returns-in-Ok-clause-cause g c =

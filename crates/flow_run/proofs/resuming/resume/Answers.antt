@@ -9,14 +9,16 @@ use Rattle.local_run.specs.Completing.{HasRecordRoom, SerialInputsFit}
 use Rattle.local_run.specs.Collecting.{AreGone, CollectsBy}
 use Rattle.local_run.specs.Course.{TellsJobs}
 use Rattle.local_run.specs.Ends.{LogsFailures}
-use Rattle.local_run.specs.Moments.{IsMoment}
+use Rattle.local_run.specs.Moments.{IsBefore, IsMoment}
 use Rattle.flow_types.specs.declared.records.Record.{Record}
 use Rattle.txn_log.specs.Spells.{Spells}
 use Rattle.local_run.specs.Runs.{Adds, BeginsWith, Held, IsCutRun, IsStanding, LosesNone, SerialFits, read_sources}
 use Rattle.local_run.proofs.Results.{causes_since, on_ok}
 use Rattle.local_run.proofs.Starts.{fault_joined, starts_joined}
 use Rattle.local_run.proofs.Joining.{each_moment, goes_on_from, is_named, keeping, others_joined, reads_joined}
-use Rattle.log_recover.specs.Recovery.{IsDamage}
+use Rattle.log_recover.specs.Recovery.{IsDamage, IsRecovering}
+use Rattle.outside.specs.Disk.{LeavesOnly}
+use Rattle.outside.proofs.Moments.{weakened}
 use Rattle.local_run.proofs.Refused.{damage_told, early_over, reads_same}
 use Rattle.wq_run.specs.Ends.{LosesOnLinks}
 use Rattle.wq_run.specs.Calm.{GoesWell}
@@ -132,6 +134,26 @@ returns-in-Ok-clause-quiet g c told early m =
     (λ unbegun. early_over c.args.plan c.args.options c.in-Ok.history (g.S.Site.files c.recover.new.site) c.run.result.how (c.run.ensures.starts told) early
     (c.files_spell_one_list.ensures.one c.in-Ok.history [] (g.S.Site.files c.args.site c.args.name) (c.in-Ok.ensures.answer told) (inl unbegun))) m
 
+pub returns-in-Ok-clause-before : goal.returns-in-Ok-clause-before
+returns-in-Ok-clause-before g c told early =
+    let left = IsBefore c.args.name (g.S.Site.files c.args.site c.args.name) (g.S.Site.may_leave c.args.site) in
+    subst (λ (s : g.row.S.Denot). LeavesOnly g.S.Site.moment g.S.Site.images_since c.args.site s left) (sym (c.run.ensures.quiet early))
+    (weakened g.S.Site.moment g.S.Site.images_since c.args.site c.recover.new.site (IsRecovering c.args.name (g.S.Site.files c.args.site c.args.name) (g.S.Site.may_leave c.args.site)) left (c.recover.ensures.any_moment told)
+    (λ image here. record { spelled = here.log; others = here.others }))
+
+pub returns-in-Ok-clause-over : goal.returns-in-Ok-clause-over
+returns-in-Ok-clause-over g c = record {
+  past = c.in-Ok.history;
+  spelled = λ told. c.in-Ok.ensures.answer told;
+  same = c.run.ensures.same;
+  added = c.run.ensures.added;
+  places = c.run.ensures.places;
+  modes = c.run.ensures.modes;
+  lost = c.run.ensures.lost;
+  lost_away = c.run.ensures.lost_away;
+  due_losses = c.run.ensures.due_losses;
+}
+
 pub returns-in-Ok-clause-honest : goal.returns-in-Ok-clause-honest
 returns-in-Ok-clause-honest g c met told H spelled resumable tells =
     let same : (read_sources c.args.plan (g.S.Site.files c.recover.new.site)) ≡ (read_sources c.args.plan (g.S.Site.files c.args.site)) = λ i f. (c.recover.ensures.others told (file_name c.args.plan f) (c.requires.apart f)) i in
@@ -145,6 +167,9 @@ pub returns-in-Err-clause-unchanged : goal.returns-in-Err-clause-unchanged
 returns-in-Err-clause-unchanged g c told damaged m =
     reads_same c.args.name m (g.S.Site.files c.args.site) (g.S.Site.files c.recover.new.site)
     (c.recover.ensures.unchanged told (subst IsDamage (sym c.in-Err.is) (damage_told c.in-Err.why damaged))) (c.recover.ensures.others told m)
+
+pub returns-in-Err-clause-beside : goal.returns-in-Err-clause-beside
+returns-in-Err-clause-beside g c told m other = c.recover.ensures.others told m other
 
 pub returns-in-Ok-clause-modes : goal.returns-in-Ok-clause-modes
 returns-in-Ok-clause-modes g c told H spelled =
