@@ -10,7 +10,7 @@ use Rattle.outside.specs.Disk.{LeavesOnly, Outcomes}
 use Rattle.outside.specs.Files.{Files}
 use Rattle.outside.proofs.Moments.{weakened}
 use Rattle.txn_log.specs.Spells.{Spells}
-use Rattle.desk.specs.Kept.{StaysBeside}
+use Rattle.desk.specs.Kept.{ReadsStay, StaysBeside}
 use Rattle.run_history.specs.declared.options.Mode.{Mode}
 use Rattle.run_history.specs.declared.options.Options.{Options as RunOptions}
 use Rattle.flow_run.specs.Places.{PlacedBy}
@@ -127,6 +127,7 @@ module _ {S : Type 0} (tells : Type 0) (files : S → Files) (may_leave : S → 
     pub moments : tells → (H : List Record) → Spells H (files old ask.log) → AllMoments files may_leave images_since Held born ask H old new records cause
     pub resumable : tells → StaysResumable may_leave images_since born ask old new
     pub others : tells → StaysBeside may_leave moment images_since (IsUnmade ask.plan ask.log) old new
+    pub reads : tells → ReadsStay files (IsUnmade ask.plan ask.log) old new
     pub contents : tells → (H : List Record) → Spells H (files old ask.log)
         → TellsJobs ask.plan ask.options told (serial ask.plan gives (read_sources ask.plan (files old)))
         → AllMoments files may_leave images_since (SerialFits gives (read_sources ask.plan (files old))) born ask H old new records cause
@@ -159,7 +160,9 @@ module _ {S : Type 0} (tells : Type 0) (files : S → Files) (may_leave : S → 
     resumable = f.resumable;
     now = λ t H spelled resumable whole. absurd (whole f.cut);
     untouched = λ t refused. absurd (true≢false (sym refused ∙ (fault_kind (kind_of cause) f.cut).no_refusal));
+    quiet = λ t refused. absurd (true≢false (sym refused ∙ (fault_kind (kind_of cause) f.cut).no_refusal));
     others = f.others;
+    reads = λ t m spared. f.reads t m spared.0;
     contents = λ t H spelled met. f.contents t H spelled;
     honest = λ t H spelled met. f.honest t H spelled;
     sure_end = λ alone is_sure. (fault_kind (kind_of cause) f.cut).sure;

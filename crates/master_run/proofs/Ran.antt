@@ -15,12 +15,12 @@ use Rattle.run_history.specs.declared.states.Found.{Found}
 use Rattle.run_history.specs.Answers.{before_end, end_over}
 use Rattle.run_history.specs.History.{since_opening}
 use Rattle.run_history.specs.Spent.{SpentOnce}
-use Rattle.outside.specs.Disk.{IsImage, Outcomes}
+use Rattle.outside.specs.Disk.{IsImage, LeavesOnly, Outcomes}
 use Rattle.outside.specs.Files.{Files}
 use Rattle.txn_log.specs.Spells.{Spells}
 use Rattle.desk.specs.declared.answers.StartFault.{StartFault}
 use Rattle.desk.specs.declared.answers.StartFault.TheVariants as faults
-use Rattle.desk.specs.Kept.{IsLegal, Keeps, StaysBeside}
+use Rattle.desk.specs.Kept.{IsLegal, Keeps, ReadsStay, StaysBeside}
 use Rattle.local_run.specs.declared.halt.Halt.TheVariants as halts
 use Rattle.local_run.specs.declared.ended.Stopped.{Stopped}
 use Rattle.local_run.specs.declared.ended.Stopped.TheVariants as stopped
@@ -29,8 +29,9 @@ use Rattle.local_run.specs.Collecting.{AreGone, CollectsBy}
 use Rattle.local_run.specs.Completing.{HasRecordRoom, SerialInputsFit}
 use Rattle.local_run.specs.Course.{IsUnmade, TellsJobs}
 use Rattle.local_run.specs.Ends.{HasFailed, IsDamaged, IsDone, IsRunEnd, IsSureEnd, LogsFailures, RunDamage, StartEnds, failed_count, run_fault}
-use Rattle.local_run.specs.Moments.{IsMoment, IsResumable, KeepsSome}
-use Rattle.local_run.specs.Runs.{Adds, BeginsWith, HasCauses, Held, IsAdmitted, IsClosedRun, IsCutRun, IsEarlyRun, IsHallEnd, IsRefusedRun, LosesNone, SerialFits, read_sources}
+use Rattle.local_run.specs.Moments.{IsBefore, IsMoment, IsResumable, KeepsSome}
+use Rattle.local_run.proofs.Refused.{early_over}
+use Rattle.local_run.specs.Runs.{Adds, BeginsWith, HasCauses, Held, IsAdmitted, IsClosedRun, IsCutAtStart, IsCutRun, IsEarlyRun, IsHallEnd, IsRefusedRun, IsSparedName, LosesNone, SerialFits, read_sources}
 use Rattle.command_words.specs.declared.options.Work.{Work}
 use Rattle.command_words.specs.declared.options.Work.TheVariants as works
 use Rattle.report.specs.declared.cause.Cause.{Cause}
@@ -51,7 +52,7 @@ use Rattle.master_run.specs.Runs.{damage_cause, run_cause}
 use Rattle.master_run.specs.Serves.{Completes, IsCut, Serves}
 use Rattle.master_run.proofs.Adding.{run_adds}
 use Rattle.master_run.proofs.Faults.{fault_goes}
-use Rattle.master_run.proofs.Moved.{append_nothing, moment_after}
+use Rattle.master_run.proofs.Moved.{append_nothing, begun_still, moment_after}
 
 absent : {A : Type 0} → false ≡ true → A
 absent wrong = absurd (true≢false (sym wrong))
@@ -82,6 +83,13 @@ cut_run s r h P (Err (stopped.Halted halts.Runner)) cut = absurd cut
 cut_run s r h P (Err (stopped.Halted halts.Site)) cut = refl
 cut_run s r h P (Err (stopped.Halted halts.Memory)) cut = refl
 cut_run s r h P (Err stopped.Hall) cut = absurd cut
+
+-- where the start of a run was cut short, the run was
+start_cut : (how : Result Check Stopped) → IsCutAtStart how → IsCutRun how
+start_cut (Ok ended) cut = absurd cut
+start_cut (Err (stopped.Refused why)) cut = cut
+start_cut (Err (stopped.Halted halt)) cut = absurd cut
+start_cut (Err stopped.Hall) cut = absurd cut
 
 -- the same of counts that are told
 pub told_cause : (s0 s1 s2 h0 h1 h2 h3 : ℕ) (r : Rise) (P Q : Plan) (how : Result Check Stopped) → s1 ≡ s2 → h0 ≡ h1 → h2 ≡ h3 → P ≡ Q
@@ -537,6 +545,7 @@ module _ {S : Type 0} (tells : Type 0) (files : S → Files) (may_leave : S → 
     pub same : tells → (H : List Record) → Spells H (files old ask.log) → IsRefusedRun how → records ≡ H
     pub added : tells → (H : List Record) → Spells H (files old ask.log) → AddsRun ask.options H records how
     pub quiet : tells → IsEarlyRun how → (m : List ℕ) → files new m ≡ files old m
+    pub before : tells → IsEarlyRun how → LeavesOnly moment images_since old new (IsBefore ask.log (files old ask.log) (may_leave old))
     pub starts : tells → (H : List Record) → Spells H (files old ask.log) → StartEnds (run_fault ask.plan ask.options H (files old)) how
     pub closed : ask.options.wq ≡ false → IfOk how (IsRunEnd ask.options.limit)
     pub ends : ask.options.wq ≡ false → IfOk how (λ ended. ended ≡ end_over ask.plan ask.options (before_end records) None)
@@ -550,6 +559,7 @@ module _ {S : Type 0} (tells : Type 0) (files : S → Files) (may_leave : S → 
     pub is_sure : ask.options.wq ≡ false → sure → IsSureEnd how
     pub never : sure → IsSparedRunners how
     pub others : tells → StaysBeside may_leave moment images_since (IsUnmade ask.plan ask.log) old new
+    pub reads : tells → ReadsStay files (IsSparedName ask.plan ask.log how) old new
     pub moments : tells → (H : List Record) → Spells H (files old ask.log) → IsResumable Held ask.plan ask.log H (may_leave old)
         → (image : Files) → images_since new born image → images_since old born image ⊎ IsMoment Held ask.plan ask.log (files old) (may_leave old) H records (IsCutRun how) image
     pub resumable : tells → (H : List Record) → Spells H (files old ask.log) → ((image : Files) → IsImage (may_leave old) image → KeepsSome Held ask.plan ask.log image)
@@ -609,7 +619,11 @@ module _ {S : Type 0} (tells : Type 0) (files : S → Files) (may_leave : S → 
     resumable = λ t some image left. let log = k.log t in k.resumable t log.0 log.1 some image left;
     now = λ t H spelled resumable whole. k.at_end t H spelled resumable (λ cut. whole (cut_run (site_rise b a) r (hall_rise b a) ask.plan how cut));
     untouched = λ t refused. λ i m. k.quiet t (early_run (site_rise b a) r (hall_rise b a) ask.plan how refused) m i;
+    quiet = λ t refused.
+        let early : IsEarlyRun how = early_run (site_rise b a) r (hall_rise b a) ask.plan how refused in
+        begun_still files may_leave moment images_since ask.log old new (k.before t early) (λ unbegun. early_over ask.plan ask.options [] (files old) how (k.starts t [] (inl unbegun)) early refl);
     others = k.others;
+    reads = λ t m spared. k.reads t m (spared.0, λ cut. spared.1 (cut_run (site_rise b a) r (hall_rise b a) ask.plan how (start_cut how cut)));
     contents = λ t H spelled met jobs resumable image left.
         ⊎_elim (λ was. inl was)
         (λ (m : IsMoment (SerialFits gives (read_sources ask.plan (files old))) ask.plan ask.log (files old) (may_leave old) H records (IsCutRun how) image).

@@ -1,5 +1,5 @@
 -- From what a call does behind the reading of the flow to what it does from its entry on.
-use Rattle.std.proofs.Common.{◌≡◌, ◌≤◌, ⊎_elim, inl, inr, ◌∙◌, ℕ, List, Option, sym, subst}
+use Rattle.std.proofs.Common.{◌≡◌, ◌≤◌, ⊎_elim, inl, inr, ◌∙◌, ℕ, List, Option, ap, sym, subst}
 use Rattle.flow_types.specs.declared.plan.Plan.{Plan}
 use Rattle.flow_types.specs.declared.job.Job.{Job}
 use Rattle.flow_types.specs.declared.job.Failure.{Failure}
@@ -8,7 +8,7 @@ use Rattle.flow_types.specs.Serial.{Function, serial}
 use Rattle.txn_log.specs.Spells.{Spells}
 use Rattle.outside.specs.Disk.{IsImage, LeavesOnly, Outcomes, Within}
 use Rattle.outside.specs.Files.{Files}
-use Rattle.outside.proofs.Moments.{weakened}
+use Rattle.outside.proofs.Moments.{joined, weakened}
 use Rattle.desk.proofs.Others.{then_stays}
 use Rattle.local_run.specs.Course.{IsUnmade, TellsJobs}
 use Rattle.local_run.specs.Moments.{IsBefore, IsMoment, IsResumable, KeepsSome}
@@ -82,11 +82,15 @@ module _ {S : Type 0} (tells : Type 0) (files : S → Files) (may_leave : S → 
         (λ keeps. inr keeps) (s.resumable t (λ there is. some there (λ m. (looked t).within m (there m) (is m))) image left);
     now = λ t H spelled resumable. s.now t H (at_mid t H spelled) (resumable_from Held ask.plan ask.log H (may_leave old) (may_leave mid) (looked t).within resumable);
     untouched = λ t refused. s.untouched t refused ∙ (looked t).same;
+    quiet = λ t refused.
+        joined moment images_since old mid new (IsImage (may_leave old)) (IsImage (may_leave mid)) (IsImage (may_leave old)) (looked t).only (s.quiet t refused)
+        (λ image is. is) (λ image is m. (looked t).within m (image m) (is m));
     others = λ t. then_stays may_leave moment images_since (IsUnmade ask.plan ask.log) old mid new
         (record {
           now = λ m file beside left. (looked t).within m file left;
           any_moment = weakened moment images_since old mid (IsImage (may_leave old)) (λ image. (m : List ℕ) → IsUnmade ask.plan ask.log m → may_leave old m (image m)) (looked t).only (λ image is m beside. is m);
         }) (s.others t);
+    reads = λ t m spared. s.reads t m spared ∙ ap (λ (fs : Files). fs m) (looked t).same;
     contents = λ t H spelled met jobs. all_from (SerialFits gives (read_sources ask.plan (files old))) H t
         (subst (λ (fs : Files). AllMoments files may_leave images_since (SerialFits gives (read_sources ask.plan fs)) born ask H mid new records cause) (looked t).same
         (s.contents t H (at_mid t H spelled) met (subst (λ (fs : Files). TellsJobs ask.plan ask.options told (serial ask.plan gives (read_sources ask.plan fs))) (sym (looked t).same) jobs)));

@@ -1,5 +1,5 @@
 -- What a call does that is refused before its log is read.
-use Rattle.std.proofs.Common.{◌≡◌, ◌≤◌, ◌<◌, ⊎_elim, inl, inr, ◌∙◌, ℕ, true, false, [], Result, Ok, Err, IsOk, refl, sym, subst, arith, true≢false}
+use Rattle.std.proofs.Common.{◌≡◌, ◌≤◌, ◌<◌, ⊎_elim, inl, inr, ◌∙◌, ℕ, true, false, [], Result, Ok, Err, IsOk, refl, ap, sym, subst, arith, true≢false}
 use Rattle.flow_types.specs.declared.job.Job.{Job}
 use Rattle.flow_types.specs.declared.job.Failure.{Failure}
 use Rattle.flow_types.specs.Serial.{Function}
@@ -140,6 +140,7 @@ module _ {S : Type 0} (tells : Type 0) (files : S → Files) (may_leave : S → 
         honest = λ t H spelled resumable jobs begins. adds_none gives may_fail ask.plan (files old) H begins;
         modes = λ t H spelled begins. unread_collects ask.plan ask.options.mode H begins;
         places = λ t H spelled begins. unread_placed ask.plan ask.options H begins;
+        reads = λ t m unmade. ap (λ (fs : Files). fs m) (looked t).same;
         none_rose = completes;
       })
     where

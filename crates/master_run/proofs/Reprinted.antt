@@ -261,7 +261,9 @@ module _ {S : Type 0} (tells : Type 0) (files : S → Files) (may_leave : S → 
         resumable = s.resumable;
         now = s.now;
         untouched = s.untouched;
+        quiet = s.quiet;
         others = s.others;
+        reads = s.reads;
         contents = s.contents;
         honest = s.honest;
         modes = s.modes;
@@ -289,7 +291,9 @@ module _ {S : Type 0} (tells : Type 0) (files : S → Files) (may_leave : S → 
         resumable = s.resumable;
         now = λ t H spelled resumable whole. s.now t H spelled resumable (end_whole (kind_of cause) is);
         untouched = λ t wrong. absurd (true≢false (sym wrong));
+        quiet = λ t wrong. absurd (true≢false (sym wrong));
         others = s.others;
+        reads = λ t m spared. s.reads t m (spared.0, λ cut. absurd (end_whole (kind_of cause) is cut));
         contents = λ t H spelled met jobs. all_after files may_leave images_since born ask old new records (SerialFits gives (read_sources ask.plan (files old))) H cause (causes.SinkFault b a) (λ cut. absurd (end_whole (kind_of cause) is cut)) (s.contents t H spelled met jobs);
         honest = s.honest;
         modes = s.modes;
@@ -316,7 +320,9 @@ module _ {S : Type 0} (tells : Type 0) (files : S → Files) (may_leave : S → 
         resumable = s.resumable;
         now = λ t H spelled resumable whole. absurd (whole refl);
         untouched = λ t wrong. absurd (true≢false (sym wrong));
+        quiet = λ t wrong. absurd (true≢false (sym wrong));
         others = s.others;
+        reads = λ t m spared. s.reads t m (spared.0, λ cut. spared.1 refl);
         contents = λ t H spelled met jobs. all_after files may_leave images_since born ask old new records (SerialFits gives (read_sources ask.plan (files old))) H cause causes.Memory (λ cut. refl) (s.contents t H spelled met jobs);
         honest = s.honest;
         modes = s.modes;
@@ -350,9 +356,10 @@ pub after_failed : (f0 f1 b a : ℕ) (cause now : Cause) → Stands b a cause no
 after_failed f0 f1 b a cause now stood failed =
     of_each (λ (c : Cause). FailureEnd f0 f1 (kind_of c)) b a cause now stood failed (λ rose is. record { later = failed.later; rose = λ wrong. absurd (cc) }) (record { later = failed.later; rose = λ wrong. absurd (cc) })
 
-pub after_untouched : (old new : Files) (b a : ℕ) (cause now : Cause) → Stands b a cause now → (is_refusal (kind_of cause) ≡ true → new ≡ old) → is_refusal (kind_of now) ≡ true → new ≡ old
-after_untouched old new b a cause now stood same =
-    of_each (λ (c : Cause). is_refusal (kind_of c) ≡ true → new ≡ old) b a cause now stood same (λ rose is wrong. absurd (true≢false (sym wrong))) (λ wrong. absurd (true≢false (sym wrong)))
+-- what holds of a refusal
+pub after_refused : (A : Type 0) (b a : ℕ) (cause now : Cause) → Stands b a cause now → (is_refusal (kind_of cause) ≡ true → A) → is_refusal (kind_of now) ≡ true → A
+after_refused A b a cause now stood holds =
+    of_each (λ (c : Cause). is_refusal (kind_of c) ≡ true → A) b a cause now stood holds (λ rose is wrong. absurd (true≢false (sym wrong))) (λ wrong. absurd (true≢false (sym wrong)))
 
 -- what holds unless the call was cut short
 pub after_cut : (A : Type 0) (b a : ℕ) (cause now : Cause) → Stands b a cause now → ((IsCut cause → ⊥) → A) → (IsCut now → ⊥) → A

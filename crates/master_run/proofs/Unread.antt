@@ -6,7 +6,7 @@ use Rattle.flow_types.specs.declared.records.Record.{Record}
 use Rattle.flow_types.specs.Serial.{Function}
 use Rattle.outside.specs.Disk.{IsImage, LeavesOnly, Outcomes}
 use Rattle.outside.specs.Files.{Files}
-use Rattle.txn_log.specs.Spells.{Spells}
+use Rattle.txn_log.specs.Spells.{IsUnbegun, Spells}
 use Rattle.log_recover.specs.Laws.{HasAHeader, IsWhole}
 use Rattle.log_recover.specs.declared.fault.RecoverFault.{RecoverFault}
 use Rattle.log_recover.specs.declared.fault.RecoverFault.TheVariants as recovery
@@ -26,6 +26,7 @@ use Rattle.master_run.specs.Headline.{FailureEnd, is_run_end}
 use Rattle.master_run.specs.Runs.{unread_cause}
 use Rattle.master_run.specs.Serves.{Serves}
 use Rattle.master_run.proofs.Adding.{unread_adds}
+use Rattle.master_run.proofs.Moved.{begun_still}
 use Rattle.master_run.proofs.Faults.{adds_none, before_all, before_beside, fault_serves, unread_collects, unread_placed}
 
 -- what a recovery leaves is of before the log was read
@@ -63,7 +64,8 @@ at_of x y is = ap at is
 module _ {S : Type 0} (tells : Type 0) (files : S → Files) (may_leave : S → Outcomes) (moment : S → ℕ) (images_since : S → ℕ → Files → Type 0) (born : ℕ)
     (gives : Function) (may_fail : Job → Failure → Type 0) (told : Job → Type 0) (sure honest_links : Type 0) (b a : Counts) (ask : Ask) (old new : S)
     (later : tells → born ≤ moment old) (only : tells → LeavesOnly moment images_since old new (IsBefore ask.log (files old ask.log) (may_leave old)))
-    (crash : tells → (m : List ℕ) (file : Option (List ℕ)) → m ≢ ask.log → may_leave new m file → may_leave old m file) where
+    (crash : tells → (m : List ℕ) (file : Option (List ℕ)) → m ≢ ask.log → may_leave new m file → may_leave old m file)
+    (beside : tells → (m : List ℕ) → m ≢ ask.log → files new m ≡ files old m) where
   goes_on : tells → ((image : Files) → IsImage (may_leave old) image → KeepsSome Held ask.plan ask.log image) → (image : Files) → images_since new born image
       → images_since old born image ⊎ KeepsSome Held ask.plan ask.log image
   goes_on t some image left =
@@ -87,12 +89,13 @@ module _ {S : Type 0} (tells : Type 0) (files : S → Files) (may_leave : S → 
         honest = λ t H spelled resumable jobs begins. adds_none gives may_fail ask.plan (files old) H begins;
         modes = λ t H spelled begins. unread_collects ask.plan ask.options.mode H begins;
         places = λ t H spelled begins. unread_placed ask.plan ask.options H begins;
+        reads = λ t m unmade. beside t m unmade.0;
         none_rose = completes;
       })
 
-  damaged_serves : (at : ℕ) → (tells → IsDamagedAt (files old ask.log) at) → (tells → (H : List Record) → Spells H (files old ask.log) → ⊥) → (tells → (m : List ℕ) → files new m ≡ files old m)
+  damaged_serves : (at : ℕ) → (tells → IsDamagedAt (files old ask.log) at) → (tells → (H : List Record) → Spells H (files old ask.log) → ⊥) → (tells → IsUnbegun (files old ask.log) → ⊥) → (tells → (m : List ℕ) → files new m ≡ files old m)
       → Serves tells files may_leave moment images_since born gives may_fail told sure honest_links b a ask old new [] (causes.LogDamaged at)
-  damaged_serves at is none same = record {
+  damaged_serves at is none begun same = record {
     ends = λ t. record {
       damaged = λ place told_at. subst (IsDamagedAt (files old ask.log)) (at_of at place told_at) (is t);
       read = inr (inl (at, refl));
@@ -112,9 +115,11 @@ module _ {S : Type 0} (tells : Type 0) (files : S → Files) (may_leave : S → 
     resumable = goes_on;
     now = λ t H spelled. absurd (none t H spelled);
     untouched = λ t refused. λ i m. same t m i;
+    quiet = λ t refused. begun_still files may_leave moment images_since ask.log old new (only t) (begun t);
     others = λ t. before_beside tells files may_leave moment images_since born gives may_fail told sure honest_links b a ask old new [] (causes.LogDamaged at) (only t) (crash t);
     contents = λ t H spelled met jobs. absurd (none t H spelled);
     honest = λ t H spelled met resumable jobs begins. absurd (none t H spelled);
+    reads = λ t m spared. beside t m spared.0.0;
     sure_end = λ alone is_sure. refl;
     never = λ is_sure. refl;
     completes = λ t H spelled. absurd (none t H spelled);
@@ -131,7 +136,7 @@ module _ {S : Type 0} (tells : Type 0) (files : S → Files) (may_leave : S → 
   unread_serves header whole recovery.Site rose is same =
       cut_serves (causes.SiteFault b.site a.site) refl refl refl (refl, refl, rose refl) (λ none. absurd (let wrong : ⊥ = omega (arith, rose refl, none.site) in wrong))
   unread_serves header whole recovery.BadHeader rose is same =
-      damaged_serves 0 (λ t. inl (is t, refl)) (λ t H spelled. header H (files old ask.log) spelled (is t)) (λ t. same t tt)
+      damaged_serves 0 (λ t. inl (is t, refl)) (λ t H spelled. header H (files old ask.log) spelled (is t)) (λ t unbegun. header [] (files old ask.log) (inl unbegun) (is t)) (λ t. same t tt)
   unread_serves header whole (recovery.BadRecord at) rose is same =
-      damaged_serves at (λ t. inr (is t)) (λ t H spelled. whole H (files old ask.log) at spelled (is t)) (λ t. same t tt)
+      damaged_serves at (λ t. inr (is t)) (λ t H spelled. whole H (files old ask.log) at spelled (is t)) (λ t unbegun. whole [] (files old ask.log) at (inl unbegun) (is t)) (λ t. same t tt)
   unread_serves header whole recovery.Memory rose is same = cut_serves causes.Memory refl refl refl tt (λ none. refl)

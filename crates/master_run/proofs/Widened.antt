@@ -78,7 +78,9 @@ module _ {S : Type 0} (tells : Type 0) (files : S → Files) (may_leave : S → 
     resumable = s.resumable;
     now = s.now;
     untouched = s.untouched;
+    quiet = s.quiet;
     others = s.others;
+    reads = s.reads;
     contents = λ t H spelled met jobs. s.contents t H spelled (λ wq. links_are (met wq)) (fewer jobs);
     honest = λ t H spelled met resumable jobs. s.honest t H spelled (λ wq. links_are (met wq)) resumable (fewer jobs);
     modes = s.modes;

@@ -7,7 +7,7 @@ use Rattle.flow_types.specs.Serial.{Function}
 use Rattle.outside.specs.Disk.{IsImage, LeavesOnly, Outcomes}
 use Rattle.outside.specs.Files.{Files}
 use Rattle.txn_log.specs.Spells.{Spells}
-use Rattle.desk.specs.Kept.{IsLegal, Keeps, StaysBeside}
+use Rattle.desk.specs.Kept.{IsLegal, Keeps, ReadsStay, StaysBeside}
 use Rattle.local_run.specs.Collecting.{CollectsBy}
 use Rattle.local_run.specs.Course.{IsUnmade}
 use Rattle.local_run.specs.Moments.{IsMoment, IsResumable, KeepsSome}
@@ -65,7 +65,9 @@ module _ {S : Type 0} (tells : Type 0) (files : S → Files) (may_leave : S → 
         → (image : Files) → IsImage (may_leave new) image → Keeps Held ask.plan ask.log records image
     pub cleaned : tells → (H : List Record) → Spells H (files old ask.log) → IsCleanedBy ask.plan H (files new) cause
     pub untouched : tells → is_refusal (kind_of cause) ≡ true → (m : List ℕ) → files new m ≡ files old m
+    pub quiet : tells → is_refusal (kind_of cause) ≡ true → LeavesOnly moment images_since old new (IsImage (may_leave old))
     pub others : tells → StaysBeside may_leave moment images_since (IsUnmade ask.plan ask.log) old new
+    pub reads : tells → ReadsStay files (IsUnmade ask.plan ask.log) old new
 
   still_runs : (kind : Kind) → is_failing kind ≡ false → is_runner_fault kind ≡ false
   still_runs kinds.RunnerBroke still = absurd (true≢false still)
@@ -96,7 +98,9 @@ module _ {S : Type 0} (tells : Type 0) (files : S → Files) (may_leave : S → 
     resumable = λ t some image left. (c.resumable t some).before born image (c.later t) left;
     now = λ t H spelled resumable whole. c.at_end t H spelled resumable whole;
     untouched = λ t refused. λ i m. c.untouched t refused m i;
+    quiet = c.quiet;
     others = c.others;
+    reads = λ t m spared. c.reads t m spared.0;
     contents = λ t H spelled met jobs. all_by (SerialFits gives (read_sources ask.plan (files old))) H c t (c.contents t H spelled);
     honest = λ t H spelled met resumable jobs begins.
         ⊎_elim (λ (either : AreEither H time records). adds_nothing gives may_fail (read_sources ask.plan (files old)) ask.plan H records time either)

@@ -8,10 +8,11 @@ use Rattle.flow_types.specs.declared.records.Record.{Record}
 use Rattle.flow_types.specs.Serial.{Function, serial}
 use Rattle.run_history.specs.History.{since_opening}
 use Rattle.run_history.specs.Spent.{SpentOnce}
-use Rattle.outside.specs.Disk.{IsImage, Outcomes}
+use Rattle.outside.specs.Disk.{IsImage, LeavesOnly, Outcomes}
 use Rattle.outside.specs.Files.{Files}
 use Rattle.txn_log.specs.Spells.{Spells}
-use Rattle.desk.specs.Kept.{IsLegal, Keeps, StaysBeside}
+use Rattle.desk.specs.Kept.{IsLegal, Keeps, ReadsStay, StaysBeside}
+use Rattle.desk.specs.Openings.{IsNoSource}
 use Rattle.local_run.specs.Collecting.{AreGone, CollectsBy}
 use Rattle.local_run.specs.Completing.{HasRecordRoom, HasSources, SerialInputsFit}
 use Rattle.local_run.specs.Course.{IsUnmade, TellsJobs}
@@ -32,6 +33,10 @@ use Rattle.master_run.specs.Headline.{HasLog, IsCleanedBy, IsLegalOr, IsSpentBy,
 -- The call may have ended in the midst of an append.
 abbrev pub IsCut : Cause → Type 0
 IsCut cause = IsTrue (is_cut (kind_of cause))
+
+-- The name is neither the log's nor that of a file that a rule makes. Where the site failed or memory was wanting it isn't that of a source either.
+abbrev pub IsSparedBy : Plan → List ℕ → Cause → List ℕ → Type 0
+IsSparedBy P log cause m = IsUnmade P log m × (IsCut cause → IsNoSource P m)
 
 -- What a file has to have to fit what was logged of it.
 abbrev pub Fit : Type 1
@@ -90,7 +95,9 @@ pub record Serves {S : Type 0} (tells : Type 0) (files : S → Files) (may_leave
   pub resumable : tells → StaysResumable may_leave images_since born ask old new
   pub now : tells → (H : List Record) → Spells H (files old ask.log) → KeepsAtEnd may_leave ask H old new records cause
   pub untouched : tells → IsTrue (is_refusal (kind_of cause)) → files new ≡ files old
+  pub quiet : tells → IsTrue (is_refusal (kind_of cause)) → LeavesOnly moment images_since old new (IsImage (may_leave old))
   pub others : tells → StaysBeside may_leave moment images_since (IsUnmade ask.plan ask.log) old new
+  pub reads : tells → ReadsStay files (IsSparedBy ask.plan ask.log cause) old new
   pub contents : tells → (H : List Record) → Spells H (files old ask.log) → (ask.options.wq ≡ true → honest_links)
       → TellsJobs ask.plan ask.options told (serial ask.plan gives (read_sources ask.plan (files old)))
       → AllMoments files may_leave images_since (SerialFits gives (read_sources ask.plan (files old))) born ask H old new records cause

@@ -7,10 +7,10 @@ ghost use Rattle.flow_types.specs.Serial.{serial};
 ghost use Rattle.run_history.specs.Answers.{before_end};
 ghost use Rattle.run_history.specs.History.{since_opening};
 ghost use Rattle.run_history.specs.Spent.{SpentOnce};
-ghost use Rattle.outside.specs.Disk.{IsImage};
+ghost use Rattle.outside.specs.Disk.{IsImage, LeavesOnly};
 ghost use Rattle.outside.specs.Files.{Files};
 ghost use Rattle.txn_log.specs.Spells.{Spells};
-ghost use Rattle.desk.specs.Kept.{IsLegal, Keeps, StaysBeside};
+ghost use Rattle.desk.specs.Kept.{IsLegal, Keeps, ReadsStay, StaysBeside};
 ghost use Rattle.file_store.specs.Outputs.{file_name};
 ghost use Rattle.worker_pool.specs.Crews.{AllSure, AllTell};
 ghost use Rattle.command_words.specs.declared.options.Work.TheVariants.{Run};
@@ -39,7 +39,7 @@ ghost use Rattle.master_run.specs.Headline.{WaitedBy, WaitsInVain, is_run_end, i
 ghost use Rattle.master_run.specs.Needs.{NeedsFit};
 ghost use Rattle.master_run.specs.Prints.{Prints};
 ghost use Rattle.master_run.specs.Reaching.{AreSureLinks, GoesSurely, IsMannedFor};
-ghost use Rattle.master_run.specs.Serves.{CanComplete, IsCut, Serves};
+ghost use Rattle.master_run.specs.Serves.{CanComplete, IsCut, IsSparedBy, Serves};
 ghost use Rattle.master_run.specs.Vain.{VainBy};
 
 use crate::ask::Ask;
@@ -213,6 +213,8 @@ fn follow<
         → IsPlanOf (request words.now env.now (S.files site)) result.plan }
     ensures untouched { S.tells → IsTrue (is_refusal (kind_of result.cause))
         → S.files result.site ≡ S.files site }
+    ensures quiet { S.tells → IsTrue (is_refusal (kind_of result.cause))
+        → LeavesOnly S.moment S.images_since site result.site (IsImage (S.may_leave site)) }
     ensures closed { IsTrue (is_run_end (kind_of result.cause))
         → SpentOnce (since_opening result.records) }
     ensures never { AllSure R.sure runners.old
@@ -444,13 +446,21 @@ pub fn makeflow_top<
         → (IsCut result.cause → ⊥) → (image : Files) → IsImage (S.may_leave result.site) image
         → Keeps Held ask.plan ask.log result.records image) }
 
-    // A refusal changes no file, and no call changes one that no rule makes, but the log.
+    // A refusal changes no file: reads give what they gave, and a crash at any moment of the call
+    // leaves nothing that it might not have left at the entry. No call changes a file that no rule
+    // makes, but the log. What reads give of these stays; of sources it isn't said behind a fault
+    // of the folder or want of memory.
     ensures untouched { S.tells → IsTrue (is_refusal (kind_of result.cause))
         → S.files result.site ≡ S.files site }
+    ensures quiet { S.tells → IsTrue (is_refusal (kind_of result.cause))
+        → LeavesOnly S.moment S.images_since site result.site (IsImage (S.may_leave site)) }
     ensures others { S.tells → (ask : AskValue)
         → request words.now env.now (S.files site) ≡ Ok ask
         → StaysBeside S.may_leave S.moment S.images_since (IsUnmade ask.plan ask.log)
         site result.site }
+    ensures reads { S.tells → (ask : AskValue)
+        → request words.now env.now (S.files site) ≡ Ok ask
+        → ReadsStay S.files (IsSparedBy ask.plan ask.log result.cause) site result.site }
 
     // Where the commands are functions of their inputs, the runners tell what those say of the job
     // of each rule that may run here, and with workers each of their links is honest, every present

@@ -16,6 +16,7 @@ use Rattle.master_run.specs.Runs.{clean_cause}
 use Rattle.master_run.specs.Serves.{Serves}
 use Rattle.master_run.proofs.Counted.{site_rise}
 use Rattle.master_run.proofs.Adding.{clean_adds}
+use Rattle.master_run.proofs.Moved.{begun_still}
 use Rattle.master_run.proofs.Works.{cared_serves}
 use Rattle.cleaning.specs.Cleanings.{IsCutFor}
 use Rattle.master_run.proofs.Cared.{begins_so, clean_begins, clean_begun, clean_cleans, clean_cut, clean_damaged, clean_either, clean_faults, clean_goes, clean_late, clean_legal, clean_log, clean_of, clean_read, clean_still, clean_uncut, cut_clean, done_goes, ended_either, fails_nothing, loses_nothing}
@@ -47,7 +48,9 @@ returns-in-Ok-clause-serves g c =
       at_end = λ t H spelled resumable whole image left. c.in-Ok.ensures.now t H spelled resumable (λ cut. cut) image left;
       cleaned = λ t H spelled. c.in-Ok.ensures.gone t H spelled;
       untouched = λ t wrong. absurd (true≢false (sym wrong));
+      quiet = λ t wrong. absurd (true≢false (sym wrong));
       others = λ t. (c.in-Ok.ensures.others t).crash;
+      reads = λ t. (c.in-Ok.ensures.others t).reads;
     })
 
 pub returns-in-Err-clause-serves : goal.returns-in-Err-clause-serves
@@ -82,7 +85,10 @@ returns-in-Err-clause-serves g c =
       cleaned = λ t H spelled. clean_cleans (site_rise (counts c.args.before [] 0 0 0) (counts (g.S.Site.count c.clean.new.site) [] 0 0 0)) c.args.ask.plan H (g.S.Site.files c.clean.new.site) why;
       untouched = λ t refused m. c.in-Err.ensures.reads t (cut_clean (site_rise (counts c.args.before [] 0 0 0) (counts (g.S.Site.count c.clean.new.site) [] 0 0 0)) why refused)
           (clean_begun c.files_spell_one_list.ensures.one c.files_spell_one_list.ensures.header c.files_spell_one_list.ensures.whole c.args.ask.plan (g.S.Site.files c.args.site c.args.ask.log) given why (site_rise (counts c.args.before [] 0 0 0) (counts (g.S.Site.count c.clean.new.site) [] 0 0 0)) refused (c.in-Err.ensures.log t) (λ H spelled. c.in-Err.ensures.ends t H spelled)) m;
+      quiet = λ t refused. begun_still g.S.Site.files g.S.Site.may_leave g.S.Site.moment g.S.Site.images_since c.args.ask.log c.args.site c.clean.new.site (c.in-Err.ensures.before t (cut_clean (site_rise (counts c.args.before [] 0 0 0) (counts (g.S.Site.count c.clean.new.site) [] 0 0 0)) why refused))
+          (clean_begun c.files_spell_one_list.ensures.one c.files_spell_one_list.ensures.header c.files_spell_one_list.ensures.whole c.args.ask.plan (g.S.Site.files c.args.site c.args.ask.log) given why (site_rise (counts c.args.before [] 0 0 0) (counts (g.S.Site.count c.clean.new.site) [] 0 0 0)) refused (c.in-Err.ensures.log t) (λ H spelled. c.in-Err.ensures.ends t H spelled));
       others = λ t. (c.in-Err.ensures.others t).crash;
+      reads = λ t. (c.in-Err.ensures.others t).reads;
     }))
 
 pub returns-in-Ok-clause-fails_none : goal.returns-in-Ok-clause-fails_none

@@ -20,7 +20,7 @@ use Rattle.master_run.specs.Runs.{look_cause}
 use Rattle.master_run.specs.Serves.{Serves}
 use Rattle.local_run.specs.Course.{IsUnmade}
 use Rattle.local_run.proofs.Alone.{beside_less}
-use Rattle.master_run.proofs.Moved.{append_nothing}
+use Rattle.master_run.proofs.Moved.{append_nothing, begun_still}
 use Rattle.master_run.proofs.Counted.{site_rise}
 use Rattle.master_run.proofs.Adding.{look_adds}
 use Rattle.master_run.proofs.Works.{cared_serves}
@@ -63,7 +63,9 @@ returns-in-Ok-clause-serves g c =
       at_end = λ t H spelled resumable whole image left. subst (λ (xs : List Record). Keeps Held c.args.ask.plan c.args.ask.log xs image) (sym (c.in-Ok.ensures.ends t H spelled).0) (c.in-Ok.ensures.kept t H spelled resumable tt image left);
       cleaned = λ t H spelled. tt;
       untouched = λ t wrong. absurd (true≢false (sym wrong));
+      quiet = λ t wrong. absurd (true≢false (sym wrong));
       others = λ t. beside_less g.S.Site.files g.S.Site.may_leave g.S.Site.moment g.S.Site.images_since (λ m. m ≢ c.args.ask.log) (IsUnmade c.args.ask.plan c.args.ask.log) c.args.site c.look.new.site (λ m other. other.0) (c.in-Ok.ensures.others t).crash;
+      reads = λ t m unmade. (c.in-Ok.ensures.others t).reads m unmade.0;
     })
 
 pub returns-in-Err-clause-serves : goal.returns-in-Err-clause-serves
@@ -100,7 +102,10 @@ returns-in-Err-clause-serves g c =
       cleaned = λ t H spelled. look_cleans (site_rise (counts c.args.before [] 0 0 0) (counts (g.S.Site.count c.look.new.site) [] 0 0 0)) c.args.ask.plan H (g.S.Site.files c.look.new.site) why;
       untouched = λ t refused m. c.in-Err.ensures.reads t (cut_look (site_rise (counts c.args.before [] 0 0 0) (counts (g.S.Site.count c.look.new.site) [] 0 0 0)) why refused)
           (look_begun c.files_spell_one_list.ensures.one c.files_spell_one_list.ensures.header c.files_spell_one_list.ensures.whole c.args.ask.plan (g.S.Site.files c.args.site c.args.ask.log) given why (cut_look (site_rise (counts c.args.before [] 0 0 0) (counts (g.S.Site.count c.look.new.site) [] 0 0 0)) why refused) (c.in-Err.ensures.log t) (λ H spelled. (c.in-Err.ensures.ends t H spelled).0)) m;
+      quiet = λ t refused. begun_still g.S.Site.files g.S.Site.may_leave g.S.Site.moment g.S.Site.images_since c.args.ask.log c.args.site c.look.new.site (c.in-Err.ensures.moments t)
+          (look_begun c.files_spell_one_list.ensures.one c.files_spell_one_list.ensures.header c.files_spell_one_list.ensures.whole c.args.ask.plan (g.S.Site.files c.args.site c.args.ask.log) given why (cut_look (site_rise (counts c.args.before [] 0 0 0) (counts (g.S.Site.count c.look.new.site) [] 0 0 0)) why refused) (c.in-Err.ensures.log t) (λ H spelled. (c.in-Err.ensures.ends t H spelled).0));
       others = λ t. beside_less g.S.Site.files g.S.Site.may_leave g.S.Site.moment g.S.Site.images_since (λ m. m ≢ c.args.ask.log) (IsUnmade c.args.ask.plan c.args.ask.log) c.args.site c.look.new.site (λ m other. other.0) (c.in-Err.ensures.others t).crash;
+      reads = λ t m unmade. (c.in-Err.ensures.others t).reads m unmade.0;
     }))
 
 pub returns-in-Ok-clause-fails_none : goal.returns-in-Ok-clause-fails_none

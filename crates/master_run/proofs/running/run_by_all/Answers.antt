@@ -63,6 +63,7 @@ returns-in-Ok-resume-clause-serves g c =
       same = c.in-Ok-resume.ensures.same;
       added = c.in-Ok-resume.ensures.added;
       quiet = c.in-Ok-resume.ensures.quiet;
+      before = c.in-Ok-resume.ensures.before;
       starts = c.in-Ok-resume.ensures.starts;
       closed = λ alone. c.in-Ok-resume.ensures.closed (fits_here c.args.ask.plan c.args.ask.options c.requires.fits alone);
       ends = c.in-Ok-resume.ensures.ends;
@@ -76,6 +77,7 @@ returns-in-Ok-resume-clause-serves g c =
       is_sure = c.in-Ok-resume.ensures.sure;
       never = c.in-Ok-resume.ensures.never;
       others = c.in-Ok-resume.ensures.others;
+      reads = c.in-Ok-resume.ensures.reads;
       moments = c.in-Ok-resume.ensures.moments;
       resumable = c.in-Ok-resume.ensures.resumable;
       contents = c.in-Ok-resume.ensures.contents;
@@ -96,7 +98,7 @@ returns-clause-serves g c =
     (unread_serves g.S.Site.tells g.S.Site.files g.S.Site.may_leave g.S.Site.moment g.S.Site.images_since g.B.Born.born g.F.Commands.gives g.F.Commands.may_fail (AllTell g.R.Runner.tells c.args.runners.now) (AllSure g.R.Runner.sure c.args.runners.now) (g.H.Hall.honest c.args.hall.now) (counts c.args.before (map g.R.Runner.count c.args.runners.now) (g.H.Hall.count c.args.hall.now) (g.H.Hall.idle_count c.args.hall.now) 0) (counts (g.S.Site.count c.in-Err.refused.site) (map g.R.Runner.count c.resume.new.runners) (g.H.Hall.count c.resume.new.hall) (g.H.Hall.idle_count c.resume.new.hall) 0) c.args.ask c.args.site c.in-Err.refused.site c.requires.later
     (λ t. weakened g.S.Site.moment g.S.Site.images_since c.args.site c.in-Err.refused.site (IsRecovering c.args.ask.log (g.S.Site.files c.args.site c.args.ask.log) (g.S.Site.may_leave c.args.site)) (IsBefore c.args.ask.log (g.S.Site.files c.args.site c.args.ask.log) (g.S.Site.may_leave c.args.site)) (c.in-Err.ensures.unread t)
     (λ image is. recovering_before c.args.ask.log (g.S.Site.files c.args.site c.args.ask.log) (g.S.Site.may_leave c.args.site) image is))
-    c.in-Err.ensures.crash c.files_spell_one_list.ensures.header c.files_spell_one_list.ensures.whole c.in-Err.refused.why (λ is. omega (arith, c.requires.counted, c.in-Err.ensures.site is)) c.in-Err.ensures.damaged c.in-Err.ensures.unchanged))
+    c.in-Err.ensures.crash c.in-Err.ensures.beside c.files_spell_one_list.ensures.header c.files_spell_one_list.ensures.whole c.in-Err.refused.why (λ is. omega (arith, c.requires.counted, c.in-Err.ensures.site is)) c.in-Err.ensures.damaged c.in-Err.ensures.unchanged))
 
 pub returns-clause-failures : goal.returns-clause-failures
 returns-clause-failures g c alone =

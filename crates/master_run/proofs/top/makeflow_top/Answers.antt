@@ -1,6 +1,7 @@
 use Rattle.std.proofs.Common.{◌≡◌, ◌-◌, ⊎_elim, inl, List, map, sum_by, string_bytes, sym, subst, refl, true, true≢false}
 use Rattle.flow_types.specs.declared.records.Record.{Record}
 use Rattle.run_history.specs.Answers.{before_end}
+use Rattle.outside.specs.Disk.{IsImage, LeavesOnly}
 use Rattle.worker_pool.specs.Crews.{AllSure, AllTell}
 use Rattle.local_run.specs.Moments.{IsMoment, KeepsSome}
 use Rattle.local_run.specs.Runs.{Held, SerialFits, read_sources}
@@ -23,7 +24,7 @@ use Rattle.master_run.proofs.Unneeded.{drops_unneeded}
 use Rattle.wq_run.specs.Ends.{AreBack}
 use Rattle.wq_run.specs.Losses.{AreDueLosses}
 use Rattle.wq_run.specs.Vain.{AreVain}
-use Rattle.master_run.proofs.Reprinted.{after_closed, after_cut, after_failed, after_kept, after_legal, after_planned, after_run, after_spared, after_sure, after_untouched, after_waited, printed_ends, printed_fault, printed_serves, printed_words, run_read, stands, waited_ran}
+use Rattle.master_run.proofs.Reprinted.{after_closed, after_cut, after_failed, after_kept, after_legal, after_planned, after_refused, after_run, after_spared, after_sure, after_waited, printed_ends, printed_fault, printed_serves, printed_words, run_read, stands, waited_ran}
 use Rattle.master_run.proofs.top.makeflow_top.Goals as goal
 
 pub returns-clause-ends : goal.returns-clause-ends
@@ -133,12 +134,21 @@ returns-clause-now g c told ask asked H spelled resumable whole image left =
 
 pub returns-clause-untouched : goal.returns-clause-untouched
 returns-clause-untouched g c told refused =
-    after_untouched (g.S.Site.files c.args.site) (g.S.Site.files c.follow-course.result.site) (g.O.Sink.count c.args.out.now) (g.O.Sink.count c.tell-cause.new.out) c.follow-course.result.cause c.tell-cause.result (stands (g.O.Sink.count c.args.out.now) (g.O.Sink.count c.tell-cause.new.out) c.follow-course.result.cause c.tell-cause.result c.tell-cause.ensures.stands) (c.follow-course.ensures.untouched told) refused
+    after_refused (g.S.Site.files c.follow-course.result.site ≡ g.S.Site.files c.args.site) (g.O.Sink.count c.args.out.now) (g.O.Sink.count c.tell-cause.new.out) c.follow-course.result.cause c.tell-cause.result (stands (g.O.Sink.count c.args.out.now) (g.O.Sink.count c.tell-cause.new.out) c.follow-course.result.cause c.tell-cause.result c.tell-cause.ensures.stands) (c.follow-course.ensures.untouched told) refused
+
+pub returns-clause-quiet : goal.returns-clause-quiet
+returns-clause-quiet g c told refused =
+    after_refused (LeavesOnly g.S.Site.moment g.S.Site.images_since c.args.site c.follow-course.result.site (IsImage (g.S.Site.may_leave c.args.site))) (g.O.Sink.count c.args.out.now) (g.O.Sink.count c.tell-cause.new.out) c.follow-course.result.cause c.tell-cause.result (stands (g.O.Sink.count c.args.out.now) (g.O.Sink.count c.tell-cause.new.out) c.follow-course.result.cause c.tell-cause.result c.tell-cause.ensures.stands) (c.follow-course.ensures.quiet told) refused
 
 pub returns-clause-others : goal.returns-clause-others
 returns-clause-others g c told ask asked =
     (printed_serves g.S.Site.tells g.S.Site.files g.S.Site.may_leave g.S.Site.moment g.S.Site.images_since (g.S.Site.moment c.args.site) g.F.Commands.gives g.F.Commands.may_fail (AllTell g.R.Runner.tells c.args.runners.now) (AllSure g.R.Runner.sure c.args.runners.now) (g.H.Hall.honest c.args.hall.now)
     (g.S.Site.count c.args.site) (map g.R.Runner.count c.args.runners.now) (g.H.Hall.count c.args.hall.now) (g.H.Hall.idle_count c.args.hall.now) (g.O.Sink.count c.args.out.now) (g.S.Site.count c.follow-course.result.site) (map g.R.Runner.count c.follow-course.new.runners) (g.H.Hall.count c.follow-course.new.hall) (g.H.Hall.idle_count c.follow-course.new.hall) (g.O.Sink.count c.tell-cause.new.out) ask c.args.site c.follow-course.result.site c.follow-course.result.records c.follow-course.result.cause c.tell-cause.result (stands (g.O.Sink.count c.args.out.now) (g.O.Sink.count c.tell-cause.new.out) c.follow-course.result.cause c.tell-cause.result c.tell-cause.ensures.stands) (c.follow-course.ensures.serves told ask asked)).others told
+
+pub returns-clause-reads : goal.returns-clause-reads
+returns-clause-reads g c told ask asked =
+    (printed_serves g.S.Site.tells g.S.Site.files g.S.Site.may_leave g.S.Site.moment g.S.Site.images_since (g.S.Site.moment c.args.site) g.F.Commands.gives g.F.Commands.may_fail (AllTell g.R.Runner.tells c.args.runners.now) (AllSure g.R.Runner.sure c.args.runners.now) (g.H.Hall.honest c.args.hall.now)
+    (g.S.Site.count c.args.site) (map g.R.Runner.count c.args.runners.now) (g.H.Hall.count c.args.hall.now) (g.H.Hall.idle_count c.args.hall.now) (g.O.Sink.count c.args.out.now) (g.S.Site.count c.follow-course.result.site) (map g.R.Runner.count c.follow-course.new.runners) (g.H.Hall.count c.follow-course.new.hall) (g.H.Hall.idle_count c.follow-course.new.hall) (g.O.Sink.count c.tell-cause.new.out) ask c.args.site c.follow-course.result.site c.follow-course.result.records c.follow-course.result.cause c.tell-cause.result (stands (g.O.Sink.count c.args.out.now) (g.O.Sink.count c.tell-cause.new.out) c.follow-course.result.cause c.tell-cause.result c.tell-cause.ensures.stands) (c.follow-course.ensures.serves told ask asked)).reads told
 
 pub returns-clause-contents : goal.returns-clause-contents
 returns-clause-contents g c told ask asked H spelled met resumable jobs image left =
