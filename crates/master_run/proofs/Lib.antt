@@ -12,6 +12,7 @@ pub mod Cared
 pub mod Adding
 pub mod Works
 pub mod Reprinted
+pub mod Leaving
 pub mod Refusals
 pub mod Unread
 pub mod Unneeded

@@ -326,7 +326,7 @@ damage_stops wq P records after file logged found true is damage = (is, damage)
 damage_stops wq P records after file logged found false is damage = (is, damage)
 
 -- how a run came to its end
-comes : (wq : Bool) (ask : Ask) (rise : ℕ) (records : List Record) (ended : Check) → (wq ≡ false → IsRunEnd ask.options.limit ended) → (wq ≡ false → ended ≡ end_over ask.plan ask.options (before_end records) None)
+pub comes : (wq : Bool) (ask : Ask) (rise : ℕ) (records : List Record) (ended : Check) → (wq ≡ false → IsRunEnd ask.options.limit ended) → (wq ≡ false → ended ≡ end_over ask.plan ask.options (before_end records) None)
     → (wq ≡ true → EndsWaiting ask.plan ask.options ask.workers.limit rise records ended) → ComesToEnd wq ask rise records (end_cause (length ask.plan.rules) ended)
 comes false ask rise records ended closed ends away = (subst (IsRunEnd ask.options.limit) (ends refl) (closed refl), inl (ap (end_cause (length ask.plan.rules)) (ends refl)))
 comes true ask rise records ended closed ends away = record { ended = ended; waiting = away refl; is_cause = inl refl }

@@ -26,7 +26,7 @@ use Rattle.run_history.specs.declared.answers.Wait.{Wait}
 use Rattle.master_run.specs.Ends.{Answers, CallEnds, ComesToEnd, FaultEnd, GoesOn, IsCause, IsReadOr, IsStop, LogEnds, RunEnds, WordsEnd, Yields, clean_refusal, counts, end_cause, log_refusal, run_refusal}
 use Rattle.run_history.specs.History.{since_opening}
 use Rattle.run_history.specs.Spent.{SpentOnce}
-use Rattle.master_run.specs.Headline.{FailureEnd, HasLog, IfWaited, IsLegalOr, is_run_end, is_runner_fault, is_waited}
+use Rattle.master_run.specs.Headline.{FailureEnd, HasLog, IfWaited, IsLegalOr, is_run_end, is_runner_fault}
 use Rattle.master_run.specs.Prints.{IsPrinted, is_no_memory, printed_cause}
 use Rattle.master_run.specs.Serves.{IsCut, Serves}
 use Rattle.master_run.specs.Words.{chosen}
@@ -200,7 +200,7 @@ printed_fault sb rb hb ib b sa ra ha ia a cause now stood fault =
     of_each (FaultEnd (counts sb rb hb ib b) (counts sa ra ha ia a)) b a cause now stood (wider_fault sb rb hb ib b sa ra ha ia a cause fault) (λ rose is. (refl, refl, rose)) tt
 
 -- where a kind is the end of what was asked for
-end_read : (kind : Kind) → is_end kind ≡ true → was_read kind ≡ true
+pub end_read : (kind : Kind) → is_end kind ≡ true → was_read kind ≡ true
 end_read kinds.Completed ends = refl
 end_read kinds.Told ends = refl
 end_read kinds.LogPrinted ends = refl
@@ -371,16 +371,6 @@ pub after_kept : (A : Type 0) (b a : ℕ) (cause now : Cause) → Stands b a cau
 after_kept A b a cause now stood holds =
     of_each (λ (c : Cause). may_lose (kind_of c) ≡ false → A) b a cause now stood holds (λ rose is keeps. holds (end_loses (kind_of cause) is)) (λ wrong. absurd (true≢false wrong))
 
--- where a run ended its log was read
-pub run_read : (kind : Kind) → is_run_end kind ≡ true → was_read kind ≡ true
-run_read kinds.Completed ends = refl
-run_read kinds.RuleFailed ends = refl
-run_read kinds.PastLimit ends = refl
-run_read kinds.RunnerBroke ends = refl
-run_read kinds.HallBroke ends = refl
-run_read kinds.WaitedOut ends = refl
-run_read _ ends = absurd (true≢false (sym ends))
-
 -- what holds where a run ends
 pub after_run : (A : Type 0) (b a : ℕ) (cause now : Cause) → Stands b a cause now → (is_run_end (kind_of cause) ≡ true → A) → is_run_end (kind_of now) ≡ true → A
 after_run A b a cause now stood holds =
@@ -393,8 +383,3 @@ after_spared b a cause now stood spared = of_each (λ (c : Cause). is_runner_fau
 -- what is said of a wait
 pub after_waited : (fact : Wait → Type 0) (b a : ℕ) (cause now : Cause) → Stands b a cause now → IfWaited cause fact → IfWaited now fact
 after_waited fact b a cause now stood waited = of_each (λ (c : Cause). IfWaited c fact) b a cause now stood waited (λ rose is. tt) tt
-
--- where a call waited a run was started
-pub waited_ran : (kind : Kind) → is_waited kind ≡ true → is_run_end kind ≡ true
-waited_ran kinds.WaitedOut is = refl
-waited_ran _ is = absurd (true≢false (sym is))

@@ -8,7 +8,6 @@ use Rattle.flow_types.specs.declared.records.Record.TheVariants as records
 use Rattle.flow_types.specs.Plans.{is_kept, takers_of}
 use Rattle.run_history.specs.declared.answers.Wait.{Wait}
 use Rattle.run_history.specs.declared.moves.Move.{Move}
-use Rattle.run_history.specs.declared.options.Mode.{Mode}
 use Rattle.run_history.specs.declared.options.Options.{Options as RunOptions}
 use Rattle.run_history.specs.Answers.{before_end, is_in_vain}
 use Rattle.run_history.specs.History.{since_opening}
@@ -20,7 +19,6 @@ use Rattle.outside.specs.Files.{Files}
 use Rattle.txn_log.specs.Spells.{Spells}
 use Rattle.desk.specs.Kept.{IsLegal}
 use Rattle.cleaning.specs.Cleanings.{AreGone, present_made}
-use Rattle.local_run.specs.Collecting.{RunCollects}
 use Rattle.local_run.specs.Ends.{failed_count}
 use Rattle.local_run.specs.Runs.{BeginsWith}
 use Rattle.report.specs.declared.cause.Cause.{Cause}
@@ -45,12 +43,6 @@ HasLog H all kind = BeginsWith H all ⊎ ((all ≡ []) × IsTrue (may_replace ki
 -- The records may stand in a log of the plan. Only where the site failed or memory was wanting they may be those of the log, whatever these are, or none.
 abbrev pub IsLegalOr : Plan → List Record → List Record → Kind → Type 0
 IsLegalOr P H all kind = IsLegal P all ⊎ (((all ≡ H) ⊎ (all ≡ [])) × IsFalse (was_read kind))
-
--- Where the log was read and nothing was wrong with it, the records may stand in a log of the plan that was read.
-pub record IsLegalEnd (is_read : Plan → Type 0) (kind : Kind) (all : List Record) : Type 0 where
-  pub plan : Plan
-  pub read : IsTrue (was_read kind) → is_read plan
-  pub legal : IsTrue (was_read kind) → IsLegal plan all
 
 -- a rule was started
 abbrev pub is_started : Record → Bool
@@ -94,18 +86,6 @@ LogsFailed H all before after = failed_count all + before ≡ failed_count H + a
 abbrev pub IsWithinLimit : Plan → List Record → Type 0
 IsWithinLimit P H = IsTrue (is_within (stored P H + reserved P H) (limit_of H))
 
--- Where the log was read and nothing was wrong with it, its storage is within the limit, by the plan that was read.
-pub record KeepsLimit (is_read : Plan → Type 0) (kind : Kind) (all : List Record) : Type 0 where
-  pub plan : Plan
-  pub read : IsTrue (was_read kind) → is_read plan
-  pub within : IsTrue (was_read kind) → IsWithinLimit plan all
-
--- Where a run that was started ended, its records behind the opening collect as this mode says, by the plan that was read.
-pub record CollectsSince (is_read : Plan → Type 0) (mode : Mode) (kind : Kind) (all : List Record) : Type 0 where
-  pub plan : Plan
-  pub read : IsTrue (is_run_end kind) → is_read plan
-  pub collects : IsTrue (is_run_end kind) → RunCollects plan mode all
-
 -- The records are these and more. A file that a drop among those names is no kept one, and each rule that takes it in is complete by the records before the drop.
 pub record DropsUnneeded (P : Plan) (H all : List Record) : Type 0 where
   pub more : List Record
@@ -141,9 +121,3 @@ pub record WaitsInVain (P : Plan) (O : RunOptions) (limit rise : ℕ) (records :
 abbrev pub IfWaited : Cause → (Wait → Type 0) → Type 0
 IfWaited (causes.Waited wait) fact = fact wait
 IfWaited cause fact = Unit {0}
-
--- Where the call ended since nobody came, it waited in vain, by the plan that was read.
-pub record WaitedBy (is_read : Plan → Type 0) (O : RunOptions) (limit rise : ℕ) (records : List Record) (cause : Cause) : Type 0 where
-  pub plan : Plan
-  pub read : IsTrue (is_waited (kind_of cause)) → is_read plan
-  pub waits : IfWaited cause (WaitsInVain plan O limit rise records)

@@ -6,9 +6,9 @@ pub mod Prints
 pub mod Counts
 pub mod Ends
 pub mod Headline
-pub mod Vain
 pub mod Serves
 pub mod Stages
 pub mod Runs
 pub mod Reaching
 pub mod Added
+pub mod OnePlan

@@ -5,8 +5,9 @@ ghost use Rattle.flow_types.specs.Plans.{IsValid};
 ghost use Rattle.mf_rules.specs.Flow.{given_pairs};
 ghost use Rattle.outside.specs.Disk.{IsImage, LeavesOnly, Within};
 ghost use Rattle.file_store.specs.Outputs.{file_name};
-ghost use Rattle.master_run.specs.Asked.{checked, choice, file_plan, generated_plan, plan_by};
-ghost use Rattle.master_run.specs.Asked.{has_workers, request, run_mode, run_options, workers_of};
+ghost use Rattle.master_run.specs.Asked.{ask_of, checked, choice, file_plan, generated_plan};
+ghost use Rattle.master_run.specs.Asked.{has_workers, plan_by, request, run_mode, run_options};
+ghost use Rattle.master_run.specs.Asked.{workers_of};
 ghost use Rattle.master_run.specs.Needs.{NeedsFit, with_needs};
 ghost use Rattle.master_run.specs.Stages.{Stage, WordsStage, OfFlow, SaysRefusal, SiteTrace};
 ghost use Rattle.master_run.specs.Words.{flow_name, generated_name};
@@ -236,6 +237,8 @@ pub fn read_ask<S: Site>(
     ensures valid { IfOk result (λ ask. IsValid ask.plan) }
     ensures apart { IfOk result (λ ask. (f : ℕ) → file_name ask.plan f ≢ ask.log) }
     ensures fits { IfOk result (λ ask. NeedsFit ask.options ask.plan) }
+    ensures asked { IfOk result (λ ask. (options : OptionsValue)
+        → choice words.now ≡ Ok options → ask ≡ ask_of options ask.plan) }
     ensures goes_by { IfOk result (λ ask. (options : OptionsValue)
         → choice words.now ≡ Ok options → ask.options ≡ run_options options) }
     ensures meets { IfOk result (λ ask. (options : OptionsValue)

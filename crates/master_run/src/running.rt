@@ -18,6 +18,7 @@ ghost use Rattle.wq_run.specs.Vain.{AreVain};
 ghost use Rattle.master_run.specs.Headline.{FailureEnd, IfWaited, LogsFailed, WaitsInVain};
 ghost use Rattle.master_run.specs.Headline.{is_run_end};
 ghost use Rattle.master_run.specs.Needs.{NeedsFit};
+ghost use Rattle.master_run.specs.OnePlan.{RunLeaves};
 ghost use Rattle.master_run.specs.Reaching.{AreSureLinks, GoesSurely, IsMannedFor};
 ghost use Rattle.master_run.specs.Serves.{IsCut, Serves};
 
@@ -119,6 +120,10 @@ fn run_by_all<
         → OpensBy ask.options result.records }
     ensures collects { IsTrue (is_run_end (kind_of result.cause))
         → RunCollects ask.plan ask.options.mode result.records }
+    ensures leaves { RunLeaves (λ past. S.tells → Spells past (S.files site ask.log)) H.Way.tells
+        F.gives F.may_fail H.Way.history H.Way.count H.Way.idle_count H.Way.is_closed ask
+        (H.idle_count hall.new - H.idle_count hall.old) (H.got hall.old) (H.got hall.new)
+        result.records result.cause }
     ensures plan { result.plan ≡ ask.plan }
 {
     files_spell_one_list();
@@ -240,6 +245,10 @@ pub fn run_flow<
         → OpensBy ask.options result.records }
     ensures collects { IsTrue (is_run_end (kind_of result.cause))
         → RunCollects ask.plan ask.options.mode result.records }
+    ensures leaves { RunLeaves (λ past. S.tells → Spells past (S.files site ask.log)) H.Way.tells
+        F.gives F.may_fail H.Way.history H.Way.count H.Way.idle_count H.Way.is_closed ask
+        (H.idle_count hall.new - H.idle_count hall.old) (H.got hall.old) (H.got hall.new)
+        result.records result.cause }
     ensures plan { result.plan ≡ ask.plan }
 {
     let count = runners.len().min(ask.jobs as usize);

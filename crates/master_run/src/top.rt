@@ -29,18 +29,18 @@ ghost use Rattle.wq_run.specs.Losses.{AreDueLosses};
 ghost use Rattle.wq_run.specs.Vain.{AreVain};
 ghost use Rattle.flow_run.specs.Places.{PlacedBy};
 ghost use Rattle.master_run.specs.Added.{CallAdds};
-ghost use Rattle.master_run.specs.Asked.{IsLocal, choice, request, run_mode, run_options};
+ghost use Rattle.master_run.specs.Asked.{IsLocal, ask_of, choice, request, run_mode, run_options};
 ghost use Rattle.master_run.specs.Asked.{workers_of};
 ghost use Rattle.master_run.specs.Ends.{CallEnds, FaultEnd, WordsEnd, counts};
-ghost use Rattle.master_run.specs.Headline.{CollectsSince, DropsUnneeded, FailureEnd, HasLog};
-ghost use Rattle.master_run.specs.Headline.{IfWaited, IsCleanedBy, IsLegalEnd, IsLegalOr};
-ghost use Rattle.master_run.specs.Headline.{IsPlanOf, IsSpentBy, KeepsLimit, LogsFailed, OfLog};
-ghost use Rattle.master_run.specs.Headline.{WaitedBy, WaitsInVain, is_run_end, is_runner_fault};
+ghost use Rattle.master_run.specs.Headline.{DropsUnneeded, FailureEnd, HasLog, IfWaited};
+ghost use Rattle.master_run.specs.Headline.{IsCleanedBy, IsLegalOr, IsPlanOf, IsSpentBy};
+ghost use Rattle.master_run.specs.Headline.{LogsFailed, OfLog, WaitsInVain, is_run_end};
+ghost use Rattle.master_run.specs.Headline.{is_runner_fault};
 ghost use Rattle.master_run.specs.Needs.{NeedsFit};
+ghost use Rattle.master_run.specs.OnePlan.{AreLogged, CallTells, RunLeaves};
 ghost use Rattle.master_run.specs.Prints.{Prints};
 ghost use Rattle.master_run.specs.Reaching.{AreSureLinks, GoesSurely, IsMannedFor};
 ghost use Rattle.master_run.specs.Serves.{CanComplete, IsCut, IsSparedBy, Serves};
-ghost use Rattle.master_run.specs.Vain.{VainBy};
 
 use crate::ask::Ask;
 use crate::asking::read_ask;
@@ -153,6 +153,11 @@ fn serve<
         → OpensBy ask.options result.records }
     ensures collects { IsTrue (is_run_end (kind_of result.cause))
         → RunCollects ask.plan ask.options.mode result.records }
+    ensures leaves { ask.work ≡ Run → RunLeaves
+        (λ past. S.tells → Spells past (S.files site ask.log)) H.Way.tells
+        F.gives F.may_fail H.Way.history H.Way.count H.Way.idle_count H.Way.is_closed ask
+        (H.idle_count hall.new - H.idle_count hall.old) (H.got hall.old) (H.got hall.new)
+        result.records result.cause }
     ensures plan { result.plan ≡ ask.plan }
     ensures spare { drop ask.jobs runners.new ≡ drop ask.jobs runners.old }
 {
@@ -266,6 +271,12 @@ fn follow<
     ensures collects { (options : OptionsValue) → choice words.now ≡ Ok options
         → IsTrue (is_run_end (kind_of result.cause))
         → RunCollects result.plan (run_mode options.mode) result.records }
+    ensures leaves { (options : OptionsValue) → choice words.now ≡ Ok options
+        → options.work ≡ Run → RunLeaves
+        (λ past. S.tells → AreLogged (request words.now env.now (S.files site)) (S.files site) past)
+        H.Way.tells F.gives F.may_fail H.Way.history H.Way.count H.Way.idle_count H.Way.is_closed
+        (ask_of options result.plan) (H.idle_count hall.new - H.idle_count hall.old)
+        (H.got hall.old) (H.got hall.new) result.records result.cause }
     ensures spare { (options : OptionsValue) → choice words.now ≡ Ok options
         → drop options.service.jobs runners.new ≡ drop options.service.jobs runners.old }
 {
@@ -343,9 +354,20 @@ pub fn makeflow_top<
         (λ ask H. HasLog H result.records (kind_of result.cause)) }
     ensures logged { S.tells → OfLog (request words.now env.now (S.files site)) (S.files site)
         (λ ask H. IsLegalOr ask.plan H result.records (kind_of result.cause)) }
-    ensures legal { IsLegalEnd
+
+    // Whatever its objects tell, by one plan, which is the one that was read: the records may stand
+    // in a log of it, with what is stored and reserved within the limit of the last opening; one
+    // call that is asked to run adds one run to some records, which are those of the log, with its
+    // opening, starts, drops and losses as the words let them be; a cause that the run answered is
+    // that of its end; and it ends since nobody came only where it waited in vain. Where the hall's
+    // links tell their bytes, each that was handed back then is ill, or over it came amounts that
+    // no ready rule fits that fits the storage and may run at a worker.
+    ensures one_plan { CallTells
         (λ plan. S.tells → IsPlanOf (request words.now env.now (S.files site)) plan)
-        (kind_of result.cause) result.records }
+        (λ past. S.tells → AreLogged (request words.now env.now (S.files site)) (S.files site) past)
+        H.Way.tells F.gives F.may_fail H.Way.history H.Way.count H.Way.idle_count H.Way.is_closed
+        (choice words.now) (H.idle_count hall.new - H.idle_count hall.old)
+        (H.got hall.old) (H.got hall.new) result.records result.cause }
 
     // One call adds one run, with one opening and the Ended of its cause, or nothing; a cleaning
     // the end of the part where that was begun. Behind a fault of the folder or the sink, or want
@@ -353,22 +375,9 @@ pub fn makeflow_top<
     ensures added { S.tells → OfLog (request words.now env.now (S.files site)) (S.files site)
         (λ ask H. CallAdds ask H result.records result.cause) }
 
-    // The opening of a run has the limit and the retries of the words, and by the records what is
-    // stored and reserved is within the limit of the last one.
-    ensures opened { (options : OptionsValue) → choice words.now ≡ Ok options
-        → IsTrue (is_run_end (kind_of result.cause))
-        → OpensBy (run_options options) result.records }
-    ensures storage { KeepsLimit
-        (λ plan. S.tells → IsPlanOf (request words.now env.now (S.files site)) plan)
-        (kind_of result.cause) result.records }
-
     // Files are collected as the words say: a drop names the file that is wanted where it stands,
     // and no rule is started and no run complete where one is wanted. What is dropped is needed by
     // nobody and is gone, as are the made files behind a cleaning.
-    ensures collects { (options : OptionsValue) → choice words.now ≡ Ok options
-        → CollectsSince
-        (λ plan. S.tells → IsPlanOf (request words.now env.now (S.files site)) plan)
-        (run_mode options.mode) (kind_of result.cause) result.records }
     ensures modes { S.tells → OfLog (request words.now env.now (S.files site)) (S.files site)
         (λ ask H. BeginsWith H result.records
         → CollectsBy ask.plan ask.options.mode H result.records) }
@@ -408,24 +417,10 @@ pub fn makeflow_top<
         H.Way.is_closed options.limits.idle (H.got hall.old) (H.got hall.new) G result.records) }
 
     // Each link that the hall gave is handed back, and where no worker is asked for the hall stays
-    // as it was. The call ends since nobody came only where it waited in vain.
+    // as it was.
     ensures back { (IsCut result.cause → ⊥)
         → AreBack (H.got hall.old) (H.got hall.new) (H.given hall.old) (H.given hall.new) }
     ensures alone { IsLocal (choice words.now) → hall.new ≡ hall.old }
-    ensures waited { (options : OptionsValue) → choice words.now ≡ Ok options → WaitedBy
-        (λ plan. S.tells → IsPlanOf (request words.now env.now (S.files site)) plan)
-        (run_options options) options.limits.idle
-        (H.idle_count hall.new - H.idle_count hall.old) result.records result.cause }
-
-    // Where the hall's links tell their bytes, a call that ended so handed back no links but ill
-    // ones and such over which came a hello or totals by whose amounts, with nothing running there,
-    // no ready rule fits that fits the storage and may run at a worker.
-    ensures vain { H.Way.tells
-        → (options : OptionsValue) → choice words.now ≡ Ok options
-        → VainBy F.gives F.may_fail H.Way.history H.Way.count H.Way.idle_count H.Way.is_closed
-        (λ plan. S.tells → IsPlanOf (request words.now env.now (S.files site)) plan)
-        (run_options options) options.limits.idle (H.got hall.old) (H.got hall.new)
-        result.records result.cause }
 
     // A crash at any moment since the entry leaves what it might have left before the log was read,
     // or the records that stood then and the first of those that were added, with every file that

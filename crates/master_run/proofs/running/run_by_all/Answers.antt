@@ -18,7 +18,10 @@ use Rattle.master_run.specs.Serves.{Serves}
 use Rattle.master_run.proofs.Reaching.{goes_memory, goes_ran, goes_unread}
 use Rattle.local_run.specs.Moments.{IsBefore}
 use Rattle.log_recover.specs.Recovery.{IsRecovering}
+use Rattle.master_run.specs.OnePlan.{RunLeaves}
 use Rattle.master_run.specs.Runs.{run_cause, unread_cause}
+use Rattle.txn_log.specs.Spells.{Spells}
+use Rattle.master_run.proofs.Leaving.{memory_leaves, ran_leaves, unread_leaves}
 use Rattle.wq_run.specs.Ends.{AreBack}
 use Rattle.wq_run.specs.Losses.{AreDueLosses}
 use Rattle.wq_run.specs.Vain.{AreVain}
@@ -220,6 +223,28 @@ returns-clause-opened g c ends =
 pub returns-clause-collects : goal.returns-clause-collects
 returns-clause-collects g c ends =
     absurd (true≢false (sym (subst (λ (cause : Cause). is_run_end (kind_of cause) ≡ true) c.unread_cause.ensures ends) ∙ unread_ends (record { before = c.args.before; after = c.faults-after-in-Err.result }) c.in-Err.refused.why))
+
+pub returns-in-Ok-resume-clause-leaves : goal.returns-in-Ok-resume-clause-leaves
+returns-in-Ok-resume-clause-leaves g c =
+    let same : c.run_cause.result ≡ run_cause (site_rise (counts c.args.before (map g.R.Runner.count c.args.runners.now) (g.H.Hall.count c.args.hall.now) (g.H.Hall.idle_count c.args.hall.now) 0) (counts (g.S.Site.count c.in-Ok-resume.ended.site) (map g.R.Runner.count c.resume.new.runners) (g.H.Hall.count c.resume.new.hall) (g.H.Hall.idle_count c.resume.new.hall) 0)) c.first_rise-runner.result (hall_rise (counts c.args.before (map g.R.Runner.count c.args.runners.now) (g.H.Hall.count c.args.hall.now) (g.H.Hall.idle_count c.args.hall.now) 0) (counts (g.S.Site.count c.in-Ok-resume.ended.site) (map g.R.Runner.count c.resume.new.runners) (g.H.Hall.count c.resume.new.hall) (g.H.Hall.idle_count c.resume.new.hall) 0)) c.args.ask.plan c.in-Ok-resume.ended.how =
+    c.run_cause.ensures ∙ told_cause c.args.before c.faults-after.result (g.S.Site.count c.in-Ok-resume.ended.site) c.faults-met.result (g.H.Hall.count c.args.hall.now) c.faults.result (g.H.Hall.count c.resume.new.hall) c.first_rise-runner.result c.in-Ok.copied c.args.ask.plan c.in-Ok-resume.ended.how c.faults-after.ensures c.faults-met.ensures c.faults.ensures c.in-Ok.ensures.0 in
+    let ended = c.in-Ok-resume.ended in
+    subst (λ (cause : Cause). RunLeaves (λ (past : List Record). g.S.Site.tells → Spells past (g.S.Site.files c.args.site c.args.ask.log)) g.H.Way.Link.tells g.F.Commands.gives g.F.Commands.may_fail g.H.Way.Link.history g.H.Way.Link.count g.H.Way.Link.idle_count g.H.Way.Link.is_closed c.args.ask (g.H.Hall.idle_count c.resume.new.hall - g.H.Hall.idle_count c.args.hall.now) (g.H.Hall.got c.args.hall.now) (g.H.Hall.got c.resume.new.hall) ended.records cause) (sym same)
+    (ran_leaves (λ (past : List Record). g.S.Site.tells → Spells past (g.S.Site.files c.args.site c.args.ask.log)) g.H.Way.Link.tells g.F.Commands.gives g.F.Commands.may_fail g.H.Way.Link.history g.H.Way.Link.count g.H.Way.Link.idle_count g.H.Way.Link.is_closed c.args.ask (g.H.Hall.idle_count c.resume.new.hall - g.H.Hall.idle_count c.args.hall.now) (g.H.Hall.got c.args.hall.now) (g.H.Hall.got c.resume.new.hall)
+    (site_rise (counts c.args.before (map g.R.Runner.count c.args.runners.now) (g.H.Hall.count c.args.hall.now) (g.H.Hall.idle_count c.args.hall.now) 0) (counts (g.S.Site.count c.in-Ok-resume.ended.site) (map g.R.Runner.count c.resume.new.runners) (g.H.Hall.count c.resume.new.hall) (g.H.Hall.idle_count c.resume.new.hall) 0)) c.first_rise-runner.result (hall_rise (counts c.args.before (map g.R.Runner.count c.args.runners.now) (g.H.Hall.count c.args.hall.now) (g.H.Hall.idle_count c.args.hall.now) 0) (counts (g.S.Site.count c.in-Ok-resume.ended.site) (map g.R.Runner.count c.resume.new.runners) (g.H.Hall.count c.resume.new.hall) (g.H.Hall.idle_count c.resume.new.hall) 0)) ended.records ended.how c.in-Ok-resume.ensures.over (λ refused. ap g.H.Hall.got (c.in-Ok-resume.ensures.unmet refused))
+    (λ alone. c.in-Ok-resume.ensures.closed (fits_here c.args.ask.plan c.args.ask.options c.requires.fits alone)) c.in-Ok-resume.ensures.ends c.in-Ok-resume.ensures.waited)
+
+pub returns-in_default-clause-leaves : goal.returns-in_default-clause-leaves
+returns-in_default-clause-leaves g c =
+    subst (λ (xs : List Record). RunLeaves (λ (past : List Record). g.S.Site.tells → Spells past (g.S.Site.files c.args.site c.args.ask.log)) g.H.Way.Link.tells g.F.Commands.gives g.F.Commands.may_fail g.H.Way.Link.history g.H.Way.Link.count g.H.Way.Link.idle_count g.H.Way.Link.is_closed c.args.ask (g.H.Hall.idle_count c.args.hall.now - g.H.Hall.idle_count c.args.hall.now) (g.H.Hall.got c.args.hall.now) (g.H.Hall.got c.args.hall.now) xs causes.Memory) (sym c.new.ensures)
+    (memory_leaves (λ (past : List Record). g.S.Site.tells → Spells past (g.S.Site.files c.args.site c.args.ask.log)) g.H.Way.Link.tells g.F.Commands.gives g.F.Commands.may_fail g.H.Way.Link.history g.H.Way.Link.count g.H.Way.Link.idle_count g.H.Way.Link.is_closed c.args.ask (g.H.Hall.idle_count c.args.hall.now - g.H.Hall.idle_count c.args.hall.now) (g.H.Hall.got c.args.hall.now) (g.H.Hall.got c.args.hall.now) refl)
+
+pub returns-clause-leaves : goal.returns-clause-leaves
+returns-clause-leaves g c =
+    let s : Rise = record { before = c.args.before; after = c.faults-after-in-Err.result } in
+    subst (λ (cause : Cause). RunLeaves (λ (past : List Record). g.S.Site.tells → Spells past (g.S.Site.files c.args.site c.args.ask.log)) g.H.Way.Link.tells g.F.Commands.gives g.F.Commands.may_fail g.H.Way.Link.history g.H.Way.Link.count g.H.Way.Link.idle_count g.H.Way.Link.is_closed c.args.ask (g.H.Hall.idle_count c.resume.new.hall - g.H.Hall.idle_count c.args.hall.now) (g.H.Hall.got c.args.hall.now) (g.H.Hall.got c.resume.new.hall) c.new-in-Err.result cause) (sym c.unread_cause.ensures)
+    (subst (λ (xs : List Record). RunLeaves (λ (past : List Record). g.S.Site.tells → Spells past (g.S.Site.files c.args.site c.args.ask.log)) g.H.Way.Link.tells g.F.Commands.gives g.F.Commands.may_fail g.H.Way.Link.history g.H.Way.Link.count g.H.Way.Link.idle_count g.H.Way.Link.is_closed c.args.ask (g.H.Hall.idle_count c.resume.new.hall - g.H.Hall.idle_count c.args.hall.now) (g.H.Hall.got c.args.hall.now) (g.H.Hall.got c.resume.new.hall) xs (unread_cause s c.in-Err.refused.why)) (sym c.new-in-Err.ensures)
+    (unread_leaves (λ (past : List Record). g.S.Site.tells → Spells past (g.S.Site.files c.args.site c.args.ask.log)) g.H.Way.Link.tells g.F.Commands.gives g.F.Commands.may_fail g.H.Way.Link.history g.H.Way.Link.count g.H.Way.Link.idle_count g.H.Way.Link.is_closed c.args.ask (g.H.Hall.idle_count c.resume.new.hall - g.H.Hall.idle_count c.args.hall.now) (g.H.Hall.got c.args.hall.now) (g.H.Hall.got c.resume.new.hall) s c.in-Err.refused.why (ap g.H.Hall.got c.in-Err.ensures.unopened)))
 
 pub returns-in-Ok-resume-clause-sure_links : goal.returns-in-Ok-resume-clause-sure_links
 returns-in-Ok-resume-clause-sure_links g c t H spelled wq work sure links =

@@ -1,4 +1,4 @@
-use Rattle.std.proofs.Common.{◌≡◌, ◌∙◌, ◌-◌, ℕ, List, drop, map, [], Err, Result, ap, sym, subst, arith, false, true, true≢false}
+use Rattle.std.proofs.Common.{◌≡◌, ◌∙◌, ◌-◌, ℕ, List, drop, map, [], Err, Result, ap, refl, sym, subst, arith, false, true, true≢false}
 use Rattle.outside.specs.Files.{Files}
 use Rattle.flow_types.specs.declared.plan.Plan.{Plan}
 use Rattle.flow_types.specs.declared.records.Record.{Record}
@@ -19,7 +19,9 @@ use Rattle.wq_run.specs.Losses.{AreDueLosses}
 use Rattle.wq_run.specs.Vain.{AreVain}
 use Rattle.flow_run.proofs.Stops.{back_same}
 use Rattle.master_run.specs.declared.rises.Rise.{Rise}
-use Rattle.master_run.specs.Asked.{choice, request, run_mode, run_options}
+use Rattle.master_run.specs.Asked.{ask_of, choice, request, run_mode, run_options}
+use Rattle.master_run.specs.OnePlan.{AreLogged, RunLeaves}
+use Rattle.master_run.proofs.Leaving.{leaves_less, refused_leaves}
 use Rattle.master_run.specs.Runs.{refusal_cause}
 use Rattle.master_run.specs.Headline.{IfWaited, WaitsInVain}
 use Rattle.master_run.proofs.Waits.{local_ask, none_waits}
@@ -242,3 +244,22 @@ returns-in-Err-clause-sure_links g c told ask asked H spelled wq work sure links
     (subst (λ (cause : Cause). GoesSurely g.F.Commands.gives (AllTell g.R.Runner.tells c.args.runners.now) manned ask (g.S.Site.files c.args.site) (g.S.Site.may_leave c.args.site) H (counts c.faults-before.result (map g.R.Runner.count c.args.runners.now) (g.H.Hall.count c.args.hall.now) (g.H.Hall.idle_count c.args.hall.now) 0) (counts c.faults-after.result (map g.R.Runner.count c.args.runners.now) (g.H.Hall.count c.args.hall.now) (g.H.Hall.idle_count c.args.hall.now) 0) c.new.result cause) (sym c.refusal_cause.ensures)
     (goes_refused g.F.Commands.gives (AllTell g.R.Runner.tells c.args.runners.now) manned ask (g.S.Site.files c.args.site) (g.S.Site.may_leave c.args.site) H (counts c.faults-before.result (map g.R.Runner.count c.args.runners.now) (g.H.Hall.count c.args.hall.now) (g.H.Hall.idle_count c.args.hall.now) 0) (counts c.faults-after.result (map g.R.Runner.count c.args.runners.now) (g.H.Hall.count c.args.hall.now) (g.H.Hall.idle_count c.args.hall.now) 0) c.new.result
     c.in-Err.refusal (request c.args.words.now c.args.env.now (g.S.Site.files c.args.site)) (c.in-Err.ensures.stage told) asked (λ is. omega (arith, c.faults-before.ensures, c.faults-after.ensures, c.in-Err.ensures.trace.rose (ap (λ (r : Refusal). let answer : Result Ask Refusal = Err r in answer) is))))))
+
+pub returns-in-Ok-clause-leaves : goal.returns-in-Ok-clause-leaves
+returns-in-Ok-clause-leaves g c options chosen work =
+    let of : c.in-Ok.ask ≡ ask_of options c.in-Ok.ask.plan = c.in-Ok.ensures.asked options chosen in
+    let so : c.in-Ok.ask ≡ ask_of options c.serve.result.plan = of ∙ ap (ask_of options) (sym c.serve.ensures.plan) in
+    subst (λ (a : Ask). RunLeaves (λ (past : List Record). g.S.Site.tells → AreLogged (request c.args.words.now c.args.env.now (g.S.Site.files c.args.site)) (g.S.Site.files c.args.site) past) g.H.Way.Link.tells g.F.Commands.gives g.F.Commands.may_fail g.H.Way.Link.history g.H.Way.Link.count g.H.Way.Link.idle_count g.H.Way.Link.is_closed a (g.H.Hall.idle_count c.serve.new.hall - g.H.Hall.idle_count c.args.hall.now) (g.H.Hall.got c.args.hall.now) (g.H.Hall.got c.serve.new.hall) c.serve.result.records c.serve.result.cause) so
+    (leaves_less (λ (past : List Record). g.S.Site.tells → Spells past (g.S.Site.files c.read_ask.new.site c.in-Ok.ask.log)) g.H.Way.Link.tells g.F.Commands.gives g.F.Commands.may_fail g.H.Way.Link.history g.H.Way.Link.count g.H.Way.Link.idle_count g.H.Way.Link.is_closed c.in-Ok.ask (g.H.Hall.idle_count c.serve.new.hall - g.H.Hall.idle_count c.args.hall.now) (g.H.Hall.got c.args.hall.now) (g.H.Hall.got c.serve.new.hall)
+    (λ (past : List Record). g.S.Site.tells → AreLogged (request c.args.words.now c.args.env.now (g.S.Site.files c.args.site)) (g.S.Site.files c.args.site) past) c.serve.result.records c.serve.result.cause
+    (λ past spelled told ask asked.
+    subst (λ (a : Ask). Spells past (g.S.Site.files c.args.site a.log)) (same_ask c.in-Ok.ask ask (sym (c.in-Ok.ensures.stage told) ∙ asked))
+    (subst (λ (fs : Files). Spells past (fs c.in-Ok.ask.log)) (c.in-Ok.ensures.files told) (spelled told)))
+    (c.serve.ensures.leaves (ap (λ (a : Ask). a.work) of ∙ work)))
+
+pub returns-in-Err-clause-leaves : goal.returns-in-Err-clause-leaves
+returns-in-Err-clause-leaves g c options chosen work =
+    let s : Rise = record { before = c.faults-before.result; after = c.faults-after.result } in
+    subst (λ (cause : Cause). RunLeaves (λ (past : List Record). g.S.Site.tells → AreLogged (request c.args.words.now c.args.env.now (g.S.Site.files c.args.site)) (g.S.Site.files c.args.site) past) g.H.Way.Link.tells g.F.Commands.gives g.F.Commands.may_fail g.H.Way.Link.history g.H.Way.Link.count g.H.Way.Link.idle_count g.H.Way.Link.is_closed (ask_of options c.no_plan.result) (g.H.Hall.idle_count c.args.hall.now - g.H.Hall.idle_count c.args.hall.now) (g.H.Hall.got c.args.hall.now) (g.H.Hall.got c.args.hall.now) c.new.result cause) (sym c.refusal_cause.ensures)
+    (subst (λ (xs : List Record). RunLeaves (λ (past : List Record). g.S.Site.tells → AreLogged (request c.args.words.now c.args.env.now (g.S.Site.files c.args.site)) (g.S.Site.files c.args.site) past) g.H.Way.Link.tells g.F.Commands.gives g.F.Commands.may_fail g.H.Way.Link.history g.H.Way.Link.count g.H.Way.Link.idle_count g.H.Way.Link.is_closed (ask_of options c.no_plan.result) (g.H.Hall.idle_count c.args.hall.now - g.H.Hall.idle_count c.args.hall.now) (g.H.Hall.got c.args.hall.now) (g.H.Hall.got c.args.hall.now) xs (refusal_cause s c.in-Err.refusal)) (sym c.new.ensures)
+    (refused_leaves (λ (past : List Record). g.S.Site.tells → AreLogged (request c.args.words.now c.args.env.now (g.S.Site.files c.args.site)) (g.S.Site.files c.args.site) past) g.H.Way.Link.tells g.F.Commands.gives g.F.Commands.may_fail g.H.Way.Link.history g.H.Way.Link.count g.H.Way.Link.idle_count g.H.Way.Link.is_closed (ask_of options c.no_plan.result) (g.H.Hall.idle_count c.args.hall.now - g.H.Hall.idle_count c.args.hall.now) (g.H.Hall.got c.args.hall.now) (g.H.Hall.got c.args.hall.now) s c.in-Err.refusal c.in-Err.ensures.kind refl))

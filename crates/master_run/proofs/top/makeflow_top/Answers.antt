@@ -10,7 +10,9 @@ use Rattle.report.specs.declared.cause.Kind.{Kind}
 use Rattle.report.specs.declared.cause.Kind.TheVariants as kinds
 use Rattle.report.specs.Causes.{kind_of, was_read}
 use Rattle.master_run.specs.Prints.{Told, is_of_plan}
-use Rattle.master_run.specs.Asked.{choice, request, run_mode, run_options}
+use Rattle.master_run.specs.Asked.{ask_of, choice, request, run_mode, run_options}
+use Rattle.master_run.specs.OnePlan.{AreLogged}
+use Rattle.master_run.proofs.Leaving.{printed_leaves}
 use Rattle.master_run.specs.Headline.{IsPlanOf, IsWithinLimit, LogsFailed, WaitsInVain}
 use Rattle.master_run.specs.Reaching.{IsMannedFor}
 use Rattle.master_run.specs.Serves.{IsCut}
@@ -24,7 +26,7 @@ use Rattle.master_run.proofs.Unneeded.{drops_unneeded}
 use Rattle.wq_run.specs.Ends.{AreBack}
 use Rattle.wq_run.specs.Losses.{AreDueLosses}
 use Rattle.wq_run.specs.Vain.{AreVain}
-use Rattle.master_run.proofs.Reprinted.{after_closed, after_cut, after_failed, after_kept, after_legal, after_planned, after_refused, after_run, after_spared, after_sure, after_waited, printed_ends, printed_fault, printed_serves, printed_words, run_read, stands, waited_ran}
+use Rattle.master_run.proofs.Reprinted.{after_closed, after_cut, after_failed, after_kept, after_legal, after_planned, after_refused, after_run, after_spared, after_sure, after_waited, printed_ends, printed_fault, printed_serves, printed_words, stands}
 use Rattle.master_run.proofs.top.makeflow_top.Goals as goal
 
 pub returns-clause-ends : goal.returns-clause-ends
@@ -44,6 +46,22 @@ returns-clause-records g c told ask asked H spelled =
     (printed_serves g.S.Site.tells g.S.Site.files g.S.Site.may_leave g.S.Site.moment g.S.Site.images_since (g.S.Site.moment c.args.site) g.F.Commands.gives g.F.Commands.may_fail (AllTell g.R.Runner.tells c.args.runners.now) (AllSure g.R.Runner.sure c.args.runners.now) (g.H.Hall.honest c.args.hall.now)
     (g.S.Site.count c.args.site) (map g.R.Runner.count c.args.runners.now) (g.H.Hall.count c.args.hall.now) (g.H.Hall.idle_count c.args.hall.now) (g.O.Sink.count c.args.out.now) (g.S.Site.count c.follow-course.result.site) (map g.R.Runner.count c.follow-course.new.runners) (g.H.Hall.count c.follow-course.new.hall) (g.H.Hall.idle_count c.follow-course.new.hall) (g.O.Sink.count c.tell-cause.new.out) ask c.args.site c.follow-course.result.site c.follow-course.result.records c.follow-course.result.cause c.tell-cause.result (stands (g.O.Sink.count c.args.out.now) (g.O.Sink.count c.tell-cause.new.out) c.follow-course.result.cause c.tell-cause.result c.tell-cause.ensures.stands) (c.follow-course.ensures.serves told ask asked)).has_log told H spelled
 
+pub returns-clause-one_plan : goal.returns-clause-one_plan
+returns-clause-one_plan g c =
+    record {
+      plan = c.follow-course.result.plan;
+      read = after_planned (g.S.Site.tells → IsPlanOf (request c.args.words.now c.args.env.now (g.S.Site.files c.args.site)) c.follow-course.result.plan) (g.O.Sink.count c.args.out.now) (g.O.Sink.count c.tell-cause.new.out) c.follow-course.result.cause c.tell-cause.result (stands (g.O.Sink.count c.args.out.now) (g.O.Sink.count c.tell-cause.new.out) c.follow-course.result.cause c.tell-cause.result c.tell-cause.ensures.stands) (λ read told. c.follow-course.ensures.planned told read);
+      legal = after_legal c.follow-course.result.plan c.follow-course.result.records (g.O.Sink.count c.args.out.now) (g.O.Sink.count c.tell-cause.new.out) c.follow-course.result.cause c.tell-cause.result (stands (g.O.Sink.count c.args.out.now) (g.O.Sink.count c.tell-cause.new.out) c.follow-course.result.cause c.tell-cause.result c.tell-cause.ensures.stands) c.follow-course.ensures.legal;
+      storage = after_planned (IsWithinLimit c.follow-course.result.plan c.follow-course.result.records) (g.O.Sink.count c.args.out.now) (g.O.Sink.count c.tell-cause.new.out) c.follow-course.result.cause c.tell-cause.result (stands (g.O.Sink.count c.args.out.now) (g.O.Sink.count c.tell-cause.new.out) c.follow-course.result.cause c.tell-cause.result c.tell-cause.ensures.stands) (λ read. limit-legal c.follow-course.result.plan (plan_digest c.follow-course.result.plan) c.follow-course.result.records (c.follow-course.ensures.legal read));
+      leaves = λ options chosen work.
+          printed_leaves (λ (past : List Record). g.S.Site.tells → AreLogged (request c.args.words.now c.args.env.now (g.S.Site.files c.args.site)) (g.S.Site.files c.args.site) past) g.H.Way.Link.tells g.F.Commands.gives g.F.Commands.may_fail g.H.Way.Link.history g.H.Way.Link.count g.H.Way.Link.idle_count g.H.Way.Link.is_closed (ask_of options c.follow-course.result.plan) (g.H.Hall.idle_count c.follow-course.new.hall - g.H.Hall.idle_count c.args.hall.now) (g.H.Hall.got c.args.hall.now) (g.H.Hall.got c.follow-course.new.hall)
+          c.follow-course.result.records (g.O.Sink.count c.args.out.now) (g.O.Sink.count c.tell-cause.new.out) c.follow-course.result.cause c.tell-cause.result (stands (g.O.Sink.count c.args.out.now) (g.O.Sink.count c.tell-cause.new.out) c.follow-course.result.cause c.tell-cause.result c.tell-cause.ensures.stands) (c.follow-course.ensures.leaves options chosen work);
+      opened = λ options chosen. after_run (OpensBy (run_options options) c.follow-course.result.records) (g.O.Sink.count c.args.out.now) (g.O.Sink.count c.tell-cause.new.out) c.follow-course.result.cause c.tell-cause.result (stands (g.O.Sink.count c.args.out.now) (g.O.Sink.count c.tell-cause.new.out) c.follow-course.result.cause c.tell-cause.result c.tell-cause.ensures.stands) (c.follow-course.ensures.opened options chosen);
+      collects = λ options chosen. after_run (RunCollects c.follow-course.result.plan (run_mode options.mode) c.follow-course.result.records) (g.O.Sink.count c.args.out.now) (g.O.Sink.count c.tell-cause.new.out) c.follow-course.result.cause c.tell-cause.result (stands (g.O.Sink.count c.args.out.now) (g.O.Sink.count c.tell-cause.new.out) c.follow-course.result.cause c.tell-cause.result c.tell-cause.ensures.stands) (c.follow-course.ensures.collects options chosen);
+      waited = λ options chosen. after_waited (WaitsInVain c.follow-course.result.plan (run_options options) options.limits.idle (g.H.Hall.idle_count c.follow-course.new.hall - g.H.Hall.idle_count c.args.hall.now) c.follow-course.result.records) (g.O.Sink.count c.args.out.now) (g.O.Sink.count c.tell-cause.new.out) c.follow-course.result.cause c.tell-cause.result (stands (g.O.Sink.count c.args.out.now) (g.O.Sink.count c.tell-cause.new.out) c.follow-course.result.cause c.tell-cause.result c.tell-cause.ensures.stands) (c.follow-course.ensures.waited options chosen);
+      vain = λ tells options chosen. after_waited (λ wait. AreVain g.F.Commands.gives g.F.Commands.may_fail g.H.Way.Link.history g.H.Way.Link.count g.H.Way.Link.idle_count g.H.Way.Link.is_closed options.limits.idle c.follow-course.result.plan (run_options options) (before_end c.follow-course.result.records) (g.H.Hall.got c.args.hall.now) (g.H.Hall.got c.follow-course.new.hall)) (g.O.Sink.count c.args.out.now) (g.O.Sink.count c.tell-cause.new.out) c.follow-course.result.cause c.tell-cause.result (stands (g.O.Sink.count c.args.out.now) (g.O.Sink.count c.tell-cause.new.out) c.follow-course.result.cause c.tell-cause.result c.tell-cause.ensures.stands) (c.follow-course.ensures.vain tells options chosen);
+    }
+
 pub returns-clause-added : goal.returns-clause-added
 returns-clause-added g c told ask asked H spelled =
     (printed_serves g.S.Site.tells g.S.Site.files g.S.Site.may_leave g.S.Site.moment g.S.Site.images_since (g.S.Site.moment c.args.site) g.F.Commands.gives g.F.Commands.may_fail (AllTell g.R.Runner.tells c.args.runners.now) (AllSure g.R.Runner.sure c.args.runners.now) (g.H.Hall.honest c.args.hall.now)
@@ -53,14 +71,6 @@ pub returns-clause-logged : goal.returns-clause-logged
 returns-clause-logged g c told ask asked H spelled =
     (printed_serves g.S.Site.tells g.S.Site.files g.S.Site.may_leave g.S.Site.moment g.S.Site.images_since (g.S.Site.moment c.args.site) g.F.Commands.gives g.F.Commands.may_fail (AllTell g.R.Runner.tells c.args.runners.now) (AllSure g.R.Runner.sure c.args.runners.now) (g.H.Hall.honest c.args.hall.now)
     (g.S.Site.count c.args.site) (map g.R.Runner.count c.args.runners.now) (g.H.Hall.count c.args.hall.now) (g.H.Hall.idle_count c.args.hall.now) (g.O.Sink.count c.args.out.now) (g.S.Site.count c.follow-course.result.site) (map g.R.Runner.count c.follow-course.new.runners) (g.H.Hall.count c.follow-course.new.hall) (g.H.Hall.idle_count c.follow-course.new.hall) (g.O.Sink.count c.tell-cause.new.out) ask c.args.site c.follow-course.result.site c.follow-course.result.records c.follow-course.result.cause c.tell-cause.result (stands (g.O.Sink.count c.args.out.now) (g.O.Sink.count c.tell-cause.new.out) c.follow-course.result.cause c.tell-cause.result c.tell-cause.ensures.stands) (c.follow-course.ensures.serves told ask asked)).logged told H spelled
-
-pub returns-clause-legal : goal.returns-clause-legal
-returns-clause-legal g c =
-    record {
-      plan = c.follow-course.result.plan;
-      read = after_planned (g.S.Site.tells → IsPlanOf (request c.args.words.now c.args.env.now (g.S.Site.files c.args.site)) c.follow-course.result.plan) (g.O.Sink.count c.args.out.now) (g.O.Sink.count c.tell-cause.new.out) c.follow-course.result.cause c.tell-cause.result (stands (g.O.Sink.count c.args.out.now) (g.O.Sink.count c.tell-cause.new.out) c.follow-course.result.cause c.tell-cause.result c.tell-cause.ensures.stands) (λ read told. c.follow-course.ensures.planned told read);
-      legal = after_legal c.follow-course.result.plan c.follow-course.result.records (g.O.Sink.count c.args.out.now) (g.O.Sink.count c.tell-cause.new.out) c.follow-course.result.cause c.tell-cause.result (stands (g.O.Sink.count c.args.out.now) (g.O.Sink.count c.tell-cause.new.out) c.follow-course.result.cause c.tell-cause.result c.tell-cause.ensures.stands) c.follow-course.ensures.legal;
-    }
 
 pub returns-clause-closed : goal.returns-clause-closed
 returns-clause-closed g c ends =
@@ -94,24 +104,6 @@ returns-clause-places g c told ask asked H spelled begins =
 pub returns-clause-back : goal.returns-clause-back
 returns-clause-back g c whole =
     after_cut (AreBack (g.H.Hall.got c.args.hall.now) (g.H.Hall.got c.follow-course.new.hall) (g.H.Hall.given c.args.hall.now) (g.H.Hall.given c.follow-course.new.hall)) (g.O.Sink.count c.args.out.now) (g.O.Sink.count c.tell-cause.new.out) c.follow-course.result.cause c.tell-cause.result (stands (g.O.Sink.count c.args.out.now) (g.O.Sink.count c.tell-cause.new.out) c.follow-course.result.cause c.tell-cause.result c.tell-cause.ensures.stands) c.follow-course.ensures.back whole
-
-pub returns-clause-waited : goal.returns-clause-waited
-returns-clause-waited g c options chosen =
-    let now = c.tell-cause.result in
-    record {
-      plan = c.follow-course.result.plan;
-      read = λ is. after_run (g.S.Site.tells → IsPlanOf (request c.args.words.now c.args.env.now (g.S.Site.files c.args.site)) c.follow-course.result.plan) (g.O.Sink.count c.args.out.now) (g.O.Sink.count c.tell-cause.new.out) c.follow-course.result.cause c.tell-cause.result (stands (g.O.Sink.count c.args.out.now) (g.O.Sink.count c.tell-cause.new.out) c.follow-course.result.cause c.tell-cause.result c.tell-cause.ensures.stands) (λ ends told. c.follow-course.ensures.planned told (run_read (kind_of c.follow-course.result.cause) ends)) (waited_ran (kind_of now) is);
-      waits = after_waited (WaitsInVain c.follow-course.result.plan (run_options options) options.limits.idle (g.H.Hall.idle_count c.follow-course.new.hall - g.H.Hall.idle_count c.args.hall.now) c.follow-course.result.records) (g.O.Sink.count c.args.out.now) (g.O.Sink.count c.tell-cause.new.out) c.follow-course.result.cause c.tell-cause.result (stands (g.O.Sink.count c.args.out.now) (g.O.Sink.count c.tell-cause.new.out) c.follow-course.result.cause c.tell-cause.result c.tell-cause.ensures.stands) (c.follow-course.ensures.waited options chosen);
-    }
-
-pub returns-clause-vain : goal.returns-clause-vain
-returns-clause-vain g c tells options chosen =
-    let now = c.tell-cause.result in
-    record {
-      plan = c.follow-course.result.plan;
-      read = λ is. after_run (g.S.Site.tells → IsPlanOf (request c.args.words.now c.args.env.now (g.S.Site.files c.args.site)) c.follow-course.result.plan) (g.O.Sink.count c.args.out.now) (g.O.Sink.count c.tell-cause.new.out) c.follow-course.result.cause c.tell-cause.result (stands (g.O.Sink.count c.args.out.now) (g.O.Sink.count c.tell-cause.new.out) c.follow-course.result.cause c.tell-cause.result c.tell-cause.ensures.stands) (λ ends told. c.follow-course.ensures.planned told (run_read (kind_of c.follow-course.result.cause) ends)) (waited_ran (kind_of now) is);
-      vain = after_waited (λ wait. AreVain g.F.Commands.gives g.F.Commands.may_fail g.H.Way.Link.history g.H.Way.Link.count g.H.Way.Link.idle_count g.H.Way.Link.is_closed options.limits.idle c.follow-course.result.plan (run_options options) (before_end c.follow-course.result.records) (g.H.Hall.got c.args.hall.now) (g.H.Hall.got c.follow-course.new.hall)) (g.O.Sink.count c.args.out.now) (g.O.Sink.count c.tell-cause.new.out) c.follow-course.result.cause c.tell-cause.result (stands (g.O.Sink.count c.args.out.now) (g.O.Sink.count c.tell-cause.new.out) c.follow-course.result.cause c.tell-cause.result c.tell-cause.ensures.stands) (c.follow-course.ensures.vain tells options chosen);
-    }
 
 pub returns-clause-moments : goal.returns-clause-moments
 returns-clause-moments g c told ask asked H spelled resumable image left =
@@ -198,26 +190,6 @@ returns-clause-text g c told =
       whole = λ same some. t.whole same some;
       of_end = λ ends. t.of_end ends;
       part = t.part;
-    }
-
-pub returns-clause-storage : goal.returns-clause-storage
-returns-clause-storage g c =
-    record {
-      plan = c.follow-course.result.plan;
-      read = after_planned (g.S.Site.tells → IsPlanOf (request c.args.words.now c.args.env.now (g.S.Site.files c.args.site)) c.follow-course.result.plan) (g.O.Sink.count c.args.out.now) (g.O.Sink.count c.tell-cause.new.out) c.follow-course.result.cause c.tell-cause.result (stands (g.O.Sink.count c.args.out.now) (g.O.Sink.count c.tell-cause.new.out) c.follow-course.result.cause c.tell-cause.result c.tell-cause.ensures.stands) (λ read told. c.follow-course.ensures.planned told read);
-      within = after_planned (IsWithinLimit c.follow-course.result.plan c.follow-course.result.records) (g.O.Sink.count c.args.out.now) (g.O.Sink.count c.tell-cause.new.out) c.follow-course.result.cause c.tell-cause.result (stands (g.O.Sink.count c.args.out.now) (g.O.Sink.count c.tell-cause.new.out) c.follow-course.result.cause c.tell-cause.result c.tell-cause.ensures.stands) (λ read. limit-legal c.follow-course.result.plan (plan_digest c.follow-course.result.plan) c.follow-course.result.records (c.follow-course.ensures.legal read));
-    }
-
-pub returns-clause-opened : goal.returns-clause-opened
-returns-clause-opened g c options chosen =
-    after_run (OpensBy (run_options options) c.follow-course.result.records) (g.O.Sink.count c.args.out.now) (g.O.Sink.count c.tell-cause.new.out) c.follow-course.result.cause c.tell-cause.result (stands (g.O.Sink.count c.args.out.now) (g.O.Sink.count c.tell-cause.new.out) c.follow-course.result.cause c.tell-cause.result c.tell-cause.ensures.stands) (c.follow-course.ensures.opened options chosen)
-
-pub returns-clause-collects : goal.returns-clause-collects
-returns-clause-collects g c options chosen =
-    record {
-      plan = c.follow-course.result.plan;
-      read = after_run (g.S.Site.tells → IsPlanOf (request c.args.words.now c.args.env.now (g.S.Site.files c.args.site)) c.follow-course.result.plan) (g.O.Sink.count c.args.out.now) (g.O.Sink.count c.tell-cause.new.out) c.follow-course.result.cause c.tell-cause.result (stands (g.O.Sink.count c.args.out.now) (g.O.Sink.count c.tell-cause.new.out) c.follow-course.result.cause c.tell-cause.result c.tell-cause.ensures.stands) (λ ends told. c.follow-course.ensures.planned told (run_read (kind_of c.follow-course.result.cause) ends));
-      collects = after_run (RunCollects c.follow-course.result.plan (run_mode options.mode) c.follow-course.result.records) (g.O.Sink.count c.args.out.now) (g.O.Sink.count c.tell-cause.new.out) c.follow-course.result.cause c.tell-cause.result (stands (g.O.Sink.count c.args.out.now) (g.O.Sink.count c.tell-cause.new.out) c.follow-course.result.cause c.tell-cause.result c.tell-cause.ensures.stands) (c.follow-course.ensures.collects options chosen);
     }
 
 pub returns-clause-modes : goal.returns-clause-modes

@@ -96,3 +96,13 @@ pub returns-in-PrintLog-clause-sure_links : goal.returns-in-PrintLog-clause-sure
 returns-in-PrintLog-clause-sure_links g c t H spelled wq work sure links =
     let is : c.args.ask.work ≡ works.PrintLog = search rules in
     let wrong : works.PrintLog ≡ works.Run = sym is ∙ work in cc
+
+pub returns-in-Clean-clause-leaves : goal.returns-in-Clean-clause-leaves
+returns-in-Clean-clause-leaves g c work =
+    let is : c.args.ask.work ≡ works.Clean = search rules in
+    let wrong : works.Clean ≡ works.Run = sym is ∙ work in cc
+
+pub returns-in-PrintLog-clause-leaves : goal.returns-in-PrintLog-clause-leaves
+returns-in-PrintLog-clause-leaves g c work =
+    let is : c.args.ask.work ≡ works.PrintLog = search rules in
+    let wrong : works.PrintLog ≡ works.Run = sym is ∙ work in cc
