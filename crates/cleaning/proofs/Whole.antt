@@ -19,8 +19,9 @@ use Rattle.cleaning.specs.declared.answers.Cleaned.{Cleaned}
 use Rattle.cleaning.specs.declared.answers.CleanFault.{CleanFault}
 use Rattle.cleaning.specs.declared.answers.CleanFault.TheVariants as cleans
 use Rattle.cleaning.specs.declared.answers.CleanRefused.{CleanRefused}
+use Rattle.cleaning.specs.declared.answers.LookFault.TheVariants as looks
 use Rattle.cleaning.specs.Behind.{IsBehind, IsUnmoved, WasBehind}
-use Rattle.cleaning.specs.Cleanings.{CleansLog, FailsRisen, GivesRecords, IsCleanOfFile, IsCutFor, IsLeft, present_made}
+use Rattle.cleaning.specs.Cleanings.{CleansLog, FailsRisen, GivesRecords, IsCleanOfFile, IsCutFor, IsLeft, IsUnreadFor, present_made}
 use Rattle.cleaning.proofs.Looked.{are_given, of_file}
 use Rattle.cleaning.proofs.Absent.{unmade_other}
 use Rattle.cleaning.proofs.Reading.{read_moments}
@@ -50,6 +51,20 @@ pub unmoved_reads : {S : Type 0} (tells : Type 0) (files : S → Files) (name : 
     → IfErr r (λ refused. tells → (IsCutFor refused.why → ⊥) → (IsUnbegun (files old name) → ⊥) → (m : List ℕ) → files new m ≡ files old m)
 unmoved_reads {S} tells files name old mid new (Ok done) unmoved same = tt
 unmoved_reads {S} tells files name old mid new (Err refused) unmoved same = λ told uncut begun m. ap (λ s. files s m) (unmoved uncut) ∙ same told begun m
+
+-- behind the reading the log was read
+read_behind : (why : CleanFault) → IsBehind why → IsUnreadFor why → ⊥
+read_behind (cleans.Look (looks.Log fault)) behind unread = behind
+read_behind (cleans.Look (looks.OtherFlow logged found)) behind unread = unread
+read_behind (cleans.Look (looks.NotLegal at)) behind unread = unread
+read_behind (cleans.Look looks.Memory) behind unread = unread
+read_behind (cleans.LogFull count) behind unread = unread
+read_behind cleans.Site behind unread = unread
+read_behind cleans.Memory behind unread = unread
+
+pub never_unread : (tells left : Type 0) (r : Result Cleaned CleanRefused) → WasBehind r → IfErr r (λ refused. tells → IsUnreadFor refused.why → left)
+never_unread tells left (Ok done) behind = tt
+never_unread tells left (Err refused) behind = λ told unread. absurd (read_behind refused.why behind unread)
 
 -- a refusal behind the reading leaves what the reading did
 pub unmoved_before : {S : Type 0} (tells : Type 0) (moment_of : S → ℕ) (images_since : S → ℕ → Files → Type 0) (left : Files → Type 0) (old mid new : S) (r : Result Cleaned CleanRefused) → IsUnmoved mid new r

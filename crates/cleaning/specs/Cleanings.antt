@@ -21,6 +21,7 @@ use Rattle.cleaning.specs.declared.answers.Cleaned.{Cleaned}
 use Rattle.cleaning.specs.declared.answers.CleanFault.{CleanFault}
 use Rattle.cleaning.specs.declared.answers.CleanFault.TheVariants as cleans
 use Rattle.cleaning.specs.declared.answers.CleanRefused.{CleanRefused}
+use Rattle.cleaning.specs.declared.answers.LookFault.TheVariants as looks
 use Rattle.cleaning.specs.Looks.{GivesBack, IsCutFault, IsLookFault, IsOfFile, IsSiteFault}
 
 -- the numbers of these files
@@ -121,6 +122,11 @@ IsCutFor (cleans.Look why) = IsCutFault why
 IsCutFor (cleans.LogFull count) = ⊥
 IsCutFor cleans.Site = Unit {0}
 IsCutFor cleans.Memory = Unit {0}
+
+-- The log wasn't read.
+abbrev pub IsUnreadFor : CleanFault → Type 0
+IsUnreadFor (cleans.Look (looks.Log why)) = Unit {0}
+IsUnreadFor why = ⊥
 
 -- The cleaning was cut short: the site failed, or memory was wanting.
 abbrev pub IsCutClean : Result Cleaned CleanRefused → Type 0

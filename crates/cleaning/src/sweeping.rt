@@ -20,8 +20,8 @@ ghost use Rattle.cleaning.specs.declared.answers.CleanFault.TheVariants as clean
 ghost use Rattle.cleaning.specs.declared.answers.LookFault.TheVariants as looks;
 ghost use Rattle.cleaning.specs.Behind.{CleansOver};
 ghost use Rattle.cleaning.specs.Cleanings.{CleanEnds, CleansLog, EndsPart, FailsRisen, GivesLegal};
-ghost use Rattle.cleaning.specs.Cleanings.{GivesRecords, HasGone, IsCutClean, IsCutFor, present_made};
-ghost use Rattle.cleaning.specs.Cleanings.{records_in};
+ghost use Rattle.cleaning.specs.Cleanings.{GivesRecords, HasGone, IsCutClean, IsCutFor};
+ghost use Rattle.cleaning.specs.Cleanings.{IsUnreadFor, present_made, records_in};
 
 use crate::checking::check_records;
 use crate::parts::clean_files;
@@ -173,6 +173,9 @@ pub fn clean<S: Site>(
     ensures reads { IfErr result (λ refused. S.tells → (IsCutFor refused.why → ⊥)
         → (IsUnbegun (S.files site.old «name») → ⊥)
         → (m : List ℕ) → S.files site.new m ≡ S.files site.old m) }
+    ensures unread { IfErr result (λ refused. S.tells → IsUnreadFor refused.why
+        → LeavesOnly S.moment S.images_since site.old site.new
+        (IsBefore «name» (S.files site.old «name») (S.may_leave site.old))) }
     ensures before { IfErr result (λ refused. S.tells → (IsCutFor refused.why → ⊥)
         → LeavesOnly S.moment S.images_since site.old site.new
         (IsBefore «name» (S.files site.old «name») (S.may_leave site.old))) }

@@ -33,7 +33,7 @@ use Rattle.cleaning.specs.declared.answers.CleanFault.{CleanFault}
 use Rattle.cleaning.specs.declared.answers.CleanFault.TheVariants as cleans
 use Rattle.cleaning.specs.declared.answers.LookFault.{LookFault}
 use Rattle.cleaning.specs.declared.answers.LookFault.TheVariants as looks
-use Rattle.cleaning.specs.Cleanings.{AreEither, IsCleanFault, IsCleanOfFile, IsCutFor, IsLeft, IsOfSite, WasAdmitted, clean_fault, cleaned}
+use Rattle.cleaning.specs.Cleanings.{AreEither, IsCleanFault, IsCleanOfFile, IsCutFor, IsLeft, IsOfSite, IsUnreadFor, WasAdmitted, clean_fault, cleaned}
 use Rattle.cleaning.specs.Looks.{GivesBack, IsCutFault, IsLookFault, IsOfFile, IsSiteFault, WasRead}
 use Rattle.command_words.specs.declared.options.Work.TheVariants as works
 use Rattle.report.specs.declared.cause.Cause.{Cause}
@@ -246,6 +246,16 @@ clean_log s P H given moment (cleans.Look why) is left = look_log s P H given wh
 clean_log s P H given moment (cleans.LogFull count) is left = inl ([], left ∙ sym (append_nothing H))
 clean_log s P H given moment cleans.Site is left = inl (begins_so H given moment left)
 clean_log s P H given moment cleans.Memory is left = inl (begins_so H given moment left)
+
+-- where other records were given back than those of the log and more, it wasn't read
+pub clean_unread : (P : Plan) (H given : List Record) (moment : ℕ) (why : CleanFault) → IsCleanFault P H why → IsLeft H moment why given → (BeginsWith H given → ⊥) → IsUnreadFor why
+clean_unread P H given moment (cleans.Look (looks.Log fault)) is left none = tt
+clean_unread P H given moment (cleans.Look (looks.OtherFlow logged found)) is left none = none ([], left ∙ sym (append_nothing H))
+clean_unread P H given moment (cleans.Look (looks.NotLegal at)) is left none = none ([], left ∙ sym (append_nothing H))
+clean_unread P H given moment (cleans.Look looks.Memory) is left none = none ([], left ∙ sym (append_nothing H))
+clean_unread P H given moment (cleans.LogFull count) is left none = none ([], left ∙ sym (append_nothing H))
+clean_unread P H given moment cleans.Site is left none = none (begins_so H given moment left)
+clean_unread P H given moment cleans.Memory is left none = none (begins_so H given moment left)
 
 pub clean_legal : (s : Rise) (P : Plan) (H given : List Record) (moment : ℕ) (why : CleanFault) → IsLeft H moment why given → (WasAdmitted why → IsLegal P given) → IsLegalOr P H given (kind_of (clean_cause s why))
 clean_legal s P H given moment (cleans.Look why) left legal = look_legal s P H given why left

@@ -124,6 +124,7 @@ module _ {S : Type 0} (tells : Type 0) (files : S → Files) (may_leave : S → 
     pub has_log : tells → (H : List Record) → Spells H (files old ask.log) → HasLog H records (kind_of cause)
     pub added : tells → (H : List Record) → Spells H (files old ask.log) → CallAdds ask H records cause
     pub logged : tells → (H : List Record) → Spells H (files old ask.log) → IsLegalOr ask.plan H records (kind_of cause)
+    pub unread : tells → (H : List Record) → Spells H (files old ask.log) → (BeginsWith H records → ⊥) → LeavesOnly moment images_since old new (IsBefore ask.log (files old ask.log) (may_leave old))
     pub moments : tells → (H : List Record) → Spells H (files old ask.log) → AllMoments files may_leave images_since Held born ask H old new records cause
     pub resumable : tells → StaysResumable may_leave images_since born ask old new
     pub others : tells → StaysBeside may_leave moment images_since (IsUnmade ask.plan ask.log) old new
@@ -161,6 +162,7 @@ module _ {S : Type 0} (tells : Type 0) (files : S → Files) (may_leave : S → 
     now = λ t H spelled resumable whole. absurd (whole f.cut);
     untouched = λ t refused. absurd (true≢false (sym refused ∙ (fault_kind (kind_of cause) f.cut).no_refusal));
     quiet = λ t refused. absurd (true≢false (sym refused ∙ (fault_kind (kind_of cause) f.cut).no_refusal));
+    unread = f.unread;
     others = f.others;
     reads = λ t m spared. f.reads t m spared.0;
     contents = λ t H spelled met. f.contents t H spelled;

@@ -602,6 +602,7 @@ module _ {S : Type 0} (tells : Type 0) (files : S → Files) (may_leave : S → 
     late = run_late (site_rise b a) r (hall_rise b a) ask.plan how;
     faults = k.faults;
     has_log = λ t H spelled. inl (k.grows t H spelled);
+    unread = λ t H spelled none. absurd (none (k.grows t H spelled));
     added = λ t H spelled. subst (λ (w : Work). AddsBy w ask.options H records (run_cause (site_rise b a) r (hall_rise b a) ask.plan how)) (sym k.work)
         (run_adds (site_rise b a) r (hall_rise b a) ask.plan ask.options H records how (k.same t H spelled) (k.added t H spelled));
     legal = λ read. k.legal (admitted_run (site_rise b a) r (hall_rise b a) ask.plan how read);

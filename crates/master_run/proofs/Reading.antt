@@ -68,6 +68,12 @@ module _ {S : Type 0} (tells : Type 0) (files : S → Files) (may_leave : S → 
     faults = s.faults;
     has_log = λ t H spelled. s.has_log t H (at_mid t H spelled);
     added = λ t H spelled. s.added t H (at_mid t H spelled);
+    unread = λ t H spelled none.
+        joined moment images_since old mid new (IsImage (may_leave old)) (IsBefore ask.log (files mid ask.log) (may_leave mid)) (IsBefore ask.log (files old ask.log) (may_leave old)) (looked t).only (s.unread t H (at_mid t H spelled) none)
+        (λ image is. entry_before ask.log (files old ask.log) (may_leave old) image is)
+        (λ image was.
+        before_from ask.log (files old ask.log) (may_leave old) (may_leave mid) image (looked t).within
+        (subst (λ (fs : Files). IsBefore ask.log (fs ask.log) (may_leave mid) image) (looked t).same was));
     legal = s.legal;
     logged = λ t H spelled. s.logged t H (at_mid t H spelled);
     closed = s.closed;

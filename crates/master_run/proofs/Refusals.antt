@@ -132,6 +132,7 @@ module _ {S : Type 0} (tells : Type 0) (files : S → Files) (may_leave : S → 
         faults = fault;
         has_log = λ t H spelled. inr (refl, replaces);
         added = λ t H spelled. unread_adds ask.work ask.options H cause cut;
+        unread = λ t H spelled none. only t;
         logged = λ t H spelled. inr (inr refl, unread);
         moments = λ t H spelled. before_all tells files may_leave moment images_since born gives may_fail told sure honest_links b a ask old new [] cause Held H (later t) (only t);
         resumable = λ t some image left. ⊎_elim (λ was. inl was) (λ (is : IsImage (may_leave old) image). inr (some image is)) ((looked t).only.before born image (later t) left);

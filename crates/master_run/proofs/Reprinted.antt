@@ -262,6 +262,7 @@ module _ {S : Type 0} (tells : Type 0) (files : S → Files) (may_leave : S → 
         now = s.now;
         untouched = s.untouched;
         quiet = s.quiet;
+        unread = s.unread;
         others = s.others;
         reads = s.reads;
         contents = s.contents;
@@ -292,6 +293,7 @@ module _ {S : Type 0} (tells : Type 0) (files : S → Files) (may_leave : S → 
         now = λ t H spelled resumable whole. s.now t H spelled resumable (end_whole (kind_of cause) is);
         untouched = λ t wrong. absurd (true≢false (sym wrong));
         quiet = λ t wrong. absurd (true≢false (sym wrong));
+        unread = s.unread;
         others = s.others;
         reads = λ t m spared. s.reads t m (spared.0, λ cut. absurd (end_whole (kind_of cause) is cut));
         contents = λ t H spelled met jobs. all_after files may_leave images_since born ask old new records (SerialFits gives (read_sources ask.plan (files old))) H cause (causes.SinkFault b a) (λ cut. absurd (end_whole (kind_of cause) is cut)) (s.contents t H spelled met jobs);
@@ -321,6 +323,7 @@ module _ {S : Type 0} (tells : Type 0) (files : S → Files) (may_leave : S → 
         now = λ t H spelled resumable whole. absurd (whole refl);
         untouched = λ t wrong. absurd (true≢false (sym wrong));
         quiet = λ t wrong. absurd (true≢false (sym wrong));
+        unread = s.unread;
         others = s.others;
         reads = λ t m spared. s.reads t m (spared.0, λ cut. spared.1 refl);
         contents = λ t H spelled met jobs. all_after files may_leave images_since born ask old new records (SerialFits gives (read_sources ask.plan (files old))) H cause causes.Memory (λ cut. refl) (s.contents t H spelled met jobs);

@@ -81,6 +81,7 @@ module _ {S : Type 0} (tells : Type 0) (files : S → Files) (may_leave : S → 
         faults = fault;
         has_log = λ t H spelled. inr (refl, replaces);
         added = λ t H spelled. unread_adds ask.work ask.options H cause cut;
+        unread = λ t H spelled none. only t;
         logged = λ t H spelled. inr (inr refl, unread);
         moments = λ t H spelled. before_all tells files may_leave moment images_since born gives may_fail told sure honest_links b a ask old new [] cause Held H (later t) (only t);
         resumable = goes_on;
@@ -105,6 +106,7 @@ module _ {S : Type 0} (tells : Type 0) (files : S → Files) (may_leave : S → 
     faults = tt;
     has_log = λ t H spelled. absurd (none t H spelled);
     added = λ t H spelled. absurd (none t H spelled);
+    unread = λ t H spelled. absurd (none t H spelled);
     legal = λ wrong. absurd (true≢false (sym wrong));
     logged = λ t H spelled. absurd (none t H spelled);
     closed = λ wrong. absurd (true≢false (sym wrong));

@@ -77,6 +77,7 @@ module _ {S : Type 0} (tells : Type 0) (files : S → Files) (may_leave : S → 
     moments = s.moments;
     resumable = s.resumable;
     now = s.now;
+    unread = s.unread;
     untouched = s.untouched;
     quiet = s.quiet;
     others = s.others;

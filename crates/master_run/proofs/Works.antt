@@ -10,7 +10,7 @@ use Rattle.txn_log.specs.Spells.{Spells}
 use Rattle.desk.specs.Kept.{IsLegal, Keeps, ReadsStay, StaysBeside}
 use Rattle.local_run.specs.Collecting.{CollectsBy}
 use Rattle.local_run.specs.Course.{IsUnmade}
-use Rattle.local_run.specs.Moments.{IsMoment, IsResumable, KeepsSome}
+use Rattle.local_run.specs.Moments.{IsBefore, IsMoment, IsResumable, KeepsSome}
 use Rattle.local_run.specs.Runs.{Adds, BeginsWith, Held, SerialFits, read_sources}
 use Rattle.cleaning.specs.Cleanings.{AreEither}
 use Rattle.command_words.specs.declared.options.Work.TheVariants.{Run}
@@ -51,6 +51,7 @@ module _ {S : Type 0} (tells : Type 0) (files : S → Files) (may_leave : S → 
     pub read : tells → IsReadOr (files old ask.log) cause
     pub goes : tells → (H : List Record) → Spells H (files old ask.log) → GoesOn ask.work ask (idle_rise before after) H (files old) (files new) records cause
     pub has_log : tells → (H : List Record) → Spells H (files old ask.log) → HasLog H records (kind_of cause)
+    pub unread : tells → (H : List Record) → Spells H (files old ask.log) → (BeginsWith H records → ⊥) → LeavesOnly moment images_since old new (IsBefore ask.log (files old ask.log) (may_leave old))
     pub added : tells → (H : List Record) → Spells H (files old ask.log) → CallAdds ask H records cause
     pub legal : was_read (kind_of cause) ≡ true → IsLegal ask.plan records
     pub logged : tells → (H : List Record) → Spells H (files old ask.log) → IsLegalOr ask.plan H records (kind_of cause)
@@ -88,6 +89,7 @@ module _ {S : Type 0} (tells : Type 0) (files : S → Files) (may_leave : S → 
     faults = c.faults;
     has_log = c.has_log;
     added = c.added;
+    unread = c.unread;
     legal = c.legal;
     logged = c.logged;
     closed = λ ends. absurd (true≢false (sym ends ∙ c.runs_not.0));

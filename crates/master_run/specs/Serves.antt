@@ -16,7 +16,7 @@ use Rattle.desk.specs.Openings.{IsNoSource}
 use Rattle.local_run.specs.Collecting.{AreGone, CollectsBy}
 use Rattle.local_run.specs.Completing.{HasRecordRoom, HasSources, SerialInputsFit}
 use Rattle.local_run.specs.Course.{IsUnmade, TellsJobs}
-use Rattle.local_run.specs.Moments.{IsMoment, IsResumable, KeepsSome}
+use Rattle.local_run.specs.Moments.{IsBefore, IsMoment, IsResumable, KeepsSome}
 use Rattle.local_run.specs.Runs.{Adds, BeginsWith, Held, LosesNone, SerialFits, read_sources}
 use Rattle.command_words.specs.declared.options.Work.TheVariants.{Run}
 use Rattle.wq_run.specs.Ends.{LosesOnLinks}
@@ -84,6 +84,7 @@ pub record Serves {S : Type 0} (tells : Type 0) (files : S → Files) (may_leave
   pub late : IsFalse (is_early (kind_of cause))
   pub faults : FaultEnd before after cause
   pub has_log : tells → (H : List Record) → Spells H (files old ask.log) → HasLog H records (kind_of cause)
+  pub unread : tells → (H : List Record) → Spells H (files old ask.log) → (BeginsWith H records → ⊥) → LeavesOnly moment images_since old new (IsBefore ask.log (files old ask.log) (may_leave old))
   pub added : tells → (H : List Record) → Spells H (files old ask.log) → CallAdds ask H records cause
   pub legal : IsTrue (was_read (kind_of cause)) → IsLegal ask.plan records
   pub logged : tells → (H : List Record) → Spells H (files old ask.log) → IsLegalOr ask.plan H records (kind_of cause)

@@ -17,7 +17,7 @@ ghost use Rattle.command_words.specs.declared.options.Work.TheVariants.{Run};
 ghost use Rattle.local_run.specs.Collecting.{AreGone, CollectsBy, RunCollects};
 ghost use Rattle.local_run.specs.Ends.{OpensBy};
 ghost use Rattle.local_run.specs.Course.{IsUnmade, TellsJobs};
-ghost use Rattle.local_run.specs.Moments.{IsMoment, IsResumable, KeepsSome};
+ghost use Rattle.local_run.specs.Moments.{IsBefore, IsMoment, IsResumable, KeepsSome};
 ghost use Rattle.local_run.specs.Runs.{Adds, BeginsWith, Held, LosesNone, SerialFits};
 ghost use Rattle.local_run.specs.Runs.{read_sources};
 ghost use Rattle.command_words.specs.declared.options.Options.{Options as OptionsValue};
@@ -349,9 +349,14 @@ pub fn makeflow_top<
         (H.idle_count hall.new) (O.count out.new)) result.cause }
 
     // The records of the log stay, those that were added stand behind them, and together they may
-    // stand in a log of the plan.
+    // stand in a log of the plan. None are handed back only where the log wasn't read, and then
+    // nothing is left that might not have been left before.
     ensures records { S.tells → OfLog (request words.now env.now (S.files site)) (S.files site)
         (λ ask H. HasLog H result.records (kind_of result.cause)) }
+    ensures unread { S.tells → OfLog (request words.now env.now (S.files site)) (S.files site)
+        (λ ask H. (BeginsWith H result.records → ⊥)
+        → LeavesOnly S.moment S.images_since site result.site
+        (IsBefore ask.log (S.files site ask.log) (S.may_leave site))) }
     ensures logged { S.tells → OfLog (request words.now env.now (S.files site)) (S.files site)
         (λ ask H. IsLegalOr ask.plan H result.records (kind_of result.cause)) }
 

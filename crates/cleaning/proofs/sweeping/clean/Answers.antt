@@ -1,5 +1,6 @@
 use Rattle.std.proofs.Common.{inr, List, Err, ap, refl, sym, subst}
 use Rattle.flow_types.specs.declared.records.Record.{Record}
+use Rattle.outside.specs.Disk.{LeavesOnly}
 use Rattle.desk.specs.Kept.{IsElse}
 use Rattle.local_run.specs.Course.{IsUnmade}
 use Rattle.local_run.specs.Moments.{IsBefore}
@@ -9,7 +10,7 @@ use Rattle.cleaning.specs.declared.answers.CleanRefused.{CleanRefused}
 use Rattle.cleaning.specs.Cleanings.{CleanEnds, CleansLog, GivesRecords, HasGone, IsCutClean, IsCutFor, IsOfSite, WasAdmitted, present_made, records_in}
 use Rattle.cleaning.proofs.Looked.{unread_damage, unread_ends, unread_site, unread_whole}
 use Rattle.cleaning.proofs.Reading.{read_alone, read_keeps, read_moments, reads_all}
-use Rattle.cleaning.proofs.Whole.{beside_alone, cleans_log, inside_joined, moments_joined, moments_keep, risen_since, unmade_alone, unmoved_before, unmoved_reads, unread_moments}
+use Rattle.cleaning.proofs.Whole.{beside_alone, cleans_log, inside_joined, moments_joined, moments_keep, never_unread, risen_since, unmade_alone, unmoved_before, unmoved_reads, unread_moments}
 use Rattle.cleaning.proofs.sweeping.clean.Goals as goal
 
 pub returns-in-Ok-clause-log : goal.returns-in-Ok-clause-log
@@ -114,6 +115,14 @@ pub returns-in-Err-clause-reads : goal.returns-in-Err-clause-reads
 returns-in-Err-clause-reads g c told uncut begun =
     reads_all c.args.name (g.S.Site.files c.args.site.now) (g.S.Site.files c.recover.new.site)
     (c.in-Err.ensures.unchanged told (unread_damage c.in-Err.why (subst (λ (r : CleanRefused). IsCutFor r.why → ⊥) c.unread.ensures uncut))) (c.recover.ensures.others told)
+
+pub returns-in-Ok-clause-unread : goal.returns-in-Ok-clause-unread
+returns-in-Ok-clause-unread g c =
+    never_unread g.S.Site.tells (LeavesOnly g.S.Site.moment g.S.Site.images_since c.args.site.now c.clean_read.new.site (IsBefore c.args.name (g.S.Site.files c.args.site.now c.args.name) (g.S.Site.may_leave c.args.site.now))) c.clean_read.result c.clean_read.ensures.behind
+
+pub returns-in-Err-clause-unread : goal.returns-in-Err-clause-unread
+returns-in-Err-clause-unread g c told unread =
+    read_moments g.S.Site.files g.S.Site.may_leave g.S.Site.moment g.S.Site.images_since c.args.name c.args.site.now c.recover.new.site (c.recover.ensures.any_moment told)
 
 pub returns-in-Ok-clause-before : goal.returns-in-Ok-clause-before
 returns-in-Ok-clause-before g c =

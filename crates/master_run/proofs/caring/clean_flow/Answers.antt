@@ -19,7 +19,7 @@ use Rattle.master_run.proofs.Adding.{clean_adds}
 use Rattle.master_run.proofs.Moved.{begun_still}
 use Rattle.master_run.proofs.Works.{cared_serves}
 use Rattle.cleaning.specs.Cleanings.{IsCutFor}
-use Rattle.master_run.proofs.Cared.{begins_so, clean_begins, clean_begun, clean_cleans, clean_cut, clean_damaged, clean_either, clean_faults, clean_goes, clean_late, clean_legal, clean_log, clean_of, clean_read, clean_still, clean_uncut, cut_clean, done_goes, ended_either, fails_nothing, loses_nothing}
+use Rattle.master_run.proofs.Cared.{begins_so, clean_begins, clean_begun, clean_cleans, clean_cut, clean_damaged, clean_either, clean_faults, clean_goes, clean_late, clean_legal, clean_log, clean_of, clean_read, clean_still, clean_uncut, clean_unread, cut_clean, done_goes, ended_either, fails_nothing, loses_nothing}
 use Rattle.master_run.proofs.caring.clean_flow.Goals as goal
 
 pub returns-in-Ok-clause-serves : goal.returns-in-Ok-clause-serves
@@ -37,6 +37,7 @@ returns-in-Ok-clause-serves g c =
       goes = λ t H spelled. subst (λ (w : Work). GoesOn w c.args.ask 0 H (g.S.Site.files c.args.site) (g.S.Site.files c.clean.new.site) c.in-Ok.field-0.records cause) (sym c.requires.work)
           (done_goes (clean_fault c.args.ask.plan H) (causes.Cleaned (made_count c.args.ask.plan H)) cause (c.in-Ok.ensures.ends t H spelled).0 (ap (λ n. causes.Cleaned n) (c.in-Ok.ensures.ends t H spelled).1));
       has_log = λ t H spelled. inl (begins_so H c.in-Ok.field-0.records c.args.moment (subst (AreEither H c.args.moment) (sym (c.in-Ok.ensures.records t H spelled)) (ended_either H c.args.moment (is_empty (part H)))));
+      unread = λ t H spelled none. absurd (none (begins_so H c.in-Ok.field-0.records c.args.moment (subst (AreEither H c.args.moment) (sym (c.in-Ok.ensures.records t H spelled)) (ended_either H c.args.moment (is_empty (part H))))));
       added = λ t H spelled. subst (λ (w : Work). AddsBy w c.args.ask.options H c.in-Ok.field-0.records cause) (sym c.requires.work) (c.args.moment, c.in-Ok.ensures.records t H spelled);
       legal = λ read. c.in-Ok.ensures.legal;
       logged = λ t H spelled. inl c.in-Ok.ensures.legal;
@@ -72,6 +73,7 @@ returns-in-Err-clause-serves g c =
       goes = λ t H spelled. subst (λ (w : Work). GoesOn w c.args.ask 0 H (g.S.Site.files c.args.site) (g.S.Site.files c.clean.new.site) given (clean_cause (site_rise (counts c.args.before [] 0 0 0) (counts (g.S.Site.count c.clean.new.site) [] 0 0 0)) why)) (sym c.requires.work)
           (clean_goes (site_rise (counts c.args.before [] 0 0 0) (counts (g.S.Site.count c.clean.new.site) [] 0 0 0)) c.args.ask 0 H (g.S.Site.files c.args.site) (g.S.Site.files c.clean.new.site) given why (c.in-Err.ensures.ends t H spelled));
       has_log = λ t H spelled. clean_log (site_rise (counts c.args.before [] 0 0 0) (counts (g.S.Site.count c.clean.new.site) [] 0 0 0)) c.args.ask.plan H given c.args.moment why (c.in-Err.ensures.ends t H spelled) (c.in-Err.ensures.records t H spelled);
+      unread = λ t H spelled none. c.in-Err.ensures.unread t (clean_unread c.args.ask.plan H given c.args.moment why (c.in-Err.ensures.ends t H spelled) (c.in-Err.ensures.records t H spelled) none);
       added = λ t H spelled. subst (λ (w : Work). AddsBy w c.args.ask.options H given (clean_cause (site_rise (counts c.args.before [] 0 0 0) (counts (g.S.Site.count c.clean.new.site) [] 0 0 0)) why)) (sym c.requires.work)
           (clean_adds (site_rise (counts c.args.before [] 0 0 0) (counts (g.S.Site.count c.clean.new.site) [] 0 0 0)) c.args.ask.plan H given c.args.moment why (c.in-Err.ensures.ends t H spelled) (c.in-Err.ensures.records t H spelled));
       legal = λ read. clean_read (site_rise (counts c.args.before [] 0 0 0) (counts (g.S.Site.count c.clean.new.site) [] 0 0 0)) c.args.ask.plan given why c.in-Err.ensures.legal read;

@@ -49,6 +49,7 @@ returns-in-Ok-clause-serves g c =
       goes = λ t H spelled. subst (λ (w : Work). GoesOn w c.args.ask 0 H (g.S.Site.files c.args.site) (g.S.Site.files c.look.new.site) c.in-Ok.records cause) (sym c.requires.work)
           (done_goes (history_fault c.args.ask.plan H) (causes.Printed (length (part H))) cause (c.in-Ok.ensures.ends t H spelled).1
           (ap (λ n. causes.Printed n) (ap length c.part_of.ensures ∙ ap (λ (xs : List Record). length (part xs)) (c.as_slice.ensures ∙ (c.in-Ok.ensures.ends t H spelled).0))));
+      unread = λ t H spelled none. c.in-Ok.ensures.moments t;
       has_log = λ t H spelled. inl ([], (c.in-Ok.ensures.ends t H spelled).0 ∙ sym (append_nothing H));
       added = λ t H spelled. subst (λ (w : Work). AddsBy w c.args.ask.options H c.in-Ok.records cause) (sym c.requires.work) (c.in-Ok.ensures.ends t H spelled).0;
       legal = λ read. c.in-Ok.ensures.legal;
@@ -86,6 +87,7 @@ returns-in-Err-clause-serves g c =
       read = λ t. look_read (site_rise (counts c.args.before [] 0 0 0) (counts (g.S.Site.count c.look.new.site) [] 0 0 0)) (g.S.Site.files c.args.site c.args.ask.log) given why (c.in-Err.ensures.log t);
       goes = λ t H spelled. subst (λ (w : Work). GoesOn w c.args.ask 0 H (g.S.Site.files c.args.site) (g.S.Site.files c.look.new.site) given (look_cause (site_rise (counts c.args.before [] 0 0 0) (counts (g.S.Site.count c.look.new.site) [] 0 0 0)) why)) (sym c.requires.work)
           (look_goes (site_rise (counts c.args.before [] 0 0 0) (counts (g.S.Site.count c.look.new.site) [] 0 0 0)) c.args.ask 0 H (g.S.Site.files c.args.site) (g.S.Site.files c.look.new.site) given why (c.in-Err.ensures.ends t H spelled).0);
+      unread = λ t H spelled none. c.in-Err.ensures.moments t;
       has_log = λ t H spelled. look_log (site_rise (counts c.args.before [] 0 0 0) (counts (g.S.Site.count c.look.new.site) [] 0 0 0)) c.args.ask.plan H given why (c.in-Err.ensures.ends t H spelled).0 (c.in-Err.ensures.ends t H spelled).1;
       added = λ t H spelled. subst (λ (w : Work). AddsBy w c.args.ask.options H given (look_cause (site_rise (counts c.args.before [] 0 0 0) (counts (g.S.Site.count c.look.new.site) [] 0 0 0)) why)) (sym c.requires.work)
           (look_adds (site_rise (counts c.args.before [] 0 0 0) (counts (g.S.Site.count c.look.new.site) [] 0 0 0)) c.args.ask.plan H given why (c.in-Err.ensures.ends t H spelled).0 (c.in-Err.ensures.ends t H spelled).1);
