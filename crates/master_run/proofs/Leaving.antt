@@ -1,10 +1,11 @@
 -- What a call leaves that was asked to run, whatever its objects tell.
-use Rattle.std.proofs.Common.{◌≡◌, inl, ◌∙◌, ℕ, Bool, true, false, List, [], Option, None, Result, Ok, Err, IfOk, refl, sym, true≢false, if◌then◌else◌}
+use Rattle.std.proofs.Common.{◌≡◌, inl, ◌∙◌, ℕ, Bool, true, false, List, [], Option, None, Result, Ok, Err, IfOk, OnOk, refl, sym, true≢false, if◌then◌else◌}
 use Rattle.flow_types.specs.declared.job.Failure.{Failure}
 use Rattle.flow_types.specs.declared.job.Job.{Job}
 use Rattle.flow_types.specs.declared.numbers.Content.{Content}
 use Rattle.flow_types.specs.declared.numbers.FileNo.{FileNo}
 use Rattle.flow_types.specs.declared.numbers.LinkNo.{LinkNo}
+use Rattle.flow_types.specs.declared.plan.Plan.{Plan}
 use Rattle.flow_types.specs.declared.records.Record.{Record}
 use Rattle.flow_types.specs.Plans.{is_source}
 use Rattle.flow_types.specs.Serial.{Function}
@@ -31,20 +32,20 @@ use Rattle.flow_run.proofs.Placed.{placed_none}
 use Rattle.command_words.specs.declared.options.Work.TheVariants as works
 use Rattle.report.specs.declared.cause.Cause.{Cause}
 use Rattle.report.specs.declared.cause.Cause.TheVariants as causes
-use Rattle.report.specs.Causes.{kind_of, may_lose, was_read}
+use Rattle.report.specs.Causes.{is_end, kind_of, was_read}
 use Rattle.master_run.specs.declared.ask.Ask.{Ask}
 use Rattle.master_run.specs.declared.asking.Refusal.{Refusal}
 use Rattle.master_run.specs.declared.asking.Refusal.TheVariants as refusals
 use Rattle.master_run.specs.declared.rises.Rise.{Rise}
 use Rattle.master_run.specs.Added.{RunAddsBy}
 use Rattle.master_run.specs.Ends.{ComesToEnd}
-use Rattle.master_run.specs.OnePlan.{RunLeaves, is_answer}
+use Rattle.master_run.specs.OnePlan.{RunLeaves, is_answer, may_give_up}
 use Rattle.master_run.specs.Runs.{refusal_cause, refused_cause, run_cause, unread_cause}
 use Rattle.master_run.specs.Stages.{SaysRefusal, is_refusal}
 use Rattle.master_run.proofs.Adding.{memory_adds, run_adds, sink_adds}
 use Rattle.master_run.proofs.Faults.{collects_none}
-use Rattle.master_run.proofs.Ran.{comes, loses_none, lost_run}
-use Rattle.master_run.proofs.Reprinted.{Stands, end_loses, end_read, of_each}
+use Rattle.master_run.proofs.Ran.{comes, loses_none}
+use Rattle.master_run.proofs.Reprinted.{Stands, end_read, of_each}
 
 absent : {A : Type 0} → false ≡ true → A
 absent wrong = absurd (true≢false (sym wrong))
@@ -77,6 +78,32 @@ answered s r h ask rise records (Err (stopped.Halted halts.Runner)) closed ends 
 answered s r h ask rise records (Err (stopped.Halted halts.Site)) closed ends away is = absent is
 answered s r h ask rise records (Err (stopped.Halted halts.Memory)) closed ends away is = absent is
 answered s r h ask rise records (Err stopped.Hall) closed ends away is = absent is
+
+-- ---- the losses
+
+damage_gives : (source : Bool) (file : FileNo) (logged : Content) (found : Found) → may_give_up (if source then causes.SourceChanged file logged found else causes.FileDamaged file logged found) ≡ true
+damage_gives true file logged found = refl
+damage_gives false file logged found = refl
+
+-- what holds where a run was refused and where it came to its end
+kept_run : (Q : Type 0) (s r h : Rise) (P : Plan) (how : Result Check Stopped) → (IsRefusedRun how → Q) → OnOk how Q → may_give_up (run_cause s r h P how) ≡ false → Q
+kept_run Q s r h P (Ok ended) refused lost keeps = lost
+kept_run Q s r h P (Err (stopped.Refused why)) refused lost keeps = refused tt
+kept_run Q s r h P (Err (stopped.Halted (halts.Damaged file logged found))) refused lost keeps = absurd (true≢false (sym (damage_gives (is_source P file.0) file logged found) ∙ keeps))
+kept_run Q s r h P (Err (stopped.Halted halts.Runner)) refused lost keeps = absurd (true≢false keeps)
+kept_run Q s r h P (Err (stopped.Halted halts.Site)) refused lost keeps = absurd (true≢false keeps)
+kept_run Q s r h P (Err (stopped.Halted halts.Memory)) refused lost keeps = absurd (true≢false keeps)
+kept_run Q s r h P (Err stopped.Hall) refused lost keeps = absurd (true≢false keeps)
+
+-- by the end of what was asked for none was given up
+end_keeps : (cause : Cause) → is_end (kind_of cause) ≡ true → may_give_up cause ≡ false
+end_keeps (causes.SourceChanged file logged found) is = absent is
+end_keeps (causes.FileDamaged file logged found) is = absent is
+end_keeps (causes.SiteFault old new) is = absent is
+end_keeps (causes.RunnerFault old new) is = absent is
+end_keeps (causes.HallFault old new) is = absent is
+end_keeps causes.Memory is = absent is
+end_keeps _ is = refl
 
 -- ---- where nothing was read
 
@@ -129,10 +156,10 @@ module _ {L : Type 0} (spells : List Record → Type 0) (told : Type 0) (gives :
     added = run_adds s r h ask.plan ask.options o.past records how o.same o.added;
     places = o.places;
     modes = o.modes;
-    lost = λ alone keeps. lost_run (LosesNone o.past records) s r h ask.plan how (λ refused. loses_none o.past records (o.same refused)) (o.lost alone) keeps;
-    lost_away = λ keeps. lost_run (LosesOnLinks o.past records) s r h ask.plan how (λ refused. away_none o.past records (loses_none o.past records (o.same refused))) o.lost_away keeps;
+    lost = λ alone keeps. kept_run (LosesNone o.past records) s r h ask.plan how (λ refused. loses_none o.past records (o.same refused)) (o.lost alone) keeps;
+    lost_away = λ keeps. kept_run (LosesOnLinks o.past records) s r h ask.plan how (λ refused. away_none o.past records (loses_none o.past records (o.same refused))) o.lost_away keeps;
     due_losses = λ tells keeps.
-        lost_run (AreDueLosses gives may_fail history count idles closed ask.workers.limit got got_now o.past records) s r h ask.plan how
+        kept_run (AreDueLosses gives may_fail history count idles closed ask.workers.limit got got_now o.past records) s r h ask.plan how
         (λ refused. due_none gives may_fail history count idles closed ask.workers.limit got got_now o.past records (unmet refused) (loses_none o.past records (o.same refused))) (o.due_losses tells) keeps;
     ended = λ is. answered s r h ask rise records how done ends away is;
   }
@@ -188,9 +215,9 @@ module _ {L : Type 0} (spells : List Record → Type 0) (told : Type 0) (gives :
         added = sink_adds works.Run ask.options l.past records b a cause is l.added;
         places = l.places;
         modes = l.modes;
-        lost = λ alone keeps. l.lost alone (end_loses (kind_of cause) is);
-        lost_away = λ keeps. l.lost_away (end_loses (kind_of cause) is);
-        due_losses = λ tells keeps. l.due_losses tells (end_loses (kind_of cause) is);
+        lost = λ alone keeps. l.lost alone (end_keeps cause is);
+        lost_away = λ keeps. l.lost_away (end_keeps cause is);
+        due_losses = λ tells keeps. l.due_losses tells (end_keeps cause is);
         ended = λ wrong. absent wrong;
       })
       (record {

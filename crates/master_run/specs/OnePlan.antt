@@ -21,9 +21,10 @@ use Rattle.wq_run.specs.Losses.{AreDueLosses}
 use Rattle.wq_run.specs.Vain.{AreVain}
 use Rattle.flow_run.specs.Places.{PlacedBy}
 use Rattle.report.specs.declared.cause.Cause.{Cause}
+use Rattle.report.specs.declared.cause.Cause.TheVariants as causes
 use Rattle.report.specs.declared.cause.Kind.{Kind}
 use Rattle.report.specs.declared.cause.Kind.TheVariants.{Completed, RuleFailed, PastLimit, WaitedOut}
-use Rattle.report.specs.Causes.{kind_of, may_lose, was_read}
+use Rattle.report.specs.Causes.{kind_of, was_read}
 use Rattle.master_run.specs.declared.ask.Ask.{Ask}
 use Rattle.master_run.specs.Added.{RunAddsBy}
 use Rattle.master_run.specs.Asked.{ask_of, run_mode, run_options}
@@ -38,6 +39,16 @@ is_answer PastLimit = true
 is_answer WaitedOut = true
 is_answer _ = false
 
+-- by such a cause attempts may have been given up
+abbrev pub may_give_up : Cause → Bool
+may_give_up (causes.SourceChanged file logged found) = true
+may_give_up (causes.FileDamaged file logged found) = true
+may_give_up (causes.SiteFault before after) = true
+may_give_up (causes.RunnerFault before after) = true
+may_give_up (causes.HallFault before after) = true
+may_give_up causes.Memory = true
+may_give_up _ = false
+
 -- The log of what was asked spells these records.
 abbrev pub AreLogged : Result Ask Cause → Files → List Record → Type 0
 AreLogged asked files past = (ask : Ask) → asked ≡ Ok ask → Spells past (files ask.log)
@@ -50,9 +61,9 @@ pub record RunLeaves {L : Type 0} (spells : List Record → Type 0) (told : Type
   pub added : RunAddsBy ask.options past records cause
   pub places : PlacedBy ask.plan ask.options past records
   pub modes : CollectsBy ask.plan ask.options.mode past records
-  pub lost : ask.options.wq ≡ false → IsFalse (may_lose (kind_of cause)) → LosesNone past records
-  pub lost_away : IsFalse (may_lose (kind_of cause)) → LosesOnLinks past records
-  pub due_losses : told → IsFalse (may_lose (kind_of cause)) → AreDueLosses gives may_fail history count idles closed ask.workers.limit got got_now past records
+  pub lost : ask.options.wq ≡ false → IsFalse (may_give_up cause) → LosesNone past records
+  pub lost_away : IsFalse (may_give_up cause) → LosesOnLinks past records
+  pub due_losses : told → IsFalse (may_give_up cause) → AreDueLosses gives may_fail history count idles closed ask.workers.limit got got_now past records
   pub ended : IsTrue (is_answer (kind_of cause)) → ComesToEnd ask.options.wq ask rise records cause
 
 -- What a call says by the words and one plan, which is the one that was read: its records may stand in a log of it and keep the limit, and a run leaves what it may, opens and collects by the words, and waits only in vain.
