@@ -114,25 +114,25 @@ pub fn link_target<R: Files + AllocGlobal>(rt: &R, path: &str) -> io::Result<Opt
     }
 }
 
+/// The folder in which the program was started.
+pub const CURRENT: &str = ".";
+
 /// The folder of a path, and the name in it.
 pub fn folder_of(path: &str) -> (&str, &str) {
     match path.rsplit_once('/') {
         Some(("", name)) => ("/", name),
         Some(parts) => parts,
-        None => (".", path),
+        None => (CURRENT, path),
     }
 }
 
-/// Syncs a folder, and tells whether it is there.
-pub fn sync_folder<R: Files + AllocGlobal>(rt: &R, folder: &str) -> io::Result<bool> {
+/// A folder, None where it isn't there.
+pub fn open_folder<R: Files + AllocGlobal>(rt: &R, folder: &str) -> io::Result<Option<R::File>> {
     // By such a name nothing but a folder is opened.
     let itself = format!(in rt.alloc(); "{folder}/.")?;
     match fs::open(rt, itself.as_str()) {
-        Ok(file) => {
-            file.sync_all()?;
-            Ok(true)
-        }
-        Err(e) if is_absent(e.kind()) => Ok(false),
+        Ok(there) => Ok(Some(there)),
+        Err(e) if is_absent(e.kind()) => Ok(None),
         Err(e) => Err(e),
     }
 }

@@ -24,6 +24,8 @@ struct Held {
     target: Option<String>,
     // The bytes by which it is begun, until they are in it.
     draft: Option<Draft>,
+    // As far as this its bytes were written while it had its name.
+    known_end: u64,
 }
 
 // How this program stands to the lock.
@@ -196,13 +198,29 @@ impl FlowLock {
         Err(io::Error::from(ErrorKind::NotFound))
     }
 
-    /// Writes at an offset of the file: an error where it lost its name.
-    pub fn write<R: Files>(&self, rt: &R, at: u64, bytes: &[u8]) -> io::Result<()> {
-        self.in_place(rt)?.write_all_at(bytes, at)
+    /// Writes at an offset of the file: an error where it lost its name. What makes it no longer than
+    /// the last such write did, as a byte before an entry, belongs to that one, and isn't looked at.
+    pub fn write<R: Files>(&mut self, rt: &R, at: u64, bytes: &[u8]) -> io::Result<()> {
+        let end = at.saturating_add(bytes.len() as u64);
+        if let Standing::Held(held) = &self.standing
+            && end <= held.known_end
+        {
+            return held.file.write_all_at(bytes, at);
+        }
+        self.in_place(rt)?.write_all_at(bytes, at)?;
+        self.set_known_end(end);
+        Ok(())
+    }
+
+    fn set_known_end(&mut self, end: u64) {
+        if let Standing::Held(held) = &mut self.standing {
+            held.known_end = end;
+        }
     }
 
     /// Sets the length of the file: an error where it lost its name.
-    pub fn cut<R: Files>(&self, rt: &R, len: u64) -> io::Result<()> {
+    pub fn cut<R: Files>(&mut self, rt: &R, len: u64) -> io::Result<()> {
+        self.set_known_end(0);
         let file = self.in_place(rt)?;
         if file.metadata()?.len() == len {
             return Ok(());
@@ -211,7 +229,7 @@ impl FlowLock {
     }
 
     /// Syncs the file that is held, and the folders that lead to it.
-    pub fn sync<R: Files + AllocGlobal>(
+    pub fn sync<R: Files<File = File> + AllocGlobal>(
         &self,
         rt: &R,
         synced: &mut SyncedFolders,
@@ -325,5 +343,6 @@ fn kept<R: Files + AllocGlobal>(
         id,
         target,
         draft,
+        known_end: 0,
     })
 }

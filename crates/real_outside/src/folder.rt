@@ -3,6 +3,7 @@ ghost use Rattle.std.specs.Prelude.{◌≤◌, length, IfOk};
 
 use crate::file_id::FileId;
 use crate::files;
+use crate::files::CURRENT;
 use crate::flow_lock::FlowLock;
 use crate::known_names::KnownNames;
 use crate::leftovers::clear_parts;
@@ -25,6 +26,8 @@ pub struct Folder<'a, R: Files<File = File> + AllocGlobal> {
     synced: SyncedFolders,
     // Which files have the names that were asked for.
     known: KnownNames,
+    // The name of which the last call saw that a regular file stands there.
+    just_seen: String,
     // The folders in which what dead programs left was looked for.
     cleared: BTreeSet<String>,
 }
@@ -38,6 +41,7 @@ impl<'a, R: Files<File = File> + AllocGlobal> Drop for Folder<'a, R> {
             mut parts,
             synced: _,
             known: _,
+            just_seen: _,
             cleared: _,
         } = self;
         parts.move_all(rt);
@@ -55,32 +59,41 @@ impl<'a, R: Files<File = File> + AllocGlobal> Folder<'a, R> {
             parts: Parts::new(rt.alloc()),
             synced: SyncedFolders::new(rt.alloc()),
             known: KnownNames::new(rt.alloc()),
+            just_seen: String::new(rt.alloc()),
             cleared: BTreeSet::new(rt.alloc()),
         }
     }
 
     /// The length of the file, None where nothing has the name.
     pub fn size(&mut self, path: &str) -> io::Result<Option<u64>> {
+        self.just_seen.clear();
         if let Some(first) = self.lock.look_at(path) {
             return Ok(first.size());
         }
-        match self.look(path)? {
-            Some(data) => Ok(Some(data.len())),
-            None => Ok(None),
-        }
+        let Some(data) = self.look(path)? else {
+            return Ok(None);
+        };
+        self.just_seen.push_str(path)?;
+        Ok(Some(data.len()))
     }
 
-    /// Fills from the bytes that begin at `at`. An absent file has no bytes.
+    /// Fills from the bytes that begin at `at`. An absent file has no bytes. Right behind a look at
+    /// the same name there is no second one.
     pub fn read(&mut self, path: &str, at: u64, into: &mut [u8]) -> io::Result<usize>
         ensures { IfOk result (λ count. count ≤ length into.new) }
     {
         if let Some(first) = self.lock.look_at(path) {
             return first.read(self.rt, path, at, into);
         }
-        if self.look(path)?.is_none() {
+        let was_seen = self.just_seen.as_str() == path;
+        self.just_seen.clear();
+        if !was_seen && self.look(path)?.is_none() {
             return Ok(0);
         }
-        files::read_seen(self.rt, self.parts.place_of(path), at, into)
+        match files::read_seen(self.rt, self.parts.place_of(path), at, into) {
+            Err(e) if files::is_absent(e.kind()) => Ok(0),
+            read => read,
+        }
     }
 
     // What stands under the name.
@@ -110,6 +123,7 @@ impl<'a, R: Files<File = File> + AllocGlobal> Folder<'a, R> {
     /// when it is synced. The log is written in place, as long as it has its name; one that is begun
     /// is made at the next change.
     pub fn write(&mut self, path: &str, at: u64, bytes: &[u8]) -> io::Result<()> {
+        self.just_seen.clear();
         if at == 0 && self.lock.keep_beginning(self.rt.alloc(), path, bytes)? {
             return Ok(());
         }
@@ -176,7 +190,7 @@ impl<'a, R: Files<File = File> + AllocGlobal> Folder<'a, R> {
             self.log_alone(log)?;
             self.lock.put_beginning()?;
         }
-        self.clear(".")
+        self.clear(CURRENT)
     }
 
     // No other name that was seen may be the log: it is written in place.
@@ -206,6 +220,7 @@ impl<'a, R: Files<File = File> + AllocGlobal> Folder<'a, R> {
 
     /// Sets the length of a file that is there.
     pub fn cut(&mut self, path: &str, len: u64) -> io::Result<()> {
+        self.just_seen.clear();
         if len == 0 && self.lock.keep_emptied(self.rt.alloc(), path) {
             return Ok(());
         }
@@ -226,6 +241,7 @@ impl<'a, R: Files<File = File> + AllocGlobal> Folder<'a, R> {
     /// Makes what stands under the name outlive a crash, and puts it in place where it was begun.
     /// Of the folders on the way it syncs those alone in which a name changed since their last sync.
     pub fn sync(&mut self, path: &str) -> io::Result<()> {
+        self.just_seen.clear();
         if self.lock.is_held_on(path) {
             return self.lock.sync(self.rt, &mut self.synced);
         }
@@ -259,6 +275,7 @@ impl<'a, R: Files<File = File> + AllocGlobal> Folder<'a, R> {
 
     /// Removes the file. The name may be absent.
     pub fn remove(&mut self, path: &str) -> io::Result<()> {
+        self.just_seen.clear();
         self.begin_change()?;
         self.parts.forget(self.rt, path);
         self.known.forget(path);

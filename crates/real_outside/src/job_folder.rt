@@ -4,31 +4,23 @@ use crate::folder_site::path_of;
 use crate::holding::{hold, take_left};
 use crate::leftovers::maker_of_folder;
 use crate::owner::{Owner, user_of};
-use crate::programs::{program, run_program};
+use crate::programs::{Streams, program, run_program};
+use crate::workplace::{Workplace, temporary};
 use flow_types::{Given, Job, Name};
 use std::alloc::Global;
-use std::fs::{DirBuilder, DirEntry, File, OpenFile, Permissions};
+use std::fs::{DirBuilder, DirEntry, File};
 use std::io::{ErrorKind, Write};
-use std::os::unix::fs::{DirBuilderExt, MetadataExt, PermissionsExt};
+use std::os::unix::fs::{DirBuilderExt, MetadataExt, OpenOptionsExt};
 use std::process::Processes;
 use std::rt::{Env, Files};
 use std::sync::Wait;
-use std::{env, fs, io};
+use std::{fs, io};
 
 const OWNER_ALONE: u32 = 0o700;
 
 const RUNNABLE: u32 = 0o755;
 
 const MOST_TRIES: u32 = 1_000_000;
-
-// The system's temporary folder.
-fn temporary<R: Env + AllocGlobal>(rt: &R) -> io::Result<String> {
-    let base = env::temp_dir(rt)?.into_string();
-    if base.is_empty() {
-        return Ok(String::from_str(rt.alloc(), "/tmp")?);
-    }
-    Ok(base)
-}
 
 /// A new folder, held: as long as it is, no program takes it for left behind.
 #[derive(Drop)]
@@ -46,19 +38,32 @@ impl JobFolder {
 
 /// Makes a new folder under the system's temporary folder, for its owner alone. One that is there
 /// already is never taken, so no two jobs share a folder.
-pub fn new_folder<R: Files<File = File> + AllocGlobal + Env>(
+pub fn new_folder<R: Files<File = File> + AllocGlobal>(
     rt: &R,
     owner: &Owner,
+    place: &mut Workplace,
 ) -> io::Result<JobFolder> {
-    let base = temporary(rt)?;
-    let (host, process) = (owner.host(), owner.process());
-    for number in 0..MOST_TRIES {
-        let path = format!(in rt.alloc(); "{base}/makeflow-{host}-{process}-{number}")?;
-        if let Some(held) = made_at(rt, path.as_str())? {
-            return Ok(JobFolder { path, held });
+    let first = place.number();
+    for more in 0..MOST_TRIES {
+        let number = first.wrapping_add(more);
+        if let Some(made) = new_numbered(rt, owner, place.base(), number)? {
+            place.took(number);
+            return Ok(made);
         }
     }
     Err(io::Error::from(ErrorKind::AlreadyExists))
+}
+
+fn new_numbered<R: Files<File = File> + AllocGlobal>(
+    rt: &R,
+    owner: &Owner,
+    base: &str,
+    number: u32,
+) -> io::Result<Option<JobFolder>> {
+    let (host, process) = (owner.host(), owner.process());
+    let path = format!(in rt.alloc(); "{base}/makeflow-{host}-{process}-{number}")?;
+    let held = made_at(rt, path.as_str())?;
+    Ok(held.map(|held| JobFolder { path, held }))
 }
 
 // A new folder of this path. None where another one is there, or where a program took it for left
@@ -130,15 +135,16 @@ pub fn place_of(alloc: Global, folder: &str, remote: &Name) -> io::Result<String
 }
 
 /// Puts the inputs there, and makes the folders that the outputs need.
-pub fn fill_folder<R: Files + Wait>(
+pub fn fill_folder<R: Files<File = File> + Wait>(
     rt: &R,
     alloc: Global,
     owner: &Owner,
+    place: &mut Workplace,
     folder: &str,
     job: &Job,
 ) -> io::Result<()> {
     for given in job.inputs.as_slice() {
-        put_input(rt, alloc, owner, folder, given)?;
+        put_input(rt, alloc, owner, place, folder, given)?;
     }
     for want in job.outputs.as_slice() {
         room_for(rt, alloc, folder, &want.remote)?;
@@ -156,18 +162,75 @@ fn room_for<R: Files>(rt: &R, alloc: Global, folder: &str, remote: &Name) -> io:
 }
 
 // Each input may be run, since commands say `./program`.
-fn put_input<R: Files + Wait>(
+fn put_input<R: Files<File = File> + Wait>(
     rt: &R,
     alloc: Global,
     owner: &Owner,
+    place: &mut Workplace,
     folder: &str,
     given: &Given,
 ) -> io::Result<()> {
     let path = room_for(rt, alloc, folder, &given.remote)?;
     let _turn = owner.writes(rt);
-    let mut file = fs::create(rt, path.as_str())?;
+    let mut how = File::options();
+    how.write(true).create(true).truncate(true).mode(RUNNABLE);
+    let mut file = how.open(rt, path.as_str())?;
     file.write_all(given.content.as_slice())?;
-    file.set_permissions(Permissions::from_mode(RUNNABLE))
+    place.set_mode(&file, RUNNABLE)
+}
+
+/// Removes a job's folder with all that the command left there. Where that is no more than what the
+/// job names, no folder has to be read.
+pub fn remove_job<R: Files + AllocGlobal + Processes + Wait>(
+    rt: &R,
+    owner: &Owner,
+    folder: &str,
+    job: &Job,
+) -> io::Result<()> {
+    if is_flat(job) && is_folder(rt, folder) {
+        for given in job.inputs.as_slice() {
+            remove_in(rt, folder, &given.remote);
+        }
+        for want in job.outputs.as_slice() {
+            remove_in(rt, folder, &want.remote);
+        }
+        if fs::remove_dir(rt, folder).is_ok() {
+            return Ok(());
+        }
+    }
+    remove_folder(rt, owner, folder)
+}
+
+// No name leads into a folder below the job's, where a command could have put a link to elsewhere.
+fn is_flat(job: &Job) -> bool {
+    job.inputs
+        .as_slice()
+        .iter()
+        .all(|given| is_plain(&given.remote))
+        && job
+            .outputs
+            .as_slice()
+            .iter()
+            .all(|want| is_plain(&want.remote))
+}
+
+fn is_plain(name: &Name) -> bool {
+    !name.as_bytes().contains(&b'/')
+}
+
+// A folder itself, and no link in its place.
+fn is_folder<R: Files>(rt: &R, path: &str) -> bool {
+    match fs::symlink_metadata(rt, path) {
+        Ok(data) => data.is_dir(),
+        Err(_) => false,
+    }
+}
+
+// What can't be removed so shows at the removal of the folder.
+fn remove_in<R: Files + AllocGlobal>(rt: &R, folder: &str, remote: &Name) {
+    if let Ok(path) = place_of(rt.alloc(), folder, remote) {
+        let _ = fs::remove_file(rt, path.as_str());
+    }
 }
 
 /// Removes the folder with all that the command left there.
@@ -198,6 +261,6 @@ fn open_to_owner<R: AllocGlobal + Processes + Wait>(
 ) -> io::Result<()> {
     let chmod = program(rt.alloc(), "chmod", &["-R", "u+rwx", folder])?;
     // Whether it did what it could shows at the removal.
-    let _ = run_program(rt, owner, chmod);
+    let _ = run_program(rt, owner, &chmod, &Streams::of_nothing());
     Ok(())
 }

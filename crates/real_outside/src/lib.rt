@@ -27,6 +27,7 @@ mod stdout_sink;
 mod synced_folders;
 mod system_clock;
 mod watch;
+mod workplace;
 
 pub use commands::System;
 pub use folder_site::FolderSite;

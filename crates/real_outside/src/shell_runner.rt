@@ -4,11 +4,12 @@ ghost use Rattle.outside.specs.Jobs.{IsShaped};
 
 use crate::counts::{counted_or_memory, failure_counted};
 use crate::files::folder_of;
-use crate::job_folder::{clear_folders, fill_folder, new_folder, remove_folder};
+use crate::job_folder::{clear_folders, fill_folder, new_folder, remove_folder, remove_job};
 use crate::outputs::take_outputs;
 use crate::owner::{Owner, number_of};
 use crate::programs::{SHELL, program, run_printing, run_program};
 use crate::script::{is_long, needs_script, read_script, write_script};
+use crate::workplace::Workplace;
 use flow_types::{Failure, Job, Outcome};
 use outside::{Commands, Fault, Runner};
 use std::alloc::Global;
@@ -34,7 +35,8 @@ const SIGNALLED: i32 = 128;
 pub struct ShellRunner<'a, R> {
     rt: &'a R,
     owner: &'a Owner,
-    is_clear: bool,
+    // From its first job on.
+    place: Option<Workplace>,
     faults: u64,
     failures: u64,
 }
@@ -45,7 +47,7 @@ impl<'a, R> ShellRunner<'a, R> {
         ShellRunner {
             rt,
             owner,
-            is_clear: false,
+            place: None,
             faults: 0,
             failures: 0,
         }
@@ -65,6 +67,7 @@ fn run_told<R: Processes + Wait>(
     rt: &R,
     alloc: Global,
     owner: &Owner,
+    place: &Workplace,
     folder: &str,
     job: &Job,
     told: &str,
@@ -83,9 +86,10 @@ fn run_told<R: Processes + Wait>(
     shell.env("PWD", folder)?;
     shell.current_dir(folder)?;
     if owner.is_told() {
-        Ok(status_of(run_program(rt, owner, shell)?))
+        let status = run_program(rt, owner, &shell, place.streams())?;
+        Ok(status_of(status))
     } else {
-        status_said(run_printing(rt, alloc, owner, shell)?.as_slice())
+        status_said(run_printing(rt, alloc, owner, &shell)?.as_slice())
     }
 }
 
@@ -105,6 +109,7 @@ fn run_read<R: Files + Processes + Wait>(
     rt: &R,
     alloc: Global,
     owner: &Owner,
+    place: &Workplace,
     beside: &str,
     folder: &str,
     job: &Job,
@@ -112,54 +117,78 @@ fn run_read<R: Files + Processes + Wait>(
     write_script(rt, alloc, beside, job)?;
     let (_, name) = folder_of(beside);
     let told = read_script(alloc, name)?;
-    run_told(rt, alloc, owner, folder, job, told.as_str())
+    run_told(rt, alloc, owner, place, folder, job, told.as_str())
 }
 
 // The command's status.
-fn run_shell<R: Files<File = File> + Env + Processes<Started = SystemProcess> + AllocGlobal + Wait>(
+fn run_shell<R: Files<File = File> + Processes<Started = SystemProcess> + AllocGlobal + Wait>(
     rt: &R,
     owner: &Owner,
+    place: &mut Workplace,
     folder: &str,
     job: &Job,
 ) -> io::Result<i32> {
     owner.be_watched(rt);
     if !needs_script(job) {
-        return run_told(rt, rt.alloc(), owner, folder, job, job.command.as_str());
+        let command = job.command.as_str();
+        return run_told(rt, rt.alloc(), owner, place, folder, job, command);
     }
-    let beside = new_folder(rt, owner)?;
-    let status = run_read(rt, rt.alloc(), owner, beside.path(), folder, job);
+    let beside = new_folder(rt, owner, place)?;
+    let status = run_read(rt, rt.alloc(), owner, place, beside.path(), folder, job);
     remove_folder(rt, owner, beside.path())?;
     status
 }
 
-fn run_in<R: Files<File = File> + Env + Processes<Started = SystemProcess> + AllocGlobal + Wait>(
+fn run_in<R: Files<File = File> + Processes<Started = SystemProcess> + AllocGlobal + Wait>(
     rt: &R,
     alloc: Global,
     owner: &Owner,
+    place: &mut Workplace,
     folder: &str,
     job: &Job,
 ) -> io::Result<Outcome>
     ensures { IfOk result (IsShaped job.now) }
 {
-    fill_folder(rt, alloc, owner, folder, job)?;
-    let status = run_shell(rt, owner, folder, job)?;
+    fill_folder(rt, alloc, owner, place, folder, job)?;
+    let status = run_shell(rt, owner, place, folder, job)?;
     if status != 0 {
         return Ok(Outcome::Failed(Failure::Status(status)));
     }
     take_outputs(rt, alloc, folder, job)
 }
 
-fn run_job<R: Files<File = File> + Env + Processes<Started = SystemProcess> + AllocGlobal + Wait>(
+fn run_job<R: Files<File = File> + Processes<Started = SystemProcess> + AllocGlobal + Wait>(
     rt: &R,
     alloc: Global,
     owner: &Owner,
+    place: &mut Workplace,
     job: &Job,
 ) -> io::Result<Outcome>
     ensures { IfOk result (IsShaped job.now) }
 {
-    let folder = new_folder(rt, owner)?;
-    let outcome = run_in(rt, alloc, owner, folder.path(), job);
-    remove_folder(rt, owner, folder.path())?;
+    let folder = new_folder(rt, owner, place)?;
+    let outcome = run_in(rt, alloc, owner, place, folder.path(), job);
+    remove_job(rt, owner, folder.path(), job)?;
+    outcome
+}
+
+// As `run_job`. Before the first job there is no place yet.
+fn run_at<R: Files<File = File> + Env + Processes<Started = SystemProcess> + AllocGlobal + Wait>(
+    rt: &R,
+    alloc: Global,
+    owner: &Owner,
+    place: &mut Option<Workplace>,
+    job: &Job,
+) -> io::Result<Outcome>
+    ensures { IfOk result (IsShaped job.now) }
+{
+    if let Some(place) = place {
+        return run_job(rt, alloc, owner, place, job);
+    }
+    clear_folders(rt, owner);
+    let mut first = Workplace::of(rt)?;
+    let outcome = run_job(rt, alloc, owner, &mut first, job);
+    *place = Some(first);
     outcome
 }
 
@@ -177,11 +206,7 @@ impl<
     ghost failures = { λ s. s.failures };
 
     fn run(&mut self, alloc: Global, job: &Job) -> Result<Outcome, Fault> {
-        if !self.is_clear {
-            clear_folders(self.rt, self.owner);
-            self.is_clear = true;
-        }
-        let answer = run_job(self.rt, alloc, self.owner, job);
+        let answer = run_at(self.rt, alloc, self.owner, &mut self.place, job);
         let outcome = counted_or_memory(&mut self.faults, answer)?;
         failure_counted(&mut self.failures, outcome)
     }

@@ -1,5 +1,5 @@
 //! Which folders stand on the disk as they are.
-use crate::files::{file_len, folder_of, link_target, sync_folder};
+use crate::files::{CURRENT, file_len, folder_of, link_target, open_folder};
 use std::alloc::Global;
 use std::collections::BTreeSet;
 use std::fs::{File, OpenFile};
@@ -10,6 +10,8 @@ use std::{fs, io};
 #[derive(Drop)]
 pub struct SyncedFolders {
     folders: BTreeSet<String>,
+    // The current folder, once it was opened: it stays the same as long as the program runs.
+    current: Option<File>,
 }
 
 impl SyncedFolders {
@@ -17,6 +19,7 @@ impl SyncedFolders {
     pub fn new(alloc: Global) -> Self {
         SyncedFolders {
             folders: BTreeSet::new(alloc),
+            current: None,
         }
     }
 
@@ -64,7 +67,11 @@ impl SyncedFolders {
 
     /// Syncs each folder on the way to a name, and that of the file to which it is a link, unless
     /// they are synced: a new or a removed name is durable only once the folder that holds it is.
-    pub fn sync<R: Files + AllocGlobal>(&mut self, rt: &R, path: &str) -> io::Result<()> {
+    pub fn sync<R: Files<File = File> + AllocGlobal>(
+        &mut self,
+        rt: &R,
+        path: &str,
+    ) -> io::Result<()> {
         self.sync_way(rt, path)?;
         match link_target(rt, path)? {
             Some(target) => self.sync_folder_of(rt, target.as_str()),
@@ -73,7 +80,7 @@ impl SyncedFolders {
     }
 
     /// As [`SyncedFolders::sync`], where this is known to be the file of the name.
-    pub fn sync_to<R: Files + AllocGlobal>(
+    pub fn sync_to<R: Files<File = File> + AllocGlobal>(
         &mut self,
         rt: &R,
         path: &str,
@@ -87,7 +94,11 @@ impl SyncedFolders {
     }
 
     /// Syncs each folder on the way to a name, unless they are synced.
-    pub fn sync_way<R: Files + AllocGlobal>(&mut self, rt: &R, path: &str) -> io::Result<()> {
+    pub fn sync_way<R: Files<File = File> + AllocGlobal>(
+        &mut self,
+        rt: &R,
+        path: &str,
+    ) -> io::Result<()> {
         for end in 1..path.len() {
             if let Some((folder, rest)) = path.split_at_checked(end)
                 && rest.starts_with('/')
@@ -95,24 +106,53 @@ impl SyncedFolders {
                 self.sync_one(rt, folder)?;
             }
         }
-        self.sync_one(rt, ".")
+        self.sync_one(rt, CURRENT)
     }
 
     /// Syncs the folder that holds a name, unless it is synced.
-    pub fn sync_folder_of<R: Files + AllocGlobal>(&mut self, rt: &R, path: &str) -> io::Result<()> {
+    pub fn sync_folder_of<R: Files<File = File> + AllocGlobal>(
+        &mut self,
+        rt: &R,
+        path: &str,
+    ) -> io::Result<()> {
         let (folder, _) = folder_of(path);
         self.sync_one(rt, folder)
     }
 
     // A folder that isn't there, or whose sync fails, isn't taken for synced.
-    fn sync_one<R: Files + AllocGlobal>(&mut self, rt: &R, folder: &str) -> io::Result<()> {
+    fn sync_one<R: Files<File = File> + AllocGlobal>(
+        &mut self,
+        rt: &R,
+        folder: &str,
+    ) -> io::Result<()> {
         if !self.folders.contains(folder) {
             let named = String::from_str(rt.alloc(), folder)?;
-            if sync_folder(rt, folder)? {
+            if self.sync_there(rt, folder)? {
                 self.folders.insert(named)?;
             }
         }
         Ok(())
+    }
+
+    // Syncs a folder, and tells whether it is there.
+    fn sync_there<R: Files<File = File> + AllocGlobal>(
+        &mut self,
+        rt: &R,
+        folder: &str,
+    ) -> io::Result<bool> {
+        if folder != CURRENT {
+            return match open_folder(rt, folder)? {
+                Some(there) => there.sync_all().map(|_| true),
+                None => Ok(false),
+            };
+        }
+        if self.current.is_none() {
+            self.current = open_folder(rt, folder)?;
+        }
+        match &self.current {
+            Some(there) => there.sync_all().map(|_| true),
+            None => Ok(false),
+        }
     }
 }
 

@@ -1,8 +1,8 @@
 //! A shell that ends the commands of a program that is gone.
 use crate::owner::Owner;
-use crate::programs::{SHELL, program, start};
+use crate::programs::{SHELL, Streams, program, start};
 use std::io;
-use std::process::{Child, Processes, Stdio, SystemProcess};
+use std::process::{Child, Processes, SystemProcess};
 use std::sync::Wait;
 
 // It reads until this program is gone. Then each process of this program's group that was begun in a
@@ -60,9 +60,8 @@ impl Watch {
         let (host, process) = (owner.host(), owner.process());
         let jobs = format!(in rt.alloc(); "/makeflow-{host}-{process}-")?;
         let mut shell = program(rt.alloc(), SHELL, &["-c", SCRIPT, SHELL, jobs.as_str()])?;
-        shell.stdin(Stdio::piped());
         shell.current_dir("/")?;
-        let child = start(rt, owner, shell)?;
+        let child = start(rt, owner, &shell, &Streams::fed())?;
         Ok(Watch { child })
     }
 }
