@@ -1,10 +1,9 @@
 -- A call that ended by want of memory before anything was done does all that a call does.
-use Rattle.std.proofs.Common.{rules, ◌≡◌, ◌≤◌, ◌-◌, ◌∷◌, ◌++◌, ℕ, Bool, List, [], Option, Some, None, Result, Ok, Err, All, IsTrue, IsFalse, inl, inr, map, subst, sym, refl, arith, true, false, true≢false, length}
+use Rattle.std.proofs.Common.{rules, ◌≡◌, ◌-◌, ◌∷◌, ◌++◌, ℕ, Bool, List, [], Option, Some, None, Result, Ok, Err, All, inl, inr, subst, sym, refl, arith, true≢false}
 use Rattle.std.proofs.Common.{String, Global}
 use Rattle.std.proofs.lemmas.List.Elements.{All-nil}
 use Rattle.flow_types.specs.declared.job.Failure.{Failure}
 use Rattle.flow_types.specs.declared.job.Job.{Job}
-use Rattle.flow_types.specs.declared.numbers.FileNo.{FileNo}
 use Rattle.flow_types.specs.declared.plan.Plan.{Plan}
 use Rattle.flow_types.specs.declared.records.Record.{Record}
 use Rattle.flow_types.specs.declared.records.Record.TheVariants as records

@@ -1,5 +1,5 @@
 -- What a call of `makeflow` does, over whatever runners, as one fact: each field is a clause of `makeflow_top`.
-use Rattle.std.specs.Prelude.{◌≡◌, ◌≤◌, ◌-◌, ℕ, Bool, List, Option, Result, Ok, IsTrue, IsFalse, drop, false, map, sum_by, true}
+use Rattle.std.specs.Prelude.{◌≡◌, ◌≤◌, ◌-◌, ℕ, Bool, List, Option, Ok, IsTrue, IsFalse, drop, false, map, sum_by, true}
 use Rattle.command_words.specs.declared.options.Options.{Options}
 use Rattle.command_words.specs.declared.options.Work.TheVariants.{Run}
 use Rattle.desk.specs.Kept.{Keeps, ReadsStay, StaysBeside}

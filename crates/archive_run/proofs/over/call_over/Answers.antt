@@ -1,4 +1,4 @@
-use Rattle.std.proofs.Common.{rules, ◌≡◌, ◌∙◌, ◌++◌, All, List, length, take, drop, sym, ap, subst, arith}
+use Rattle.std.proofs.Common.{rules, ◌≡◌, ◌∙◌, ◌++◌, length, take, drop, sym, ap}
 use Rattle.std.proofs.lemmas.List.{take_at}
 use Rattle.archive_run.proofs.Crews.{crew_all, crew_one}
 use Rattle.archive_run.proofs.Moved.{moved, retold}
