@@ -1,0 +1,4 @@
+pub mod Filling
+pub mod Needing
+pub mod Stepping
+pub mod Coming
