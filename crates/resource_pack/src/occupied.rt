@@ -1,5 +1,5 @@
 //! What the tasks on a link take of it together.
-ghost use Rattle.std.specs.Prelude.{◌≡◌, ◌<◌};
+ghost use Rattle.std.specs.Prelude.{◌≡◌, ◌<◌, ◌-◌, ◌==◌};
 ghost use Rattle.run_history.specs.Links.{amounts_on, is_at_most, with_amounts};
 ghost use Rattle.resource_pack.specs.Occupancy.{has_room_beside, leaves_amounts_beside, leaves_bytes_beside, no_tasks, stated_row, with_task};
 
@@ -70,6 +70,26 @@ impl Occupied {
         self.bytes += u128::from(bytes);
     }
 
+    /// Whether no task runs.
+    pub fn is_empty(&self) -> bool
+        ensures { result ≡ (self.now.tasks == 0) }
+    {
+        self.tasks == 0
+    }
+
+    /// What these tasks leave of a total, none of an amount of which they take more.
+    pub fn left(&self, total: Amounts) -> Amounts
+        ensures cores { result.cores ≡ total.cores - self.now.amounts.cores }
+        ensures memory { result.memory ≡ total.memory - self.now.amounts.memory }
+        ensures disk { result.disk ≡ total.disk - self.now.amounts.disk }
+    {
+        Amounts {
+            cores: left_of(total.cores, self.cores),
+            memory: left_of(total.memory, self.memory),
+            disk: left_of(total.disk, self.disk),
+        }
+    }
+
     /// Whether one more task fits the link beside these.
     pub fn has_room(&self, link: LinkNo, stated: Stated, needs: Needs, bytes: u64) -> bool
         ensures { result ≡ has_room_beside link.0 (stated_row stated) self.now (record { needs = needs; bytes = bytes }) }
@@ -118,6 +138,16 @@ fn amounts_for(link: LinkNo, total: Amounts, needs: Needs) -> Amounts
             disk: 0,
         },
         Needs::Whole => total,
+    }
+}
+
+fn left_of(total: u32, taken: u64) -> u32
+    ensures { result ≡ total - taken }
+{
+    if taken < u64::from(total) {
+        total - taken as u32
+    } else {
+        0
     }
 }
 
