@@ -90,6 +90,17 @@ impl Occupied {
         }
     }
 
+    /// What these tasks leave of a cache in bytes, none where they take more.
+    pub fn left_bytes(&self, cache: u64) -> u64
+        ensures { result ≡ cache - self.now.bytes }
+    {
+        if self.bytes < u128::from(cache) {
+            cache - self.bytes as u64
+        } else {
+            0
+        }
+    }
+
     /// Whether one more task fits the link beside these.
     pub fn has_room(&self, link: LinkNo, stated: Stated, needs: Needs, bytes: u64) -> bool
         ensures { result ≡ has_room_beside link.0 (stated_row stated) self.now (record { needs = needs; bytes = bytes }) }

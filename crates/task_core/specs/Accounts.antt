@@ -9,7 +9,8 @@ use Rattle.run_history.specs.Storage.{size_in}
 use Rattle.gc_refcount.specs.Counting.{Counting, is_made, is_present}
 use Rattle.storage_limit.specs.Holdings.{Holdings}
 use Rattle.task_core.specs.declared.rows.RuleRow.{RuleRow}
-use Rattle.task_core.specs.Known.{Known, reserved_sum, stored_sum}
+use Rattle.rule_progress.specs.Progress.{IsProgress, Progressing}
+use Rattle.task_core.specs.Known.{Known, known_size, reserved_sum, stored_sum}
 use Rattle.task_core.specs.States.{IsTable, TableState, blank_row, known_in}
 
 -- the state of file f among these
@@ -43,3 +44,11 @@ pub record AreMirrored (C : Counting) (P : Plan) (rows : List RuleRow) (states :
 -- What holds of every table with the counts and the account that it keeps.
 abbrev pub IsKept : TableState → Counting → Holdings → Type 0
 IsKept t C A = IsTable t × AreMirrored C t.plan t.rules t.files × (A ≡ holdings_of (known_in t))
+
+-- What the rules do, as a table knows it.
+abbrev pub IsProgressOf : Known → Progressing → Type 0
+IsProgressOf K V = IsProgress K.plan K.options K.rules (known_size K) V
+
+-- What holds of every table with all that it keeps.
+abbrev pub IsHeld : TableState → Counting → Holdings → Progressing → Type 0
+IsHeld t C A V = IsTable t × AreMirrored C t.plan t.rules t.files × (A ≡ holdings_of (known_in t)) × IsProgressOf (known_in t) V

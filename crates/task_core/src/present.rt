@@ -6,11 +6,13 @@ ghost use Rattle.flow_types.specs.Plans.{most_outputs};
 ghost use Rattle.run_history.specs.declared.states.FileState.TheVariants.{Present};
 ghost use Rattle.run_history.specs.Legal.{are_within};
 ghost use Rattle.run_history.specs.States.{row_of};
-ghost use Rattle.task_core.specs.Accounts.{bytes_in, state_in, stored_in};
+ghost use Rattle.rule_progress.specs.Progress.{IsSame, Knows};
+ghost use Rattle.task_core.specs.Accounts.{bytes_in, size_of, state_in, stored_in};
 ghost use Rattle.task_core.specs.Stands.{made_or};
 
 use file_states::FileStates;
 use flow_types::{Content, FileNo, Plan, Port, RuleNo};
+use rule_progress::Progress;
 use run_history::FileState;
 use storage_limit::Account;
 
@@ -45,6 +47,7 @@ fn put_file(files: &mut FileStates, account: &mut Account, file: FileNo, content
 pub(crate) fn put_outputs(
     files: &mut FileStates,
     account: &mut Account,
+    progress: &mut Progress,
     plan: &Plan,
     rule: RuleNo,
     outs: &[Content],
@@ -56,6 +59,7 @@ pub(crate) fn put_outputs(
     requires small { (f : ℕ) → bytes_in files.old f ≤ most_bytes }
     requires stored { account.old.stored ≡ stored_in plan.now files.old }
     requires reserved { account.old.reserved ≤ most_bytes * most_rules }
+    requires known { Knows plan.now (size_of files.old) progress.old }
     ensures made { (f : ℕ)
         → state_in files.new f ≡ made_or (row_of f (makes plan.now rule.0) outs.now)
         (state_in files.old f) }
@@ -63,12 +67,16 @@ pub(crate) fn put_outputs(
     ensures small { (f : ℕ) → bytes_in files.new f ≤ most_bytes }
     ensures stored { account.new
         ≡ record account.old { stored = stored_in plan.now files.new } }
+    ensures known { Knows plan.now (size_of files.new) progress.new }
+    ensures rest { IsSame progress.old progress.new }
 {
     let ports = outputs_of(plan, rule);
     let mut at = outs.len();
     'outputs: while at > 0 {
         at -= 1;
         let file = ports[at].file;
-        put_file(files, account, file, outs[at]);
+        let content = outs[at];
+        progress.set_file(plan, files, file, content.size);
+        put_file(files, account, file, content);
     }
 }

@@ -1,13 +1,16 @@
-use Rattle.std.proofs.Common.{◌≡◌, ◌∙◌, ◌-◌, ◌+◌, ◌<◌, ◌≤◌, ℕ, List, [], drop, get_or, length, ap, subst, sym, arith}
+use Rattle.std.proofs.Common.{◌≡◌, ◌∙◌, ◌-◌, ◌+◌, ◌<◌, ◌≤◌, ℕ, List, [], drop, get_or, length, ap, refl, subst, sym, arith}
 use Rattle.std.proofs.lemmas.List.{length-set}
 use Rattle.flow_types.specs.Plans.{makes, most_bytes}
 use Rattle.flow_types.specs.declared.numbers.Content.{Content}
 use Rattle.run_history.specs.States.{row_of}
 use Rattle.storage_limit.specs.Holdings.{Holdings}
-use Rattle.task_core.specs.Accounts.{state_in, stored_in}
+use Rattle.task_core.specs.Accounts.{size_of, state_in, stored_in}
 use Rattle.task_core.specs.Stands.{made_or}
 use Rattle.task_core.proofs.Outputs.{files-length, made-step, none-made, output-at, same-item, within-length, within-small}
 use Rattle.task_core.proofs.Storing.{small-step, stored-holds, stored-most, stored-step}
+use Rattle.rule_progress.specs.Progress.{Knows}
+use Rattle.rule_progress.proofs.Coming.{same-after}
+use Rattle.task_core.proofs.Progressing.{sizes-set}
 use Rattle.task_core.proofs.present.put_outputs.Goals as goal
 
 pub outputs-init : goal.outputs-init
@@ -17,6 +20,8 @@ outputs-init c = record {
   files = c.requires.files;
   small = c.requires.small;
   stored = ap (λ n. (let H : Holdings = record { limit = c.args.account.now.limit; stored = n; reserved = c.args.account.now.reserved } in H)) c.requires.stored;
+  known = c.requires.known;
+  rest = record { needs = refl; waits = refl; rest = refl };
 }
 
 pub bounds-ports-at : goal.bounds-ports-at
@@ -73,4 +78,17 @@ outputs-preserved c =
       small = λ f. small-step c.outputs.files c.put_file.new.files g f content small within c.put_file.ensures.files c.outputs.invariant.small;
       stored = stored-step P c.outputs.files c.put_file.new.files g content c.args.account.now c.put_file.new.account c.outputs.account output.made output.inside within c.put_file.ensures.files
           c.outputs.invariant.stored c.put_file.ensures.stored c.put_file.ensures.rest;
+      known = subst (λ xs. Knows P (size_of xs) c.set_file.new.self) (sym c.put_file.ensures.files) (subst (λ s. Knows P s c.set_file.new.self) (sizes-set c.outputs.files g _ within) c.set_file.ensures.known);
+      rest = same-after c.args.progress.now c.outputs.progress c.set_file.new.self c.outputs.invariant.rest c.set_file.ensures.same;
     }
+
+pub set_file-requires-clause-inside : goal.set_file-requires-clause-inside
+set_file-requires-clause-inside c =
+    let output = output-at c.args.plan.now c.args.rule.0 (c.outputs.at - 1) c.outputs_of-ports.result.now c.index-ports-at.result c.args.outs.now c.requires.valid c.requires.rule c.requires.outputs
+    c.outputs_of-ports.ensures.files (omega (arith, c.outputs-test.true, c.outputs.invariant.within)) c.index-ports-at.is c.outputs_of-ports.ensures.inside in
+    output.inside
+
+pub set_file-requires-clause-few : goal.set_file-requires-clause-few
+set_file-requires-clause-few c =
+    let less : c.outputs.at - 1 < length c.args.outs.now = omega (arith, c.outputs-test.true, c.outputs.invariant.within) in
+    within-small c.args.plan.now (makes c.args.plan.now c.args.rule.0) c.args.outs.now (c.outputs.at - 1) _ c.requires.valid c.requires.outputs less

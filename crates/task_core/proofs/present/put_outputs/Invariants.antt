@@ -1,7 +1,8 @@
 use Rattle.std.proofs.Common.{◌≡◌, ◌≤◌, ℕ, drop, length}
 use Rattle.flow_types.specs.Plans.{makes, most_bytes}
 use Rattle.run_history.specs.States.{row_of}
-use Rattle.task_core.specs.Accounts.{bytes_in, state_in, stored_in}
+use Rattle.rule_progress.specs.Progress.{IsSame, Knows}
+use Rattle.task_core.specs.Accounts.{bytes_in, size_of, state_in, stored_in}
 use Rattle.task_core.specs.Stands.{made_or}
 use Rattle.task_core.proofs.present.put_outputs.Given as goal
 
@@ -12,6 +13,8 @@ invariant-outputs l = record {
   files : length l.files ≡ length l.plan.files;
   small : (f : ℕ) → bytes_in l.files f ≤ most_bytes;
   stored : l.account ≡ record l.initial.account { stored = stored_in l.plan l.files };
+  known : Knows l.plan (size_of l.files) l.progress;
+  rest : IsSame l.initial.progress l.progress;
 }
 
 abbrev pub decreases-outputs : goal.decreases-outputs
