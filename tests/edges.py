@@ -9,7 +9,7 @@ import subprocess
 import time
 
 import logs
-from places import COMPLETE, FOLDER_FAULT, NOBODY, SECONDS, USER, USUAL_LOG, Place, complete, content_of, outcome, short
+from places import COMPLETE, FOLDER_FAULT, NOBODY, SECONDS, USER, USUAL_LOG, Place, complete, content_of, outcome, seen, short
 from resumes import AGAIN, ONE, ONE_RUN, TWO, Course
 from workers import Talk, done
 
@@ -24,36 +24,83 @@ def hard_link_to(target):
     return lambda path: os.link(f"{os.path.dirname(path)}/{target}", path)
 
 
+def never_written(name, files, rules):
+    """A flow with names that lead to one file: a run and the next one are refused, and nothing is written at all, the log
+    and folders too."""
+    with Course(name, {"in": "abc", **files}, rules, {}) as it:
+        for step in ("the run", "the next one"):
+            it.refused(step, 5, FOLDER_FAULT)
+
+
 def one_file():
-    """Two names of a flow that lead to one file: the second isn't written, and nothing else changes."""
-    two = [("cat in > a", ["in"], ["a"]), ("cat in in > b", ["in"], ["b"])]
-    for name, files in [("to a file", {"t": "old"}), ("to nothing", {})]:
-        with Course(f"two outputs are links {name}", {"in": "abc", **files, "a": link_to("t"), "b": link_to("t")}, two, {"t": b"abc"}) as it:
-            for step in ("the run", "the next one"):
-                it.note(step, outcome(it.place.start(("-j", "1", "flow")), 5, FOLDER_FAULT))
-    one = [("cat in > a; cat in in > b", ["in"], ["a", "b"])]
-    with Course("two outputs of one rule are links to one file", {"in": "abc", "t": "old", "a": link_to("t"), "b": link_to("t")}, one, {"t": b"abc"}) as it:
-        it.note("the run", outcome(it.place.start(), 5, FOLDER_FAULT))
-    folders = [("cat in > d/x", ["in"], ["d/x"]), ("cat in in > e/x", ["in"], ["e/x"])]
-    for name, files in [("a new file", {"d": os.mkdir}), ("an old file", {"d/x": "old"})]:
-        with Course(f"two folders are one by a link, with {name}", {"in": "abc", **files, "e": link_to("d")}, folders, {"d/x": b"abc"}) as it:
-            for step in ("the run", "the next one"):
-                it.note(step, outcome(it.place.start(("-j", "1", "flow")), 5, FOLDER_FAULT))
-    for other, files in [("a source", {"out": link_to("in")}), ("the flow file", {"out": link_to("flow")}), ("the log", {"out": link_to(USUAL_LOG)}),
-                         ("a source by a folder", {"d/in": "abc", "e": link_to("d")})]:
-        rule = [("cat d/in > e/in", ["d/in"], ["e/in"])] if "e" in files else [("cat in in > out", ["in"], ["out"])]
-        with Course(f"an output is a link to {other}", {"in": "abc", **files}, rule, {}) as it:
-            for step in ("the run", "the next one"):
-                it.note(step, outcome(it.place.start(), 5, FOLDER_FAULT))
-            bad = logs.illegal(it.records(), it.rules, it.bounds)
-            it.note("the log", [bad] if bad else [])
-    with Course("a source is a link to an output", {"in": link_to("out"), "out": "abc"}, [("cat in in > out", ["in"], ["out"])], {}) as it:
-        it.note("the run", outcome(it.place.start(), 5, FOLDER_FAULT))
+    """Two names of a flow that lead to one file, of which one is to be written: nothing is, not even what leads elsewhere."""
+    other = ("cat in > other", ["in"], ["other"])
+    two = [other, ("cat in > a", ["in"], ["a"]), ("cat in in > b", ["in"], ["b"])]
+    both = [("cat in > a; cat in in > b", ["in"], ["a", "b"])]
+    here = {"a": link_to("t"), "b": link_to("t")}
+    for name, files in [("links to a file", {"t": "old", **here}), ("links to nothing", here),
+                        ("links to nothing by another link", {"a": link_to("more"), "more": link_to("t"), "b": link_to("./t")}),
+                        ("one file, by a link to the other that is there", {"a": "old", "b": link_to("a")}),
+                        ("one file, by a link to the other that isn't there", {"b": link_to("a")})]:
+        never_written(f"two outputs are {name}", files, two)
+        never_written(f"two outputs of one rule are {name}", files, both)
+    folders = [other, ("cat in > d/x", ["in"], ["d/x"]), ("cat in in > e/x", ["in"], ["e/x"])]
+    for name, files in [("a new file", {"d": os.mkdir, "e": link_to("d")}), ("an old file", {"d/x": "old", "e": link_to("d")}),
+                        ("a folder that isn't there yet", {"e": link_to("d")}), ("a folder that isn't there yet, and a slash", {"e": link_to("d/")}),
+                        ("a folder by its full path", {"e": lambda path: os.symlink(f"{os.path.dirname(path)}/d", path)})]:
+        never_written(f"two folders are one by a link, with {name}", files, folders)
+    deep = [("cat in > d/f/x", ["in"], ["d/f/x"]), ("cat in in > e/x", ["in"], ["e/x"])]
+    never_written("two folders are one by a link to a folder below one that isn't there yet", {"e": link_to("d/f")}, deep)
+
+
+def one_of_the_others():
+    """An output that leads to a source, to the flow file or to the log."""
+    from_in = [("cat in in > out", ["in"], ["out"])]
+    for name, files in [("a source", {"out": link_to("in")}), ("the flow file", {"out": link_to("flow")}), ("the log that isn't there", {"out": link_to(USUAL_LOG)}),
+                        ("a log that is begun", {USUAL_LOG: b"MFLOG01\n\0", "out": link_to(USUAL_LOG)})]:
+        never_written(f"an output is a link to {name}", files, from_in)
+    never_written("an output is a link to a source by a folder", {"d/in": "abc", "e": link_to("d")}, [("cat d/in > e/in", ["d/in"], ["e/in"])])
+    never_written("a source is a link to an output", {"in": link_to("out"), "out": "abc"}, from_in)
+    never_written("the log is a link to an output that isn't there", {USUAL_LOG: link_to("out")}, from_in)
+    with Course("an output is a link to a source that isn't there", {"zin": link_to("out")}, [("cat zin > out", ["zin"], ["out"])], {}) as it:
+        it.refused("the run", 4, "makeflow: source zin missing\n")
     with Course("two sources are one file", {"in": "abc", "also": link_to("in")}, [("cat in also > out", ["in", "also"], ["out"])], {"out": b"abcabc"}) as it:
         it.call("the run", 0, COMPLETE, adds=ONE_RUN)
-    with Course("an output is a hard link to a source, and is parted from it", {"in": "abc", "out": hard_link_to("in")}, [("cat in in > out", ["in"], ["out"])], {"out": b"abcabc"}) as it:
+    with Course("an output is a hard link to a source, and is parted from it", {"in": "abc", "out": hard_link_to("in")}, from_in, {"out": b"abcabc"}) as it:
         it.call("the run", 0, COMPLETE, adds=ONE_RUN)
         it.call("the resume", 0, COMPLETE, adds=AGAIN)
+    with Course("an output is a link to a file elsewhere, in a folder that is a link too", {"in": "abc", "far": os.mkdir, "near": link_to("far"), "near/out": link_to("real")},
+                [("cat in > near/out", ["in"], ["near/out"])], {"far/real": b"abc"}) as it:
+        it.call("the run", 0, COMPLETE, adds=ONE_RUN)
+        it.call("the resume", 0, COMPLETE, adds=AGAIN)
+
+
+def one_file_later():
+    """Names that become one file once something is made: what is complete isn't written again, and the rest is refused."""
+    same = [("cat in > a", ["in"], ["a"]), ("cat in > b", ["in"], ["b"])]
+    with Course("an output is put as a link to another one once both are made", {"in": "abc"}, same, {"a": b"abc", "b": "a"}) as it:
+        it.call("the run", 0, complete(2))
+        os.remove(it.path("b"))
+        os.symlink("a", it.path("b"))
+        it.place.give()
+        it.call("the resume", 0, complete(2), adds=AGAIN)
+    late = [("cat in > a", ["in"], ["a"]), ("test -e ROOM/go && cat in in > b", ["in"], ["b"])]
+    with Course("an output is put as a link to one that is made", {"in": "abc"}, late, {"a": b"abc", "b": "a"}) as it:
+        it.call("the run", 1, "makeflow: rule 1 failed: status 1\n")
+        os.symlink("a", it.path("b"))
+        it.place.give()
+        it.beside("go")
+        before = it.looked()
+        for step in ("the next run", "one more"):
+            it.note(step, outcome(it.place.start(), 5, FOLDER_FAULT))
+        it.stays("the next run", before)
+    with Course("two outputs are put as links to one place once the run failed", {"in": "abc"}, [("false", ["in"], ["a"]), ("false", ["in"], ["b"])], {}) as it:
+        it.call("the run", 1, "makeflow: rule 0 failed: status 1\n")
+        for name in "ab":
+            os.symlink("t", it.path(name))
+        it.place.give()
+        it.place.before = seen(it.place.work)
+        it.refused("the next run", 5, FOLDER_FAULT)
 
 
 def linked_logs():
@@ -317,4 +364,4 @@ def sick_starts():
         it.note("the run", outcome(started("trap '' XFSZ; ulimit -f 0; exec", it.place), 5, FOLDER_FAULT))
 
 
-GROUPS = [one_file, linked_logs, lost_logs, beginners, looks, killed_alone, containers, odd_commands, deep_names, sick_starts]
+GROUPS = [one_file, one_of_the_others, one_file_later, linked_logs, lost_logs, beginners, looks, killed_alone, containers, odd_commands, deep_names, sick_starts]

@@ -23,6 +23,31 @@ pub fn regular<R: Files>(rt: &R, path: &str) -> io::Result<Option<Metadata>> {
     }
 }
 
+/// What stands under a name.
+#[derive(Drop)]
+pub enum Found {
+    /// A regular file, or a link to one.
+    File(Metadata),
+    /// A link to nothing.
+    Link,
+    /// Nothing, or its folder is a file.
+    Nothing,
+}
+
+/// What stands under the name, by one call where that is no link. What is no regular file is an error.
+pub fn seen_at<R: Files>(rt: &R, path: &str) -> io::Result<Found> {
+    match fs::symlink_metadata(rt, path) {
+        Ok(data) if data.is_file() => Ok(Found::File(data)),
+        Ok(data) if data.is_symlink() => match regular(rt, path)? {
+            Some(data) => Ok(Found::File(data)),
+            None => Ok(Found::Link),
+        },
+        Ok(_) => Err(io::Error::from(ErrorKind::InvalidInput)),
+        Err(e) if is_absent(e.kind()) => Ok(Found::Nothing),
+        Err(e) => Err(e),
+    }
+}
+
 /// The length of the file, None where nothing has the name. What is no regular file is an error.
 pub fn file_len<R: Files>(rt: &R, path: &str) -> io::Result<Option<u64>> {
     match regular(rt, path)? {

@@ -85,19 +85,20 @@ impl FlowLock {
     }
 
     /// Before the first sync, which names the file: that it changed since then, or that another
-    /// program works here, shows at the first change alone, so that a log can be read meanwhile.
+    /// program works here, shows at the first change alone, so that a log can be read meanwhile. True
+    /// where this is the first one.
     pub fn begin<R: Files<File = File> + AllocGlobal>(
         &mut self,
         rt: &R,
         path: &str,
-    ) -> io::Result<()> {
+    ) -> io::Result<bool> {
         if self.path.is_some() {
-            return Ok(());
+            return Ok(false);
         }
         let named = String::from_str(rt.alloc(), path)?;
         self.standing = Standing::Looked(FirstLook::of(rt, path)?);
         self.path = Some(named);
-        Ok(())
+        Ok(true)
     }
 
     /// What was seen of the file of this name, as long as this program changed nothing.
@@ -105,6 +106,14 @@ impl FlowLock {
         match &self.standing {
             Standing::Looked(look) if self.is_on(path) => Some(look),
             _ => None,
+        }
+    }
+
+    /// There was no file as it was looked at, and this program changed nothing yet.
+    pub fn saw_nothing(&self) -> bool {
+        match &self.standing {
+            Standing::Looked(look) => look.seen().is_none(),
+            _ => false,
         }
     }
 

@@ -1,15 +1,15 @@
 //! Files below the current folder, by path.
 ghost use Rattle.std.specs.Prelude.{◌≤◌, length, IfOk};
 
+use crate::asked_names::AskedNames;
 use crate::file_id::FileId;
 use crate::files;
-use crate::files::CURRENT;
+use crate::files::{CURRENT, Found};
 use crate::flow_lock::FlowLock;
-use crate::known_names::KnownNames;
 use crate::leftovers::clear_parts;
 use crate::owner::Owner;
 use crate::parts::{Parts, Settled, target_of};
-use crate::sharing::{Sharing, is_shared, sharing_of};
+use crate::sharing::Sharing;
 use crate::synced_folders::SyncedFolders;
 use std::collections::BTreeSet;
 use std::fs::{File, Metadata};
@@ -24,8 +24,8 @@ pub struct Folder<'a, R: Files<File = File> + AllocGlobal> {
     lock: FlowLock,
     parts: Parts,
     synced: SyncedFolders,
-    // Which files have the names that were asked for.
-    known: KnownNames,
+    // The names that were asked for.
+    asked: AskedNames,
     // The name of which the last call saw that a regular file stands there.
     just_seen: String,
     // The folders in which what dead programs left was looked for.
@@ -40,7 +40,7 @@ impl<'a, R: Files<File = File> + AllocGlobal> Drop for Folder<'a, R> {
             lock,
             mut parts,
             synced: _,
-            known: _,
+            asked: _,
             just_seen: _,
             cleared: _,
         } = self;
@@ -58,7 +58,7 @@ impl<'a, R: Files<File = File> + AllocGlobal> Folder<'a, R> {
             lock: FlowLock::new(),
             parts: Parts::new(rt.alloc()),
             synced: SyncedFolders::new(rt.alloc()),
-            known: KnownNames::new(rt.alloc()),
+            asked: AskedNames::new(rt.alloc()),
             just_seen: String::new(rt.alloc()),
             cleared: BTreeSet::new(rt.alloc()),
         }
@@ -74,6 +74,7 @@ impl<'a, R: Files<File = File> + AllocGlobal> Folder<'a, R> {
             return Ok(None);
         };
         self.just_seen.push_str(path)?;
+        self.asked.note_length(self.rt.alloc(), path)?;
         Ok(Some(data.len()))
     }
 
@@ -85,6 +86,7 @@ impl<'a, R: Files<File = File> + AllocGlobal> Folder<'a, R> {
         if let Some(first) = self.lock.look_at(path) {
             return first.read(self.rt, path, at, into);
         }
+        self.asked.note_bytes(path);
         let was_seen = self.just_seen.as_str() == path;
         self.just_seen.clear();
         if !was_seen && self.look(path)?.is_none() {
@@ -98,24 +100,27 @@ impl<'a, R: Files<File = File> + AllocGlobal> Folder<'a, R> {
 
     // What stands under the name.
     fn look(&mut self, path: &str) -> io::Result<Option<Metadata>> {
-        let found = files::regular(self.rt, self.parts.place_of(path))?;
-        if !self.parts.has(path) && !self.lock.is_on(path) {
-            self.note(path, found.as_ref())?;
+        if self.parts.has(path) || self.lock.is_on(path) {
+            return files::regular(self.rt, self.parts.place_of(path));
         }
-        Ok(found)
+        match files::seen_at(self.rt, path)? {
+            Found::File(data) => {
+                self.note(path, FileId::of(&data))?;
+                Ok(Some(data))
+            }
+            nothing => {
+                self.asked.note_free(self.rt, path, &nothing)?;
+                Ok(None)
+            }
+        }
     }
 
     // Keeps in mind which file has the name. An error where that is the log.
-    fn note(&mut self, path: &str, found: Option<&Metadata>) -> io::Result<()> {
-        let Some(data) = found else {
-            self.known.forget(path);
-            return Ok(());
-        };
-        let file = FileId::of(data);
+    fn note(&mut self, path: &str, file: FileId) -> io::Result<()> {
         if self.lock.is_file(file) {
             return Err(io::Error::from(ErrorKind::InvalidInput));
         }
-        self.known.note(self.rt.alloc(), path, file)?;
+        self.asked.note(self.rt.alloc(), path, file)?;
         Ok(())
     }
 
@@ -144,6 +149,9 @@ impl<'a, R: Files<File = File> + AllocGlobal> Folder<'a, R> {
     // Begins a file anew. Where none can be made beside it, it is written in place, unless another
     // name would change with it.
     fn begin(&mut self, path: &str, bytes: &[u8]) -> io::Result<()> {
+        if self.asked.shares_place(path) {
+            return Err(io::Error::from(ErrorKind::InvalidInput));
+        }
         self.synced.make_for(self.rt, path)?;
         let (folder, _) = files::folder_of(path);
         self.clear(folder)?;
@@ -164,11 +172,11 @@ impl<'a, R: Files<File = File> + AllocGlobal> Folder<'a, R> {
             return Ok(Sharing::Alone);
         };
         let file = FileId::of(data);
-        let sharing = sharing_of(self.rt, &self.known, path, file)?;
+        let sharing = self.asked.sharing(self.rt, path, file)?;
         if sharing == Sharing::One || self.lock.is_file(file) {
             return Err(io::Error::from(ErrorKind::InvalidInput));
         }
-        self.known.note(self.rt.alloc(), path, file)?;
+        self.asked.note(self.rt.alloc(), path, file)?;
         Ok(sharing)
     }
 
@@ -184,8 +192,10 @@ impl<'a, R: Files<File = File> + AllocGlobal> Folder<'a, R> {
         files::write_from(&mut file, at, bytes)
     }
 
-    // Before each change: no other program may work here, and what dead ones left goes.
+    // Before each change: no two names may be one, no other program may work here, and what dead ones
+    // left goes.
     fn begin_change(&mut self) -> io::Result<()> {
+        self.asked.begin_change(self.rt)?;
         if let Some(log) = self.lock.claim(self.rt, &mut self.synced)? {
             self.log_alone(log)?;
             self.lock.put_beginning()?;
@@ -195,7 +205,7 @@ impl<'a, R: Files<File = File> + AllocGlobal> Folder<'a, R> {
 
     // No other name that was seen may be the log: it is written in place.
     fn log_alone(&mut self, log: FileId) -> io::Result<()> {
-        match is_shared(self.rt, &self.known, log) {
+        match self.asked.has_file(self.rt, log) {
             Ok(false) => Ok(()),
             Ok(true) => {
                 self.lock.refuse();
@@ -252,6 +262,9 @@ impl<'a, R: Files<File = File> + AllocGlobal> Folder<'a, R> {
         if self.lock.is_begun(path) {
             return Ok(());
         }
+        if !self.lock.is_on(path) {
+            self.asked.note_first();
+        }
         if self.look(path)?.is_some() {
             files::sync_seen(self.rt, path)?;
         }
@@ -259,16 +272,20 @@ impl<'a, R: Files<File = File> + AllocGlobal> Folder<'a, R> {
     }
 
     fn sync_settled(&mut self, path: &str, settled: &Settled) -> io::Result<()> {
-        self.known.note(self.rt.alloc(), path, settled.file)?;
+        self.asked.note(self.rt.alloc(), path, settled.file)?;
         self.begin_lock(path)?;
         self.synced.sync_to(self.rt, path, settled.target.as_str())
     }
 
     // The first name that is synced is the log's, which is none of the others.
     fn begin_lock(&mut self, path: &str) -> io::Result<()> {
-        self.lock.begin(self.rt, path)?;
-        if self.lock.is_on(path) {
-            self.known.forget(path);
+        if self.lock.begin(self.rt, path)? {
+            self.asked.forget(path);
+            if self.lock.saw_nothing() {
+                let found = files::seen_at(self.rt, path)?;
+                self.asked.note_free(self.rt, path, &found)?;
+                self.asked.note_first();
+            }
         }
         Ok(())
     }
@@ -278,7 +295,7 @@ impl<'a, R: Files<File = File> + AllocGlobal> Folder<'a, R> {
         self.just_seen.clear();
         self.begin_change()?;
         self.parts.forget(self.rt, path);
-        self.known.forget(path);
+        self.asked.forget(path);
         match fs::remove_file(self.rt, path) {
             Err(e) if files::is_absent(e.kind()) => Ok(()),
             removed => {

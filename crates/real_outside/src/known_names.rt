@@ -64,6 +64,11 @@ impl KnownNames {
         }
     }
 
+    /// The file that stands under the name.
+    pub fn file_of(&self, name: &str) -> Option<FileId> {
+        self.files.get(name).copied()
+    }
+
     /// The names under which the file was seen last.
     pub fn names_of(&self, file: FileId) -> &[String] {
         match self.names.get(&file) {

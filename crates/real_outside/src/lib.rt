@@ -3,6 +3,7 @@
 //! Each object tells nothing of content, and counts each call that the system refused.
 #![tactic(auto)]
 
+mod asked_names;
 mod commands;
 mod counts;
 mod draft;
@@ -12,6 +13,7 @@ mod first_look;
 mod flow_lock;
 mod folder;
 mod folder_site;
+mod free_names;
 mod holding;
 mod job_folder;
 mod known_names;
@@ -19,6 +21,7 @@ mod leftovers;
 mod outputs;
 mod owner;
 mod parts;
+mod places;
 mod plain_site;
 mod programs;
 mod script;
