@@ -135,7 +135,7 @@ impl Table {
     }
 
     // Limits under which each rule is of which this holds.
-    fn limits(&self, asked: Asked) -> Weight
+    pub(crate) fn limits(&self, asked: Asked) -> Weight
         requires valid { IsValid self.now.plan }
         requires small { (f : ℕ) → known_bytes (known_in self.now) f ≤ most_bytes }
         ensures { AreCandidates (known_in self.now) result (asks (known_in self.now) asked) }
@@ -149,7 +149,7 @@ impl Table {
         }
     }
 
-    fn holds(&self, asked: Asked, rule: RuleNo) -> bool
+    pub(crate) fn holds(&self, asked: Asked, rule: RuleNo) -> bool
         requires { rule.0 < length self.now.plan.rules }
         ensures { result ≡ asks (known_in self.now) asked rule.0 }
     {
@@ -184,7 +184,7 @@ impl Table {
     }
 
     // Limits under which each rule is of which this holds.
-    fn limits_for(&self, asked: AskedFor, beside: &Beside) -> Weight
+    pub(crate) fn limits_for(&self, asked: AskedFor, beside: &Beside) -> Weight
         requires known { IsBeside (known_in self.now) beside.now }
         requires valid { IsValid self.now.plan }
         requires small { (f : ℕ) → known_bytes (known_in self.now) f ≤ most_bytes }
@@ -199,7 +199,7 @@ impl Table {
         }
     }
 
-    fn holds_for(&self, asked: AskedFor, beside: &Beside, rule: RuleNo) -> bool
+    pub(crate) fn holds_for(&self, asked: AskedFor, beside: &Beside, rule: RuleNo) -> bool
         requires inside { rule.0 < length self.now.plan.rules }
         requires known { IsBeside (known_in self.now) beside.now }
         ensures { result ≡ asks_for (known_in self.now) beside.now.link.0 asked rule.0 }
