@@ -154,6 +154,7 @@ module _ {A B L C D : Type 0} (F : CommandWords) (S : SiteWords A) (H : HallWord
     lost = λ t ask asked past spelled alone keeps. absurd (true≢false keeps);
     lost_away = λ t ask asked past spelled keeps. absurd (true≢false keeps);
     due_losses = λ tells t options chosen ask asked past spelled keeps. absurd (true≢false keeps);
+    results = λ tells t ask asked past spelled wq work keeps. absurd (true≢false keeps);
     back = λ uncut. absurd (uncut refl);
     alone = λ local. refl;
     moments = λ t ask asked past spelled resumable image left. inl (entry_before ask.log (S.files site ask.log) (S.may_leave site) image (only t image left));

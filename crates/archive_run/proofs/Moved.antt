@@ -43,6 +43,7 @@ retold {A} {B} {L} {C} {D} {F} {S} {H} {R} {O} {line} {env} {site} {site_now} {h
   lost = ends.lost;
   lost_away = ends.lost_away;
   due_losses = ends.due_losses;
+  results = ends.results;
   back = ends.back;
   alone = ends.alone;
   moments = ends.moments;

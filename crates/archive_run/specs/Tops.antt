@@ -34,6 +34,7 @@ use Rattle.std.proofs.Common.{String, Global}
 use Rattle.worker_pool.specs.Crews.{AllSure}
 use Rattle.wq_run.specs.Ends.{AreBack, LosesOnLinks}
 use Rattle.wq_run.specs.Losses.{AreDueLosses}
+use Rattle.wq_run.specs.Results.{AreResults}
 
 -- what commands make of their inputs, and with what they fail
 pub record CommandWords : Type 1 where
@@ -112,6 +113,8 @@ pub record TopEnds {A B L C D : Type 0} (F : CommandWords) (S : SiteWords A) (H 
   pub lost_away : S.tells → OfLog (request line env (S.files site)) (S.files site) (λ ask H. IsFalse (may_lose (kind_of cause)) → LosesOnLinks H written)
   -- Where the hall's links tell their bytes, an attempt at a worker is given up otherwise only for a cause that a link shows which was handed back under the number of its own: it is ill, or over it came that the attempt wasn't run, or three times that inputs of it are missing.
   pub due_losses : H.Way.tells → S.tells → (options : Options) → choice line ≡ Ok options → OfLog (request line env (S.files site)) (S.files site) (λ ask G. IsFalse (may_lose (kind_of cause)) → AreDueLosses F.gives F.may_fail H.Way.history H.Way.count H.Way.idle_count H.Way.is_closed options.limits.idle (H.got hall) (H.got hall_now) G written)
+  -- There each attempt that came to its end was started here, or on a link that was handed back under its number, over which its result came, with the sizes and digests that were logged or the failure that was, for a task that was sent behind its inputs.
+  pub results : H.Way.tells → S.tells → OfLog (request line env (S.files site)) (S.files site) (λ ask G. ask.options.wq ≡ true → ask.work ≡ Run → IsFalse (may_lose (kind_of cause)) → AreResults H.Way.history (H.got hall) (H.got hall_now) G written)
   -- Each link that the hall gave is handed back, and where no worker is asked for the hall stays as it was.
   pub back : (IsCut cause → ⊥) → AreBack (H.got hall) (H.got hall_now) (H.given hall) (H.given hall_now)
   pub alone : IsLocal (choice line) → hall_now ≡ hall

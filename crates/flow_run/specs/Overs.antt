@@ -1,5 +1,5 @@
 -- What a run adds to the records that stood.
-use Rattle.std.specs.Prelude.{◌≡◌, ℕ, Bool, false, List, Option, Result, OnOk}
+use Rattle.std.specs.Prelude.{◌≡◌, ℕ, Bool, true, false, List, Option, Result, OnOk}
 use Rattle.flow_types.specs.declared.job.Failure.{Failure}
 use Rattle.flow_types.specs.declared.job.Job.{Job}
 use Rattle.flow_types.specs.declared.numbers.LinkNo.{LinkNo}
@@ -15,9 +15,10 @@ use Rattle.local_run.specs.Collecting.{CollectsBy}
 use Rattle.local_run.specs.Runs.{IsRefusedRun, LosesNone}
 use Rattle.wq_run.specs.Ends.{LosesOnLinks}
 use Rattle.wq_run.specs.Losses.{AreDueLosses}
+use Rattle.wq_run.specs.Results.{AreResults}
 use Rattle.flow_run.specs.Places.{PlacedBy}
 
--- What a run adds to the records that stood, whether or not the site tells its files: these are some, and where it tells those that the log's file spells. One run stands behind them, or nothing where none was started; each attempt of it is started where its rule may run, files are dropped as the mode says, and attempts are given up only as they may be.
+-- What a run adds to the records that stood, whether or not the site tells its files: these are some, and where it tells those that the log's file spells. One run stands behind them, or nothing where none was started; each attempt of it is started where its rule may run, files are dropped as the mode says, attempts are given up only as they may be, and results come from links.
 pub record RunsOver {L : Type 0} (spells : List Record → Type 0) (told : Type 0) (gives : Function) (may_fail : Job → Failure → Type 0) (history : L → List Passed) (count idles : L → ℕ) (closed : L → Bool) (limit : ℕ)
     (got got_now : List (Option LinkNo × L)) (P : Plan) (O : Options) (all : List Record) (how : Result Check Stopped) : Type 0 where
   pub past : List Record
@@ -29,3 +30,4 @@ pub record RunsOver {L : Type 0} (spells : List Record → Type 0) (told : Type 
   pub lost : O.wq ≡ false → OnOk how (LosesNone past all)
   pub lost_away : OnOk how (LosesOnLinks past all)
   pub due_losses : told → OnOk how (AreDueLosses gives may_fail history count idles closed limit got got_now past all)
+  pub results : O.wq ≡ true → told → OnOk how (AreResults history got got_now past all)

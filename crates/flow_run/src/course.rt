@@ -22,6 +22,7 @@ ghost use Rattle.local_run.specs.Ends.{RunDamage, records_due};
 ghost use Rattle.local_run.specs.Runs.{IsClosedRun, IsCutRun, IsHallEnd, LosesNone, ended_by};
 ghost use Rattle.wq_run.specs.Calm.{ComeFew, GoesWell};
 ghost use Rattle.wq_run.specs.Losses.{AreDueLosses};
+ghost use Rattle.wq_run.specs.Results.{AreResults};
 ghost use Rattle.wq_run.specs.Trusted.{IsOf};
 ghost use Rattle.wq_run.specs.Ends.{AreBack, EndsHere, IsSparedRunners, LosesOnLinks, StopsBy};
 ghost use Rattle.wq_run.specs.Vain.{AreVain, IfWaited, NeedsAtMost};
@@ -107,6 +108,9 @@ pub fn work<
         F.may_fail H.Way.history H.Way.count H.Way.idle_count H.Way.is_closed workers.limit
         (H.got hall.old) (H.got hall.new)
         (records_of desk.old.moves) (records_of desk.new.moves)) }
+    ensures results { desk.old.options.wq ≡ true → H.Way.tells → OnOk result (AreResults
+        H.Way.history (H.got hall.old) (H.got hall.new) (records_of desk.old.moves)
+        (records_of desk.new.moves)) }
     ensures calm { desk.old.options.wq ≡ true → H.Way.tells
         → joins_and_changes desk.old.moves ≡ 0 → H.sure hall.old
         → AllSure R.sure runners.old → ComeFew H.Way.history H.Way.count

@@ -32,6 +32,7 @@ ghost use Rattle.local_run.specs.Runs.{read_sources};
 ghost use Rattle.wq_run.specs.Calm.{ComeFew, GoesWell};
 ghost use Rattle.wq_run.specs.Ends.{AreBack, EndsWaiting, IsSparedRunners, LosesOnLinks};
 ghost use Rattle.wq_run.specs.Losses.{AreDueLosses};
+ghost use Rattle.wq_run.specs.Results.{AreResults};
 ghost use Rattle.wq_run.specs.Vain.{AreVain, IfWaited, NeedsAtMost};
 ghost use Rattle.flow_run.specs.Overs.{RunsOver};
 ghost use Rattle.flow_run.specs.Places.{PlacedBy};
@@ -135,6 +136,9 @@ pub fn resume<
         F.may_fail H.Way.history H.Way.count H.Way.idle_count H.Way.is_closed workers.limit
         (H.got hall.old) (H.got hall.new)
         G ended.records)) }
+    ensures results { IfOk result (λ ended. options.wq ≡ true → H.Way.tells → S.tells
+        → (G : List RecordValue) → Spells G (S.files site «name») → OnOk ended.how (AreResults
+        H.Way.history (H.got hall.old) (H.got hall.new) G ended.records)) }
     ensures calm { IfOk result (λ ended. options.wq ≡ true → H.Way.tells → H.sure hall.old
         → AllSure R.sure runners.old → ComeFew H.Way.history H.Way.count
         H.Way.idle_count H.Way.is_closed (H.got hall.old) (H.got hall.new)

@@ -35,6 +35,7 @@ ghost use Rattle.local_run.specs.Runs.{LosesNone, SerialFits, read_sources};
 ghost use Rattle.wq_run.specs.Calm.{ComeFew, GoesWell};
 ghost use Rattle.wq_run.specs.Ends.{AreBack, EndsWaiting, IsSparedRunners, LosesOnLinks};
 ghost use Rattle.wq_run.specs.Losses.{AreDueLosses};
+ghost use Rattle.wq_run.specs.Results.{AreResults};
 ghost use Rattle.wq_run.specs.Vain.{AreVain, IfWaited, NeedsAtMost};
 ghost use Rattle.wq_run.specs.Trusted.{IsOf};
 ghost use Rattle.flow_run.specs.Places.{PlacedBy};
@@ -109,6 +110,9 @@ fn run_desk<
         F.may_fail H.Way.history H.Way.count H.Way.idle_count H.Way.is_closed workers.limit
         (H.got hall.old) (H.got hall.new)
         (records_of desk.moves) result.records) }
+    ensures results { desk.options.wq ≡ true → H.Way.tells → OnOk result.how (AreResults
+        H.Way.history (H.got hall.old) (H.got hall.new) (records_of desk.moves)
+        result.records) }
     ensures calm { desk.options.wq ≡ true → H.Way.tells
         → joins_and_changes desk.moves ≡ 0 → H.sure hall.old
         → AllSure R.sure runners.old → ComeFew H.Way.history H.Way.count
@@ -248,6 +252,8 @@ fn run_by<
         F.may_fail H.Way.history H.Way.count H.Way.idle_count H.Way.is_closed workers.limit
         (H.got hall.old) (H.got hall.new)
         history result.records) }
+    ensures results { options.wq ≡ true → H.Way.tells → OnOk result.how (AreResults
+        H.Way.history (H.got hall.old) (H.got hall.new) history result.records) }
     ensures calm { options.wq ≡ true → H.Way.tells → H.sure hall.old
         → AllSure R.sure runners.old → ComeFew H.Way.history H.Way.count
         H.Way.idle_count H.Way.is_closed (H.got hall.old) (H.got hall.new)
@@ -383,6 +389,8 @@ pub fn run<
         F.may_fail H.Way.history H.Way.count H.Way.idle_count H.Way.is_closed workers.limit
         (H.got hall.old) (H.got hall.new)
         history result.records) }
+    ensures results { options.wq ≡ true → H.Way.tells → OnOk result.how (AreResults
+        H.Way.history (H.got hall.old) (H.got hall.new) history result.records) }
     ensures calm { options.wq ≡ true → H.Way.tells → H.sure hall.old
         → AllSure R.sure runners.old → ComeFew H.Way.history H.Way.count
         H.Way.idle_count H.Way.is_closed (H.got hall.old) (H.got hall.new)

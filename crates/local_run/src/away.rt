@@ -16,7 +16,7 @@ ghost use Rattle.local_run.specs.declared.halt.Halt.{Halt as HaltValue};
 ghost use Rattle.local_run.specs.Beyond.{IsClaimed};
 ghost use Rattle.local_run.specs.Beyond.{changed_by, claimed_by, done_by, failed_by, joined_by};
 ghost use Rattle.local_run.specs.Beyond.{left_by, lost_by};
-ghost use Rattle.local_run.specs.Losses.{LosesIt, SparesAll};
+ghost use Rattle.local_run.specs.Losses.{EndsIt, LosesIt, SparesAll, done_as, failed_as};
 ghost use Rattle.local_run.specs.Underway.{AwayState, IsSurePool, NoneOn, RunsAt, Underway};
 ghost use Rattle.local_run.specs.Underway.{halt_after};
 
@@ -180,7 +180,8 @@ pub fn finish_away<B: PoolTerms, F: Commands, S: Site, T: Terms>(
         → Underway T.trust F.gives F.may_fail T.sources S.tells T.kept (IsSurePool B.fits)
         S.files S.may_leave S.moment S.images_since (done_by (front ++ back) away) first
         desk.new held waiting None heard (halt_after result halt) }
-    ensures spares { OnOk result (SparesAll desk.old.moves desk.new.moves) }
+    ensures ends { OnOk result
+        (EndsIt desk.old.moves attempt (done_as attempt outs.now) desk.new.moves) }
 {
     finish::<B, F, S, T>(desk, attempt, outs, moment)
 }
@@ -209,8 +210,10 @@ pub fn fail_away<B: PoolTerms, F: Commands, S: Site, T: Terms>(
         → Underway T.trust F.gives F.may_fail T.sources S.tells T.kept (IsSurePool B.fits)
         S.files S.may_leave S.moment S.images_since (failed_by (front ++ back) away) first
         desk.new held waiting None heard (halt_after result halt) }
-    ensures spares { OnOk result (SparesAll desk.old.moves desk.new.moves) }
+    ensures ends { OnOk result
+        (EndsIt desk.old.moves attempt (failed_as attempt why) desk.new.moves) }
 {
+    let _works = desk.works();
     match desk.fail(attempt, why, moment) {
         Ok(_) => Ok(()),
         Err(CloseRefused::Stale { .. }) => unreachable!(),

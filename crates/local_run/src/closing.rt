@@ -14,7 +14,7 @@ ghost use Rattle.desk.specs.declared.attempt.Attempt.{Attempt as AttemptValue};
 ghost use Rattle.desk.specs.State.{AreOutputs, DeskState, IsDue, IsFine};
 ghost use Rattle.local_run.specs.declared.halt.Halt.{Halt as HaltValue};
 ghost use Rattle.local_run.specs.Course.{GivesUp};
-ghost use Rattle.local_run.specs.Losses.{SparesAll};
+ghost use Rattle.local_run.specs.Losses.{EndsIt, done_as, failed_as};
 ghost use Rattle.local_run.specs.Underway.{AwayState};
 ghost use Rattle.local_run.specs.Underway.{IsSurePool, MayStop, RunsAt, Underway, halt_after};
 
@@ -79,8 +79,10 @@ pub(crate) fn finish<B: PoolTerms, F: Commands, S: Site, T: Terms>(
         S.files S.may_leave S.moment S.images_since away first
         desk.new held waiting None heard
         (halt_after result halt) }
-    ensures spares { OnOk result (SparesAll desk.old.moves desk.new.moves) }
+    ensures ends { OnOk result
+        (EndsIt desk.old.moves attempt (done_as attempt outs.now) desk.new.moves) }
 {
+    let _works = desk.works();
     match desk.finish(attempt, outs, moment) {
         Ok(()) => Ok(()),
         Err(CloseRefused::Stale { .. }) => unreachable!(),
@@ -113,8 +115,10 @@ pub(crate) fn fail<B: PoolTerms, F: Commands, S: Site, T: Terms>(
         S.files S.may_leave S.moment S.images_since away first
         desk.new held waiting None
         (plus heard (tally_of (outcomes.Failed why))) (halt_after result halt) }
-    ensures spares { OnOk result (SparesAll desk.old.moves desk.new.moves) }
+    ensures ends { OnOk result
+        (EndsIt desk.old.moves attempt (failed_as attempt why) desk.new.moves) }
 {
+    let _works = desk.works();
     match desk.fail(attempt, why, moment) {
         Ok(_) => Ok(()),
         Err(CloseRefused::Stale { .. }) => unreachable!(),

@@ -46,7 +46,7 @@ fn close<B: PoolTerms, F: Commands, S: Site, T: Terms, C: Clock>(
         S.files S.may_leave S.moment S.images_since away first
         desk.new held waiting None (plus heard (tally_of outcome))
         (halt_after result halt) }
-    ensures spares { OnOk result (SparesAll desk.old.moves desk.new.moves) }
+    ensures spares { attempt.link.0 ≡ 0 → OnOk result (SparesAll desk.old.moves desk.new.moves) }
 {
     match outcome {
         Outcome::Success(outs) => finish::<B, F, S, T>(desk, attempt, &outs, clock.now()),

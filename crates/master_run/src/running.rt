@@ -14,6 +14,7 @@ ghost use Rattle.report.specs.Causes.{kind_of, may_lose};
 ghost use Rattle.master_run.specs.Ends.{counts};
 ghost use Rattle.wq_run.specs.Ends.{AreBack};
 ghost use Rattle.wq_run.specs.Losses.{AreDueLosses};
+ghost use Rattle.wq_run.specs.Results.{AreResults};
 ghost use Rattle.wq_run.specs.Vain.{AreVain};
 ghost use Rattle.master_run.specs.Headline.{FailureEnd, IfWaited, LogsFailed, WaitsInVain};
 ghost use Rattle.master_run.specs.Headline.{is_run_end};
@@ -106,6 +107,10 @@ fn run_by_all<
         → Spells G (S.files site ask.log) → IsFalse (may_lose (kind_of result.cause))
         → AreDueLosses F.gives F.may_fail H.Way.history H.Way.count H.Way.idle_count
         H.Way.is_closed ask.workers.limit (H.got hall.old) (H.got hall.new) G result.records }
+    ensures results { H.Way.tells → S.tells → (G : List RecordValue)
+        → Spells G (S.files site ask.log) → ask.options.wq ≡ true → ask.work ≡ Run
+        → IsFalse (may_lose (kind_of result.cause)) → AreResults H.Way.history
+        (H.got hall.old) (H.got hall.new) G result.records }
     ensures sure_links { S.tells → (G : List RecordValue) → Spells G (S.files site ask.log)
         → ask.options.wq ≡ true → ask.work ≡ Run → AllSure R.sure runners.old
         → AreSureLinks H.Way.tells (H.honest hall.old) (H.sure hall.old) H.Way.history
@@ -231,6 +236,10 @@ pub fn run_flow<
         → Spells G (S.files site ask.log) → IsFalse (may_lose (kind_of result.cause))
         → AreDueLosses F.gives F.may_fail H.Way.history H.Way.count H.Way.idle_count
         H.Way.is_closed ask.workers.limit (H.got hall.old) (H.got hall.new) G result.records }
+    ensures results { H.Way.tells → S.tells → (G : List RecordValue)
+        → Spells G (S.files site ask.log) → ask.options.wq ≡ true → ask.work ≡ Run
+        → IsFalse (may_lose (kind_of result.cause)) → AreResults H.Way.history
+        (H.got hall.old) (H.got hall.new) G result.records }
     ensures sure_links { S.tells → (G : List RecordValue) → Spells G (S.files site ask.log)
         → ask.options.wq ≡ true → ask.work ≡ Run → AllSure R.sure runners.old
         → AreSureLinks H.Way.tells (H.honest hall.old) (H.sure hall.old) H.Way.history

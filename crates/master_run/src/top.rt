@@ -26,6 +26,7 @@ ghost use Rattle.report.specs.Causes.{was_read};
 ghost use Rattle.master_run.specs.declared.ask.Ask.{Ask as AskValue};
 ghost use Rattle.wq_run.specs.Ends.{AreBack, LosesOnLinks};
 ghost use Rattle.wq_run.specs.Losses.{AreDueLosses};
+ghost use Rattle.wq_run.specs.Results.{AreResults};
 ghost use Rattle.wq_run.specs.Vain.{AreVain};
 ghost use Rattle.flow_run.specs.Places.{PlacedBy};
 ghost use Rattle.master_run.specs.Added.{CallAdds};
@@ -139,6 +140,10 @@ fn serve<
         → Spells G (S.files site ask.log) → IsFalse (may_lose (kind_of result.cause))
         → AreDueLosses F.gives F.may_fail H.Way.history H.Way.count H.Way.idle_count
         H.Way.is_closed ask.workers.limit (H.got hall.old) (H.got hall.new) G result.records }
+    ensures results { H.Way.tells → S.tells → (G : List RecordValue)
+        → Spells G (S.files site ask.log) → ask.options.wq ≡ true → ask.work ≡ Run
+        → IsFalse (may_lose (kind_of result.cause)) → AreResults H.Way.history
+        (H.got hall.old) (H.got hall.new) G result.records }
     ensures sure_links { S.tells → (G : List RecordValue) → Spells G (S.files site ask.log)
         → ask.options.wq ≡ true → ask.work ≡ Run → AllSure R.sure runners.old
         → AreSureLinks H.Way.tells (H.honest hall.old) (H.sure hall.old) H.Way.history
@@ -252,6 +257,12 @@ fn follow<
         → IsFalse (may_lose (kind_of result.cause))
         → AreDueLosses F.gives F.may_fail H.Way.history H.Way.count H.Way.idle_count
         H.Way.is_closed options.limits.idle (H.got hall.old) (H.got hall.new) G result.records }
+    ensures results { H.Way.tells → S.tells → (ask : AskValue)
+        → request words.now env.now (S.files site) ≡ Ok ask
+        → (G : List RecordValue) → Spells G (S.files site ask.log)
+        → ask.options.wq ≡ true → ask.work ≡ Run
+        → IsFalse (may_lose (kind_of result.cause)) → AreResults H.Way.history
+        (H.got hall.old) (H.got hall.new) G result.records }
     ensures sure_links { S.tells → (ask : AskValue)
         → request words.now env.now (S.files site) ≡ Ok ask
         → (G : List RecordValue) → Spells G (S.files site ask.log)
@@ -420,6 +431,15 @@ pub fn makeflow_top<
         (λ ask G. IsFalse (may_lose (kind_of result.cause))
         → AreDueLosses F.gives F.may_fail H.Way.history H.Way.count H.Way.idle_count
         H.Way.is_closed options.limits.idle (H.got hall.old) (H.got hall.new) G result.records) }
+
+    // There each attempt that came to its end was started here, or on a link that was handed back
+    // under its number, over which its result came, with the sizes and digests that were logged or
+    // the failure that was, for a task that was sent behind its inputs.
+    ensures results { H.Way.tells → S.tells
+        → OfLog (request words.now env.now (S.files site)) (S.files site)
+        (λ ask G. ask.options.wq ≡ true → ask.work ≡ Run
+        → IsFalse (may_lose (kind_of result.cause)) → AreResults H.Way.history
+        (H.got hall.old) (H.got hall.new) G result.records) }
 
     // Each link that the hall gave is handed back, and where no worker is asked for the hall stays
     // as it was.

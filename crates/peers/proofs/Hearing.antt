@@ -157,11 +157,12 @@ module _ (gives : Function) (may_fail : Job → Failure → Type 0) (history : L
 
       -- how an attempt ended, by the task that was said
       result_of : (attempt : AttemptNo) (outcome : Outcome) (o : Open) → Takes (messages.Done attempt outcome) feed next → Is heard o → o.attempt ≡ attempt → HasRun outcome
-          → outcome_fits o.bounds outcome ≡ true → IsResult gives may_fail history said attempt outcome
+          → outcome_fits o.bounds outcome ≡ true → IsResult gives may_fail history said (heard ++ messages.Done attempt outcome ∷ []) attempt outcome
       result_of attempt outcome o takes is same ran fits =
           let its : is.task.attempt ≡ attempt = sym is.attempt ∙ same in
           let ours = asked_of is.task is.booked in
           record {
+            came = among_last (messages.Done attempt outcome) heard;
             task = is.task;
             of_attempt = its;
             asked = ours;

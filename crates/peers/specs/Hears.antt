@@ -82,10 +82,11 @@ Hears old before (Err leaves.Memory) new after = Unit {0}
 Hears old before (Err leaves.Closed) new after = ⊥
 Hears old before (Err leaves.Failed) new after = ⊥
 
--- The outcome fits a task that was said under the attempt; and where what was put is due and the
--- link was honest, it is the one that the task's job over what is due may have.
+-- The outcome was heard, and fits a task that was said under the attempt; and where what was put is
+-- due and the link was honest, it is the one that the task's job over what is due may have.
 pub record IsResult (gives : Function) (may_fail : Job → Failure → Type 0) (history : List Passed)
-    (said : List Message) (attempt : AttemptNo) (outcome : Outcome) : Type 0 where
+    (said heard : List Message) (attempt : AttemptNo) (outcome : Outcome) : Type 0 where
+  pub came : IsAmong (messages.Done attempt outcome) heard
   pub task : Task
   pub of_attempt : task.attempt ≡ attempt
   pub asked : IsAmong (messages.Task task) said
@@ -111,9 +112,9 @@ IsTold gives may_fail history said heard (tell.Joined total largest cache) =
 IsTold gives may_fail history said heard (tell.Changed total largest cache) =
     IsAmong (messages.Totals total largest cache) heard
 IsTold gives may_fail history said heard (tell.Finish attempt outs) =
-    IsResult gives may_fail history said attempt (outcomes.Success outs)
+    IsResult gives may_fail history said heard attempt (outcomes.Success outs)
 IsTold gives may_fail history said heard (tell.Fail attempt why) =
-    IsResult gives may_fail history said attempt (outcomes.Failed why)
+    IsResult gives may_fail history said heard attempt (outcomes.Failed why)
 IsTold gives may_fail history said heard (tell.Lose attempt) =
     IsAmong (messages.Done attempt outcomes.NotRun) heard
     ⊎ (most_missings ≤ missings_of attempt heard)

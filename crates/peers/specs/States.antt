@@ -38,9 +38,10 @@ pub record GoesOn {L : Type 0} (honest sure : L → Type 0) (offers : L → Amou
   pub surely : sure old → sure new
   pub offering : (amounts : Amounts) → offers old amounts → offers new amounts
 
--- What was received stays, and more may stand behind it.
-abbrev pub ReceivesOn : List Passed → List Passed → Type 0
-ReceivesOn old new = (more : List ℕ) × (received_in new ≡ received_in old ++ more)
+-- What passed stays: more may have been received behind it, and more been sent.
+abbrev pub PassesOn : List Passed → List Passed → Type 0
+PassesOn old new = (more : List ℕ) × (received_in new ≡ received_in old ++ more)
+    × ((out : List ℕ) × (sent_in new ≡ sent_in old ++ out))
 
 -- why a call that sends may leave its link: the link failed in it, or memory was wanting
 abbrev pub FailsAs : ℕ → ℕ → Leave → Type 0

@@ -18,7 +18,7 @@ ghost use Rattle.peers.specs.Hears.{Hears, IsCalm, ServesOn, Turns};
 ghost use Rattle.peers.specs.Provides.{Provides};
 ghost use Rattle.peers.specs.Sends.{ServesAfter, ServesWhere, StaysServed};
 ghost use Rattle.peers.specs.Serves.{IsNew, IsSettled, IsStillOwed, Serves};
-ghost use Rattle.peers.specs.States.{GoesOn, MayListen, MaySend, OnlyMemory, ReceivesOn, Rests};
+ghost use Rattle.peers.specs.States.{GoesOn, MayListen, MaySend, OnlyMemory, PassesOn, Rests};
 ghost use Rattle.peers.specs.States.{Settled, new_peer, no_key};
 ghost use Rattle.peers.specs.Strangers.{is_stranger, may_greet};
 
@@ -197,7 +197,7 @@ impl<F: Commands, L: Link<F>> Peer<F, L> {
         ensures going { self.old.feed.stop ≡ None → self.new.feed.stop ≡ None }
         ensures rests { IfOk result (Rests (L.idle_count self.old.way)
             (L.idle_count self.new.way) self.old.feed self.new.feed) }
-        ensures kept { L.tells → ReceivesOn (L.history self.old.way) (L.history self.new.way) }
+        ensures kept { L.tells → PassesOn (L.history self.old.way) (L.history self.new.way) }
         ensures on { GoesOn L.honest L.sure L.offers self.old.way self.new.way }
         ensures cause { MayListen (L.is_closed self.old.way) (L.is_closed self.new.way)
             (L.count self.old.way) (L.count self.new.way) result }
@@ -275,7 +275,7 @@ impl<F: Commands, L: Link<F>> Peer<F, L> {
             said heard waiting
             → ServesAfter F.gives F.may_fail (messages.Put key content) said heard waiting
             result (L.history self.new.way) self.new.feed self.new.session }
-        ensures kept { L.tells → ReceivesOn (L.history self.old.way) (L.history self.new.way) }
+        ensures kept { L.tells → PassesOn (L.history self.old.way) (L.history self.new.way) }
         ensures on { GoesOn L.honest L.sure L.offers self.old.way self.new.way }
         ensures closed { L.is_closed self.new.way ≡ L.is_closed self.old.way }
         ensures cause { MaySend (L.count self.old.way) (L.count self.new.way) result }
@@ -301,7 +301,7 @@ impl<F: Commands, L: Link<F>> Peer<F, L> {
             → IsAmong (messages.Task task) said
             → ServesAfter F.gives F.may_fail (messages.Task task) said heard None
             result (L.history self.new.way) self.new.feed self.new.session }
-        ensures kept { L.tells → ReceivesOn (L.history self.old.way) (L.history self.new.way) }
+        ensures kept { L.tells → PassesOn (L.history self.old.way) (L.history self.new.way) }
         ensures on { GoesOn L.honest L.sure L.offers self.old.way self.new.way }
         ensures closed { L.is_closed self.new.way ≡ L.is_closed self.old.way }
         ensures cause { MaySend (L.count self.old.way) (L.count self.new.way) result }
@@ -325,7 +325,7 @@ impl<F: Commands, L: Link<F>> Peer<F, L> {
             said heard waiting
             → ServesWhere F.gives F.may_fail (messages.Cancel attempt) said heard waiting
             result (L.history self.new.way) self.new.feed self.new.session }
-        ensures kept { L.tells → ReceivesOn (L.history self.old.way) (L.history self.new.way) }
+        ensures kept { L.tells → PassesOn (L.history self.old.way) (L.history self.new.way) }
         ensures on { GoesOn L.honest L.sure L.offers self.old.way self.new.way }
         ensures closed { L.is_closed self.new.way ≡ L.is_closed self.old.way }
         ensures cause { MaySend (L.count self.old.way) (L.count self.new.way) result }
@@ -357,7 +357,7 @@ impl<F: Commands, L: Link<F>> Peer<F, L> {
             → ServesWhere F.gives F.may_fail
             (messages.Unlink (key_of self.old.session.run file)) said heard waiting
             result (L.history self.new.way) self.new.feed self.new.session }
-        ensures kept { L.tells → ReceivesOn (L.history self.old.way) (L.history self.new.way) }
+        ensures kept { L.tells → PassesOn (L.history self.old.way) (L.history self.new.way) }
         ensures on { GoesOn L.honest L.sure L.offers self.old.way self.new.way }
         ensures closed { L.is_closed self.new.way ≡ L.is_closed self.old.way }
         ensures cause { MaySend (L.count self.old.way) (L.count self.new.way) result }
@@ -387,7 +387,7 @@ impl<F: Commands, L: Link<F>> Peer<F, L> {
             said heard waiting
             → Serves F.gives F.may_fail (L.history self.new.way) self.new.feed self.new.session
             said heard waiting }
-        ensures kept { L.tells → ReceivesOn (L.history self.old.way) (L.history self.new.way) }
+        ensures kept { L.tells → PassesOn (L.history self.old.way) (L.history self.new.way) }
         ensures on { GoesOn L.honest L.sure L.offers self.old.way self.new.way }
         ensures idles { L.idle_count self.new.way ≡ L.idle_count self.old.way }
         ensures closed { L.is_closed self.new.way ≡ L.is_closed self.old.way }
@@ -410,7 +410,7 @@ impl<F: Commands, L: Link<F>> Peer<F, L> {
             said heard waiting
             → ServesAfter F.gives F.may_fail (messages.Unlink no_key) said heard waiting
             result (L.history self.new.way) self.new.feed self.new.session }
-        ensures kept { L.tells → ReceivesOn (L.history self.old.way) (L.history self.new.way) }
+        ensures kept { L.tells → PassesOn (L.history self.old.way) (L.history self.new.way) }
         ensures on { GoesOn L.honest L.sure L.offers self.old.way self.new.way }
         ensures closed { L.is_closed self.new.way ≡ L.is_closed self.old.way }
         ensures cause { MaySend (L.count self.old.way) (L.count self.new.way) result }
@@ -432,7 +432,7 @@ impl<F: Commands, L: Link<F>> Peer<F, L> {
             said heard waiting
             → ServesAfter F.gives F.may_fail messages.Bye said heard waiting
             result (L.history self.new.way) self.new.feed self.new.session }
-        ensures kept { L.tells → ReceivesOn (L.history self.old.way) (L.history self.new.way) }
+        ensures kept { L.tells → PassesOn (L.history self.old.way) (L.history self.new.way) }
         ensures on { GoesOn L.honest L.sure L.offers self.old.way self.new.way }
         ensures closed { L.is_closed self.new.way ≡ L.is_closed self.old.way }
         ensures cause { MaySend (L.count self.old.way) (L.count self.new.way) result }

@@ -53,7 +53,7 @@ use Rattle.peers.proofs.Serving.{among_or}
 use Rattle.local_run.specs.declared.halt.Halt.{Halt}
 use Rattle.local_run.specs.Beyond.{claimed_by}
 use Rattle.local_run.specs.Ends.{failed_count, is_failed}
-use Rattle.local_run.specs.Losses.{SparesAll, is_lost}
+use Rattle.local_run.specs.Losses.{EndsIt, SparesAll, done_as, is_lost}
 use Rattle.local_run.specs.Underway.{AwayState, HeldState, StoppedBy, Underway, halt_after}
 use Rattle.local_run.proofs.Going.{records_grown}
 use Rattle.wq_run.specs.Calm.{AddsWell, Asked, FaresWell, IsSureOf, IsSureGuest, IsSureSeat, IsSureToAsk, IsTended, IsWantOr, StaysOr, goes_wrong}
@@ -61,6 +61,7 @@ use Rattle.wq_run.specs.Dues.{IsFull}
 use Rattle.wq_run.specs.Seats.{IsAtSeat, SeatState}
 use Rattle.wq_run.specs.Trusted.{IsUpTo}
 use Rattle.wq_run.proofs.Fares.{halted_never}
+use Rattle.wq_run.proofs.Known.{known_on}
 
 -- ---- records
 
@@ -370,19 +371,6 @@ module _ {L : Type 0} (gives : Function) (may_fail : Job → Failure → Type 0)
 
   -- ---- what is heard
 
-  means_known : (feed next : Stream) (s after : State) (t : Told) (said : List Message) → ProvidesHeard → (let r : Result Told Leave = Ok t in Means feed s r next after) → Provides s.known said None [] → Provides after.known said None []
-  means_known feed next s after t said hears h is = let turns = h.2 in subst (λ (x : State). Provides x.known said None []) (sym turns.2) (hears s said h.0 is)
-
-  known_on : (feed next : Stream) (s after : State) (t : Told) (said : List Message) → ProvidesHeard → (let r : Result Told Leave = Ok t in Hears feed s r next after) → Provides s.known said None [] → Provides after.known said None []
-  known_on feed next s after tell.Nothing said hears h is = subst (λ (x : State). Provides x.known said None []) (sym h.2) is
-  known_on feed next s after (tell.Joined total largest cache) said hears h is = means_known feed next s after (tell.Joined total largest cache) said hears h is
-  known_on feed next s after (tell.Changed total largest cache) said hears h is = means_known feed next s after (tell.Changed total largest cache) said hears h is
-  known_on feed next s after (tell.Finish attempt outs) said hears h is = means_known feed next s after (tell.Finish attempt outs) said hears h is
-  known_on feed next s after (tell.Fail attempt why) said hears h is = means_known feed next s after (tell.Fail attempt why) said hears h is
-  known_on feed next s after (tell.Lose attempt) said hears h is = means_known feed next s after (tell.Lose attempt) said hears h is
-  known_on feed next s after (tell.PutAgain attempt files) said hears h is = means_known feed next s after (tell.PutAgain attempt files) said hears h is
-  known_on feed next s after (tell.Stale attempt) said hears h is = means_known feed next s after (tell.Stale attempt) said hears h is
-
   -- what the peer is served with once that was heard
   pub record ServedNow (p : PeerState L) (said : List Message) : Type 0 where
     pub heard : List Message
@@ -489,11 +477,10 @@ module _ {S : Type 0} (trust : Type 0) (gives : Function) (may_fail : Job → Fa
       let v = step away front is.back is.first held.attempts is.waiting is.heard (is.at.are ∙ sym (append_assoc is.front s.attempts is.back)) u in
       well_by d.moves after.moves spares (failures_same u v refl none refl (claimed_failed r front is.back away))
 
-  -- an attempt ends well there
-  pub ends_well : (d after : DeskState S) (r : Result (Unit {0}) Halt) (away away_now : AwayState) (first : DeskState S) (xs : List Attempt) (waiting : List Start) (heard : Tally) → OnOk r (SparesAll d.moves after.moves)
-      → Runs away first d xs waiting heard None → Runs away_now first after xs waiting heard (halt_after r None) → away_now.failed ≡ away.failed → OnOk r (AddsWell d.moves after.moves)
-  ends_well d after (Ok done) away away_now first xs waiting heard spares u v same = well_by d.moves after.moves spares (failures_same u v refl refl refl same)
-  ends_well d after (Err why) away away_now first xs waiting heard spares u v same = tt
+-- an attempt ends well
+pub ends_well : {S : Type 0} (d after : DeskState S) (a : Attempt) (outs : List (List ℕ)) (r : Result (Unit {0}) Halt) → OnOk r (EndsIt d.moves a (done_as a outs) after.moves) → OnOk r (AddsWell d.moves after.moves)
+ends_well d after a outs (Ok done) ends = record { more = moves.Logged (done_as a outs ends.moment) ∷ []; are = ends.are; none = refl }
+ends_well d after a outs (Err why) ends = tt
 
 abbrev is_success : Outcome → Bool
 is_success (outcomes.Success outs) = true

@@ -1,10 +1,13 @@
 -- What is due goes on being due, step by step.
 use Rattle.std.proofs.Common.{◌≡◌, ◌≤◌, ◌+◌, ◌⊎◌, inl, inr, ⊎_elim, ◌∙◌, ℕ, Bool, true, false, List, [], ◌∷◌, ◌++◌, Option, Some, None, Result, Ok, Err, length, length-append, refl, sym, ap, subst, arith, append_assoc, true≢false}
-use Rattle.std.specs.Prelude.{OnOk}
+use Rattle.std.specs.Prelude.{All, OnOk}
+use Rattle.std.specs.List.{list_all, list_any}
 use Rattle.std.proofs.lemmas.List.{append-nil}
-use Rattle.std.proofs.lemmas.List.Elements.{All-nil, All-weaker}
+use Rattle.std.proofs.lemmas.Bool.{and_parts}
+use Rattle.std.proofs.lemmas.List.Elements.{All-cons, All-nil, All-weaker}
 use Rattle.flow_types.specs.declared.numbers.AttemptNo.{AttemptNo}
 use Rattle.flow_types.specs.declared.numbers.LinkNo.{LinkNo}
+use Rattle.flow_types.specs.declared.numbers.RuleNo.{RuleNo}
 use Rattle.flow_types.specs.declared.job.Failure.{Failure}
 use Rattle.flow_types.specs.declared.job.Job.{Job}
 use Rattle.flow_types.specs.declared.records.Record.{Record}
@@ -14,6 +17,7 @@ use Rattle.run_history.specs.declared.moves.Move.{Move}
 use Rattle.run_history.specs.declared.moves.Move.TheVariants as moves
 use Rattle.run_history.specs.declared.answers.Check.{Check}
 use Rattle.run_history.specs.declared.answers.Stop.{Stop}
+use Rattle.run_history.specs.History.{is_end}
 use Rattle.run_history.specs.Links.{records_of}
 use Rattle.run_history.specs.Moves.{joins_and_changes}
 use Rattle.links.specs.declared.passing.Passed.{Passed}
@@ -26,15 +30,16 @@ use Rattle.outside.specs.Files.{Files}
 use Rattle.local_run.specs.declared.ended.Stopped.{Stopped}
 use Rattle.local_run.specs.declared.halt.Halt.{Halt}
 use Rattle.local_run.specs.Links.{link_moves}
-use Rattle.local_run.specs.Losses.{SparesAll, is_lost, starts_on}
+use Rattle.local_run.specs.Losses.{EndsHere, SparesAll, is_lost, starts_on}
 use Rattle.local_run.specs.Underway.{halt_after}
 use Rattle.wq_run.specs.Seats.{CompanyState, Inside, Meets, SeatState, inside_of}
 use Rattle.wq_run.specs.Losses.{AreDueLosses, GaveBack, IsDueLossBy, IsDueTo, accounts_of}
-use Rattle.wq_run.specs.Dues.{AddsSo, AreDue, AreDueBut, AreDueBy, CameAll, CameBack, DuesAt, FaresSeat, GivesUp, HasCome, HasHeard, HeardAll, HeardBut, IsBackAt, IsBehind, IsCounted, IsDueBack, IsDueLoss, IsFull, IsGivenBack, IsIllLink, IsStartedOn, KeepsDue, KeepsDueBut, LeavesAt, LeavesFor, LosesDuly, MayLeaveAt, left_lost}
+use Rattle.wq_run.specs.Results.{AreResults, IsResultBy, IsShownBy, ShowsEnd}
+use Rattle.wq_run.specs.Dues.{AddsSo, AreDue, AreDueBut, AreDueBy, CameAll, CameBack, DuesAt, FaresSeat, GivesUp, HasCome, HasHeard, HeardAll, HeardBut, IsBehind, IsCounted, IsDueBack, IsDueLoss, IsDueResult, IsFull, IsIllLink, IsShownAt, IsShownBack, IsShownOn, IsStartedOn, KeepsDue, KeepsDueBut, LeavesAt, LeavesFor, LosesDuly, MayLeaveAt, left_lost}
 use Rattle.wq_run.specs.Works.{EndsAt, HasEnd, with_check}
 use Rattle.wq_run.proofs.Counting.{meets_none}
 use Rattle.wq_run.proofs.Heards.{came_append, came_nothing, came_one, heard_apart, heard_come, heard_left, heard_put, heard_split, joins_append, quiet_on}
-use Rattle.wq_run.proofs.Fares.{adds_then, any_later, gave_on, halted_never, records_after, same_so, spares_same, spares_so, started_later, unlost_started}
+use Rattle.wq_run.proofs.Fares.{adds_then, any_later, halted_never, records_after, same_so, shows_on, spares_same, spares_so, started_later, unlost_started}
 
 -- ---- moves behind others
 
@@ -80,36 +85,51 @@ module _ {L : Type 0} (ill : LinkNo → L → Type 0) (history : L → List Pass
 
   -- ---- one step
 
-  -- what was due by seats is due by those that are there then, or by a link that was handed back
-  abbrev pub SeatsOn : Links → Links → List (SeatState L) → List (SeatState L) → Type 0 → Type 0
-  SeatsOn before got_now seats seats_now full = (link : LinkNo) (number : AttemptNo) → IsBackAt history link.0 number seats → IsBackAt history link.0 number seats_now ⊎ IsDueBack ill history before got_now full link number
+  shown_back_later : (before got more all : Links) (link : LinkNo) (x : Record) → all ≡ got ++ more → IsShownBack history before got link x → IsShownBack history before all link x
+  shown_back_later before got more all link x are back = record { way = back.way; back = came_later before got more all link back.way are back.back; shown = back.shown }
 
-  due_on : (before got more got_now : Links) (seats seats_now : List (SeatState L)) (full full_now : Type 0) (link : LinkNo) (number : AttemptNo) → got_now ≡ got ++ more → (full → full_now) → SeatsOn before got_now seats seats_now full_now
-      → IsBackAt history link.0 number seats ⊎ IsDueBack ill history before got full link number → IsBackAt history link.0 number seats_now ⊎ IsDueBack ill history before got_now full_now link number
-  due_on before got more got_now seats seats_now full full_now link number are on there (inl at) = there link number at
-  due_on before got more got_now seats seats_now full full_now link number are on there (inr back) = inr (due_back_later before got more got_now full full_now link number are on back)
+  -- what seats showed is shown by those that are there then, or by a link that was handed back
+  abbrev pub SeatsOn : Links → Links → List (SeatState L) → List (SeatState L) → Type 0
+  SeatsOn before got_now seats seats_now = (link : LinkNo) (x : Record) → IsShownAt history link.0 x seats → IsShownAt history link.0 x seats_now ⊎ IsShownBack history before got_now link x
 
-  loss_on : (before got more got_now : Links) (seats seats_now : List (SeatState L)) (full full_now : Type 0) (H behind all : List Record) → got_now ≡ got ++ more → (full → full_now) → SeatsOn before got_now seats seats_now full_now → all ≡ H ++ behind
+  shown_on : (before got more got_now : Links) (seats seats_now : List (SeatState L)) (link : LinkNo) (x : Record) → got_now ≡ got ++ more → SeatsOn before got_now seats seats_now
+      → IsShownAt history link.0 x seats ⊎ IsShownBack history before got link x → IsShownAt history link.0 x seats_now ⊎ IsShownBack history before got_now link x
+  shown_on before got more got_now seats seats_now link x are there (inl at) = there link x at
+  shown_on before got more got_now seats seats_now link x are there (inr back) = inr (shown_back_later before got more got_now link x are back)
+
+  due_on : (before got more got_now : Links) (seats seats_now : List (SeatState L)) (full full_now : Type 0) (link : LinkNo) (moment : ℕ) (rule : RuleNo) (number : AttemptNo) → got_now ≡ got ++ more → (full → full_now) → SeatsOn before got_now seats seats_now
+      → IsShownAt history link.0 (records.Lost moment rule number) seats ⊎ IsDueBack ill history before got full link number → IsShownAt history link.0 (records.Lost moment rule number) seats_now ⊎ IsDueBack ill history before got_now full_now link number
+  due_on before got more got_now seats seats_now full full_now link moment rule number are on there (inl at) =
+      ⊎_elim (λ here. inl here) (λ back. inr (record { way = back.way; back = back.back; cause = inr (inl back.shown) })) (there link (records.Lost moment rule number) at)
+  due_on before got more got_now seats seats_now full full_now link moment rule number are on there (inr back) = inr (due_back_later before got more got_now full full_now link number are on back)
+
+  result_on : (before got more got_now : Links) (seats seats_now : List (SeatState L)) (H behind all : List Record) (rule : RuleNo) (attempt : AttemptNo) (x : Record) → got_now ≡ got ++ more → SeatsOn before got_now seats seats_now → all ≡ H ++ behind
+      → IsDueResult history before got seats H rule attempt x → IsDueResult history before got_now seats_now all rule attempt x
+  result_on before got more got_now seats seats_now H behind all rule attempt x are there grown (inl here) = inl (any_later (starts_on 0 rule.0 attempt.0) H behind all grown here)
+  result_on before got more got_now seats seats_now H behind all rule attempt x are there grown (inr is) =
+      inr (is.0, any_later (starts_on is.0.0 rule.0 attempt.0) H behind all grown is.1, shown_on before got more got_now seats seats_now is.0 x are there is.2)
+
+  loss_on : (before got more got_now : Links) (seats seats_now : List (SeatState L)) (full full_now : Type 0) (H behind all : List Record) → got_now ≡ got ++ more → (full → full_now) → SeatsOn before got_now seats seats_now → all ≡ H ++ behind
       → (x : Record) → IsDueLoss ill history before got seats full H x → IsDueLoss ill history before got_now seats_now full_now all x
   loss_on before got more got_now seats seats_now full full_now H behind all are on there grown (records.Opened moment run retries limit plan sources) is = tt
   loss_on before got more got_now seats seats_now full full_now H behind all are on there grown (records.Resumed moment run retries limit) is = tt
   loss_on before got more got_now seats seats_now full full_now H behind all are on there grown (records.Started moment rule attempt at) is = tt
-  loss_on before got more got_now seats seats_now full full_now H behind all are on there grown (records.Done moment rule attempt outs) is = tt
-  loss_on before got more got_now seats seats_now full full_now H behind all are on there grown (records.Failed moment rule attempt why) is = tt
+  loss_on before got more got_now seats seats_now full full_now H behind all are on there grown (records.Done moment rule attempt outs) is = result_on before got more got_now seats seats_now H behind all rule attempt (records.Done moment rule attempt outs) are there grown is
+  loss_on before got more got_now seats seats_now full full_now H behind all are on there grown (records.Failed moment rule attempt why) is = result_on before got more got_now seats seats_now H behind all rule attempt (records.Failed moment rule attempt why) are there grown is
   loss_on before got more got_now seats seats_now full full_now H behind all are on there grown (records.Lost moment rule attempt) is =
-      (is.0, any_later (starts_on is.0.0 rule.0 attempt.0) H behind all grown is.1, due_on before got more got_now seats seats_now full full_now is.0 attempt are on there is.2)
+      (is.0, any_later (starts_on is.0.0 rule.0 attempt.0) H behind all grown is.1, due_on before got more got_now seats seats_now full full_now is.0 moment rule attempt are on there is.2)
   loss_on before got more got_now seats seats_now full full_now H behind all are on there grown (records.Dropped moment file) is = tt
   loss_on before got more got_now seats seats_now full full_now H behind all are on there grown (records.Ended moment kind) is = tt
 
-  pub unlost_due : (before got : Links) (seats : List (SeatState L)) (full : Type 0) (all : List Record) (x : Record) → is_lost x ≡ false → IsDueLoss ill history before got seats full all x
-  unlost_due before got seats full all (records.Opened moment run retries limit plan sources) none = tt
-  unlost_due before got seats full all (records.Resumed moment run retries limit) none = tt
-  unlost_due before got seats full all (records.Started moment rule attempt at) none = tt
-  unlost_due before got seats full all (records.Done moment rule attempt outs) none = tt
-  unlost_due before got seats full all (records.Failed moment rule attempt why) none = tt
-  unlost_due before got seats full all (records.Lost moment rule attempt) none = absurd (true≢false none)
-  unlost_due before got seats full all (records.Dropped moment file) none = tt
-  unlost_due before got seats full all (records.Ended moment kind) none = tt
+  pub unlost_due : (before got : Links) (seats : List (SeatState L)) (full : Type 0) (all : List Record) (x : Record) → is_lost x ≡ false → EndsHere all x → IsDueLoss ill history before got seats full all x
+  unlost_due before got seats full all (records.Opened moment run retries limit plan sources) none here = tt
+  unlost_due before got seats full all (records.Resumed moment run retries limit) none here = tt
+  unlost_due before got seats full all (records.Started moment rule attempt at) none here = tt
+  unlost_due before got seats full all (records.Done moment rule attempt outs) none here = inl here
+  unlost_due before got seats full all (records.Failed moment rule attempt why) none here = inl here
+  unlost_due before got seats full all (records.Lost moment rule attempt) none here = absurd (true≢false none)
+  unlost_due before got seats full all (records.Dropped moment file) none here = tt
+  unlost_due before got seats full all (records.Ended moment kind) none here = tt
 
   -- What a step makes where the run goes on behind it: nothing had stopped it before, what was handed back stays, what was due by seats is due still, and what it gives up is due. Joins and changes were added for offers that came.
   pub record StepsOn (was now : ℕ → Type 0) (M all : List Move) (halt : Option Halt) (c c_now : CompanyState L) (before got got_now : Links) : Type 0 where
@@ -118,7 +138,7 @@ module _ {L : Type 0} (ill : LinkNo → L → Type 0) (history : L → List Pass
     pub lost_was : c.lost ≡ false
     pub more : Links
     pub are : got_now ≡ got ++ more
-    pub there : SeatsOn before got_now c.seats c_now.seats (IsFull all)
+    pub there : SeatsOn before got_now c.seats c_now.seats
     pub adds : AddsSo (IsDueLoss ill history before got_now c_now.seats (IsFull all)) M all
     pub counts : (n : ℕ) → was n → (k : ℕ) × (j : ℕ) × now k × CameAll history more j × (joins_and_changes all + n ≤ joins_and_changes M + (k + j))
 
@@ -162,30 +182,30 @@ module _ {L : Type 0} (ill : LinkNo → L → Type 0) (history : L → List Pass
 
   -- ---- the seats
 
-  same_seats : (before got_now : Links) (seats seats_now : List (SeatState L)) (full : Type 0) → seats_now ≡ seats → SeatsOn before got_now seats seats_now full
-  same_seats before got_now seats seats_now full same link number at = inl (subst (IsBackAt history link.0 number) (sym same) at)
+  same_seats : (before got_now : Links) (seats seats_now : List (SeatState L)) → seats_now ≡ seats → SeatsOn before got_now seats seats_now
+  same_seats before got_now seats seats_now same link x at = inl (subst (IsShownAt history link.0 x) (sym same) at)
 
-  more_seats : (link : ℕ) (number : AttemptNo) (seats more : List (SeatState L)) → IsBackAt history link number seats → IsBackAt history link number (seats ++ more)
-  more_seats link number [] more at = absurd at
-  more_seats link number (s ∷ seats) more (inl at) = inl at
-  more_seats link number (s ∷ seats) more (inr at) = inr (more_seats link number seats more at)
+  more_seats : (link : ℕ) (x : Record) (seats more : List (SeatState L)) → IsShownAt history link x seats → IsShownAt history link x (seats ++ more)
+  more_seats link x [] more at = absurd at
+  more_seats link x (s ∷ seats) more (inl at) = inl at
+  more_seats link x (s ∷ seats) more (inr at) = inr (more_seats link x seats more at)
 
   -- it is there where the seat stands among others
-  pub back_here : (link : ℕ) (number : AttemptNo) (f : List (SeatState L)) (s : SeatState L) (b : List (SeatState L)) → s.link.0 ≡ link → GaveBack (received_in (history s.peer.way)) number → IsBackAt history link number (f ++ (s ∷ b))
-  back_here link number [] s b same gave = inl (same, gave)
-  back_here link number (x ∷ f) s b same gave = inr (back_here link number f s b same gave)
+  pub back_here : (link : ℕ) (x : Record) (f : List (SeatState L)) (s : SeatState L) (b : List (SeatState L)) → s.link.0 ≡ link → ShowsEnd x (history s.peer.way) → IsShownAt history link x (f ++ (s ∷ b))
+  back_here link x [] s b same shown = inl (same, shown)
+  back_here link x (other ∷ f) s b same shown = inr (back_here link x f s b same shown)
 
   -- of a seat among others, or of the others
-  pub back_parts : (link : ℕ) (number : AttemptNo) (f : List (SeatState L)) (s : SeatState L) (b : List (SeatState L)) → IsBackAt history link number (f ++ (s ∷ b)) → ((s.link.0 ≡ link) × GaveBack (received_in (history s.peer.way)) number) ⊎ IsBackAt history link number (f ++ b)
-  back_parts link number [] s b (inl here) = inl here
-  back_parts link number [] s b (inr there) = inr there
-  back_parts link number (x ∷ f) s b (inl here) = inr (inl here)
-  back_parts link number (x ∷ f) s b (inr there) = ⊎_elim (λ here. inl here) (λ rest. inr (inr rest)) (back_parts link number f s b there)
+  pub back_parts : (link : ℕ) (x : Record) (f : List (SeatState L)) (s : SeatState L) (b : List (SeatState L)) → IsShownAt history link x (f ++ (s ∷ b)) → ((s.link.0 ≡ link) × ShowsEnd x (history s.peer.way)) ⊎ IsShownAt history link x (f ++ b)
+  back_parts link x [] s b (inl here) = inl here
+  back_parts link x [] s b (inr there) = inr there
+  back_parts link x (other ∷ f) s b (inl here) = inr (inl here)
+  back_parts link x (other ∷ f) s b (inr there) = ⊎_elim (λ here. inl here) (λ rest. inr (inr rest)) (back_parts link x f s b there)
 
-  back_among : (link : ℕ) (number : AttemptNo) (f : List (SeatState L)) (s : SeatState L) (b : List (SeatState L)) → IsBackAt history link number (f ++ b) → IsBackAt history link number (f ++ (s ∷ b))
-  back_among link number [] s b at = inr at
-  back_among link number (x ∷ f) s b (inl at) = inl at
-  back_among link number (x ∷ f) s b (inr at) = inr (back_among link number f s b at)
+  back_among : (link : ℕ) (x : Record) (f : List (SeatState L)) (s : SeatState L) (b : List (SeatState L)) → IsShownAt history link x (f ++ b) → IsShownAt history link x (f ++ (s ∷ b))
+  back_among link x [] s b at = inr at
+  back_among link x (other ∷ f) s b (inl at) = inl at
+  back_among link x (other ∷ f) s b (inr at) = inr (back_among link x f s b at)
 
   link_is : (k : ℕ) (link : LinkNo) → k ≡ link.0 → (let l : LinkNo = record { 0 = k } in l) ≡ link
   link_is k link same = ap (λ (n : ℕ). let l : LinkNo = record { 0 = n } in l) same
@@ -202,7 +222,7 @@ module _ {L : Type 0} (ill : LinkNo → L → Type 0) (history : L → List Pass
         lost_was = kept;
         more = [];
         are = sym (append-nil got);
-        there = same_seats before got c.seats c.seats (IsFull all) refl;
+        there = same_seats before got c.seats c.seats refl;
         adds = spares_so (IsDueLoss ill history before got c.seats (IsFull all)) M all (unlost_due before got c.seats (IsFull all)) s.1;
         counts = still_counts (HeardAll history c.seats) (HeardAll history c.seats) M all (λ n is. is) (quiet_on M s.1.more all s.1.are s.1.quiet);
       })
@@ -215,22 +235,22 @@ module _ {L : Type 0} (ill : LinkNo → L → Type 0) (history : L → List Pass
   pub due_as : {M all : List Move} {halt halt_now : Option Halt} {c c_mid c_now : CompanyState L} {got got_now : Links} → c_mid ≡ c_now → KeepsDue ill history M all halt halt_now c c_mid got got_now → KeepsDue ill history M all halt halt_now c c_now got got_now
   due_as {M} {all} {halt} {halt_now} {c} {c_mid} {c_now} {got} {got_now} same keeps = subst (λ (x : CompanyState L). KeepsDue ill history M all halt halt_now c x got got_now) same keeps
 
-  given_due : (before got : Links) (full : Type 0) (up : List ℕ) (seats : List (SeatState L)) (link : LinkNo) → ((number : AttemptNo) → GaveBack up number → IsBackAt history link.0 number seats) → (all : List Record) (x : Record) → IsGivenBack up link.0 all x → IsDueLoss ill history before got seats full all x
-  given_due before got full up seats link at all (records.Opened moment run retries limit plan sources) is = tt
-  given_due before got full up seats link at all (records.Resumed moment run retries limit) is = tt
-  given_due before got full up seats link at all (records.Started moment rule attempt on) is = tt
-  given_due before got full up seats link at all (records.Done moment rule attempt outs) is = tt
-  given_due before got full up seats link at all (records.Failed moment rule attempt why) is = tt
-  given_due before got full up seats link at all (records.Lost moment rule attempt) is = (link, is.0, inl (at attempt is.1))
-  given_due before got full up seats link at all (records.Dropped moment file) is = tt
-  given_due before got full up seats link at all (records.Ended moment kind) is = tt
+  given_due : (before got : Links) (full : Type 0) (past : List Passed) (seats : List (SeatState L)) (link : LinkNo) → ((x : Record) → ShowsEnd x past → IsShownAt history link.0 x seats) → (all : List Record) (x : Record) → IsShownOn past link.0 all x → IsDueLoss ill history before got seats full all x
+  given_due before got full past seats link at all (records.Opened moment run retries limit plan sources) is = tt
+  given_due before got full past seats link at all (records.Resumed moment run retries limit) is = tt
+  given_due before got full past seats link at all (records.Started moment rule attempt on) is = tt
+  given_due before got full past seats link at all (records.Done moment rule attempt outs) is = ⊎_elim (λ here. inl here) (λ there. inr (link, there.0, inl (at (records.Done moment rule attempt outs) there.1))) is
+  given_due before got full past seats link at all (records.Failed moment rule attempt why) is = ⊎_elim (λ here. inl here) (λ there. inr (link, there.0, inl (at (records.Failed moment rule attempt why) there.1))) is
+  given_due before got full past seats link at all (records.Lost moment rule attempt) is = (link, is.0, inl (at (records.Lost moment rule attempt) is.1))
+  given_due before got full past seats link at all (records.Dropped moment file) is = tt
+  given_due before got full past seats link at all (records.Ended moment kind) is = tt
 
   started_due : (before got : Links) (full : Type 0) (seats : List (SeatState L)) (link : LinkNo) → ((number : AttemptNo) → IsDueBack ill history before got full link number) → (all : List Record) (x : Record) → IsStartedOn link.0 all x → IsDueLoss ill history before got seats full all x
   started_due before got full seats link back all (records.Opened moment run retries limit plan sources) is = tt
   started_due before got full seats link back all (records.Resumed moment run retries limit) is = tt
   started_due before got full seats link back all (records.Started moment rule attempt on) is = tt
-  started_due before got full seats link back all (records.Done moment rule attempt outs) is = tt
-  started_due before got full seats link back all (records.Failed moment rule attempt why) is = tt
+  started_due before got full seats link back all (records.Done moment rule attempt outs) is = inl is
+  started_due before got full seats link back all (records.Failed moment rule attempt why) is = inl is
   started_due before got full seats link back all (records.Lost moment rule attempt) is = (link, is, inr (back attempt))
   started_due before got full seats link back all (records.Dropped moment file) is = tt
   started_due before got full seats link back all (records.Ended moment kind) is = tt
@@ -244,21 +264,21 @@ module _ {L : Type 0} (ill : LinkNo → L → Type 0) (history : L → List Pass
       → c_now.failed ≡ c.failed → c_now.lost ≡ c.lost → FaresSeat ill history M all halt halt_now s s_now r → ((k m : ℕ) → HasCome (received_in (history s_now.peer.way)) k → OnOk r (HasHeard history s_now.peer k) → HeardAll history (f ++ b) m → now (k + m))
       → (before : Links) → halt_now ≡ None → c_now.failed ≡ false → c_now.lost ≡ false → StepsOn (HeardAll history c.seats) now M all halt c c_now before got got
   seat_steps {A} now {M} {all} {halt} {halt_now} {c} {c_now} {got} f s s_now b r are ends failed lost fares put before none fine kept =
-      let here : (number : AttemptNo) → GaveBack (received_in (history s_now.peer.way)) number → IsBackAt history s.link.0 number c_now.seats =
-      λ number gave. subst (IsBackAt history s.link.0 number) (sym ends) (back_here s.link.0 number f s_now b (ap (λ (l : LinkNo). l.0) fares.link) gave) in
+      let here : (x : Record) → ShowsEnd x (history s_now.peer.way) → IsShownAt history s.link.0 x c_now.seats =
+      λ x shown. subst (IsShownAt history s.link.0 x) (sym ends) (back_here s.link.0 x f s_now b (ap (λ (l : LinkNo). l.0) fares.link) shown) in
       record {
         halt_was = fares.going none;
         failed_was = sym failed ∙ fine;
         lost_was = sym lost ∙ kept;
         more = [];
         are = sym (append-nil got);
-        there = λ link number at. inl (subst (IsBackAt history link.0 number) (sym ends)
+        there = λ link x at. inl (subst (IsShownAt history link.0 x) (sym ends)
             (⊎_elim
-            (λ gave. back_here link.0 number f s_now b (ap (λ (l : LinkNo). l.0) fares.link ∙ gave.0) (gave_on (history s.peer.way) (history s_now.peer.way) number fares.comes gave.1))
-            (λ rest. back_among link.0 number f s_now b rest)
-            (back_parts link.0 number f s b (subst (IsBackAt history link.0 number) are at))));
-        adds = adds_as (IsGivenBack (received_in (history s_now.peer.way)) s.link.0) (IsDueLoss ill history before got c_now.seats (IsFull all)) M all
-            (given_due before got (IsFull all) (received_in (history s_now.peer.way)) c_now.seats s.link here) (fares.loses none);
+            (λ shown. back_here link.0 x f s_now b (ap (λ (l : LinkNo). l.0) fares.link ∙ shown.0) (shows_on (history s.peer.way) (history s_now.peer.way) fares.comes x shown.1))
+            (λ rest. back_among link.0 x f s_now b rest)
+            (back_parts link.0 x f s b (subst (IsShownAt history link.0 x) are at))));
+        adds = adds_as (IsShownOn (history s_now.peer.way) s.link.0) (IsDueLoss ill history before got c_now.seats (IsFull all)) M all
+            (given_due before got (IsFull all) (history s_now.peer.way) c_now.seats s.link here) (fares.loses none);
         counts = λ n was.
             let split = heard_split history f s b n (subst (λ (xs : List (SeatState L)). HeardAll history xs n) are was) in
             let on = fares.counts none split.0 split.2 in
@@ -305,12 +325,12 @@ module _ {L : Type 0} (ill : LinkNo → L → Type 0) (history : L → List Pass
         lost_was = back.0;
         more = (Some s.link, s.peer.way) ∷ [];
         are = back.1;
-        there = λ link number at.
+        there = λ link x at.
             ⊎_elim
-            (λ gave. inr (subst (λ (l : LinkNo). IsDueBack ill history before got_now (IsFull all) l number) (link_is s.link.0 link gave.0)
-            (record { way = s.peer.way; back = came_last before got got_now s.link s.peer.way behind back.1; cause = inr (inl gave.1) })))
-            (λ rest. inl (subst (IsBackAt history link.0 number) (sym now) rest))
-            (back_parts link.0 number f s b (subst (IsBackAt history link.0 number) are at));
+            (λ shown. inr (subst (λ (l : LinkNo). IsShownBack history before got_now l x) (link_is s.link.0 link shown.0)
+            (record { way = s.peer.way; back = came_last before got got_now s.link s.peer.way behind back.1; shown = shown.1 })))
+            (λ rest. inl (subst (IsShownAt history link.0 x) (sym now) rest))
+            (back_parts link.0 x f s b (subst (IsShownAt history link.0 x) are at));
         adds = adds_as (IsStartedOn s.link.0) (IsDueLoss ill history before got_now c_now.seats (IsFull all)) M all (started_due before got_now (IsFull all) c_now.seats s.link due) started;
         counts = λ n past.
             let split = heard_apart history f s b n (subst (λ (xs : List (SeatState L)). HeardBut history (length f) xs n) are past) in
@@ -333,7 +353,7 @@ module _ {L : Type 0} (ill : LinkNo → L → Type 0) (history : L → List Pass
         lost_was = counted.0;
         more = counted.1.more;
         are = counted.1.are;
-        there = λ link number at. inl (subst (IsBackAt history link.0 number) (sym same) at);
+        there = λ link x at. inl (subst (IsShownAt history link.0 x) (sym same) at);
         adds = spares_so (IsDueLoss ill history before got_now c_now.seats (IsFull all)) M all (unlost_due before got_now c_now.seats (IsFull all)) spares;
         counts = λ n past.
             let quiet = quiet_on M spares.more all spares.are spares.quiet in
@@ -343,7 +363,7 @@ module _ {L : Type 0} (ill : LinkNo → L → Type 0) (history : L → List Pass
   -- with the same seats
   pub due_met : {M : List Move} {halt : Option Halt} {c c_now : CompanyState L} {got got_now : Links} {count count_now given given_now idles idles_now : ℕ} {inside inside_now : Inside} → c_now.seats ≡ c.seats
       → Meets count count_now got got_now given given_now idles idles_now inside inside_now c.failed c_now.failed c.lost c_now.lost → KeepsDue ill history M M halt halt c c_now got got_now
-  due_met {M} {halt} {c} {c_now} same met = due_wider (record { more = []; are = sym (append-nil M); none = refl; quiet = refl }) same met
+  due_met {M} {halt} {c} {c_now} same met = due_wider (spares_same M M refl) same met
 
   -- a guest gets its seat, of which its hello was heard
   pub due_seated : {M all : List Move} {halt : Option Halt} {c c_now : CompanyState L} {got got_now : Links} {count count_now given given_now idles idles_now : ℕ} {inside inside_now : Inside} (s : SeatState L) → ((before : Links) → AddsSo (IsDueLoss ill history before got_now c_now.seats (IsFull all)) M all)
@@ -358,7 +378,7 @@ module _ {L : Type 0} (ill : LinkNo → L → Type 0) (history : L → List Pass
         lost_was = counted.0;
         more = counted.1.more;
         are = counted.1.are;
-        there = λ link number at. inl (subst (IsBackAt history link.0 number) (sym seats) (more_seats link.0 number c.seats (s ∷ []) at));
+        there = λ link x at. inl (subst (IsShownAt history link.0 x) (sym seats) (more_seats link.0 x c.seats (s ∷ []) at));
         adds = adds before;
         counts = λ n past. (
           1 + n,
@@ -396,12 +416,12 @@ module _ {L : Type 0} (ill : LinkNo → L → Type 0) (history : L → List Pass
         lost_was = back.0;
         more = (Some s.link, s.peer.way) ∷ [];
         are = back.1;
-        there = λ link number at.
+        there = λ link x at.
             ⊎_elim
-            (λ gave. inr (subst (λ (l : LinkNo). IsDueBack ill history before got_now (IsFull M) l number) (link_is s.link.0 link gave.0)
-            (record { way = s.peer.way; back = came_last before got got_now s.link s.peer.way behind back.1; cause = inr (inl gave.1) })))
-            (λ rest. inl (subst (IsBackAt history link.0 number) (sym now) rest))
-            (back_parts link.0 number f s b (subst (IsBackAt history link.0 number) are at));
+            (λ shown. inr (subst (λ (l : LinkNo). IsShownBack history before got_now l x) (link_is s.link.0 link shown.0)
+            (record { way = s.peer.way; back = came_last before got got_now s.link s.peer.way behind back.1; shown = shown.1 })))
+            (λ rest. inl (subst (IsShownAt history link.0 x) (sym now) rest))
+            (back_parts link.0 x f s b (subst (IsShownAt history link.0 x) are at));
         adds = record { more = []; are = sym (append-nil M); each = All-nil (IsDueLoss ill history before got_now c_now.seats (IsFull M) (records_of M)) };
         counts = λ n past.
             let split = heard_split history f s b n (subst (λ (xs : List (SeatState L)). HeardAll history xs n) are past) in
@@ -536,9 +556,24 @@ unlinked_quiet (moves.Joined link total largest cache ∷ more) none = absurd cc
 unlinked_quiet (moves.Changed link total largest cache ∷ more) none = absurd cc
 unlinked_quiet (moves.Left link ∷ more) none = absurd cc
 
+-- the end of a run ends no attempt
+ended_here : (all xs : List Record) → list_all is_end xs ≡ true → All (EndsHere all) xs
+ended_here all [] is = All-nil (EndsHere all)
+ended_here all (x ∷ xs) is = let parts = and_parts (is_end x) (list_all is_end xs) is in All-cons (EndsHere all) x xs (by x parts.0) (ended_here all xs parts.1)
+  where
+    by : (x : Record) → is_end x ≡ true → EndsHere all x
+    by (records.Opened moment run retries limit plan sources) e = tt
+    by (records.Resumed moment run retries limit) e = tt
+    by (records.Started moment rule attempt on) e = tt
+    by (records.Done moment rule attempt outs) e = absurd (true≢false (sym e))
+    by (records.Failed moment rule attempt why) e = absurd (true≢false (sym e))
+    by (records.Lost moment rule attempt) e = tt
+    by (records.Dropped moment file) e = tt
+    by (records.Ended moment kind) e = tt
+
 -- an end gives nothing up
 pub ends_spare : {S : Type 0} (M : List Move) (after : DeskState S) (stop : Option Stop) (check : Check) → EndsAt after M stop check → SparesAll M after.moves
-ends_spare M after stop check ends = record { more = ends.more; are = ends.are; none = ends.spared; quiet = unlinked_quiet ends.more ends.none }
+ends_spare M after stop check ends = record { more = ends.more; are = ends.are; none = ends.spared; here = ended_here (records_of after.moves) (records_of ends.more) ends.ended; quiet = unlinked_quiet ends.more ends.none }
 
 -- ---- a whole run
 
@@ -595,24 +630,73 @@ module _ {L : Type 0} (gives : Function) (may_fail : Job → Failure → Type 0)
             (loss_by before got links (IsFull all) counted.behind.1 (λ full. (counted.came, omega (arith, full, enough, none, first), offers_of links counted.came counted.back)) (records_of all)) (records_of loses.more) loses.each;
       }
 
+  result_by : (before got links : Came) (all : List Record) (rule : RuleNo) (attempt : AttemptNo) (x : Record) → got ≡ before ++ links → (let none : List (SeatState L) = [] in IsDueResult history before got none all rule attempt x)
+      → (list_any (starts_on 0 rule.0 attempt.0) all ≡ true) ⊎ IsShownBy history links all rule attempt x
+  result_by before got links all rule attempt x are (inl here) = inl here
+  result_by before got links all rule attempt x are (inr is) = inr (by is.2)
+    where
+      by : (let none : List (SeatState L) = [] in IsShownAt history is.0.0 x none) ⊎ IsShownBack history before got is.0 x → IsShownBy history links all rule attempt x
+      by (inl at) = absurd at
+      by (inr back) = record {
+        link = is.0;
+        started = is.1;
+        way = back.way;
+        earlier = back.back.0;
+        later = back.back.1;
+        among = prefix_is before links (back.back.0 ++ ((Some is.0, back.way) ∷ back.back.1)) (sym are ∙ back.back.2);
+        shown = back.shown;
+      }
+
+  results_by : (before got links : Came) (full : Type 0) → got ≡ before ++ links → (all : List Record) (x : Record) → IsDueLoss (IsIllLink gives may_fail history count idles closed limit) history before got [] full all x → IsResultBy history links all x
+  results_by before got links full are all (records.Opened moment run retries bound plan sources) is = tt
+  results_by before got links full are all (records.Resumed moment run retries bound) is = tt
+  results_by before got links full are all (records.Started moment rule attempt on) is = tt
+  results_by before got links full are all (records.Done moment rule attempt outs) is = result_by before got links all rule attempt (records.Done moment rule attempt outs) are is
+  results_by before got links full are all (records.Failed moment rule attempt why) is = result_by before got links all rule attempt (records.Failed moment rule attempt why) are is
+  results_by before got links full are all (records.Lost moment rule attempt) is = tt
+  results_by before got links full are all (records.Dropped moment file) is = tt
+  results_by before got links full are all (records.Ended moment kind) is = tt
+
+  -- nothing was lost by then
+  due_first : (M : List Move) (c : CompanyState L) (got : Came) → c.seats ≡ [] → AreDue (IsIllLink gives may_fail history count idles closed limit) history got M M None c got
+  due_first M c got none halt fine lost = (
+    record {
+      behind = ([], sym (append-nil got));
+      heard = 0;
+      are = subst (λ (xs : List (SeatState L)). HeardAll history xs 0) (sym none) refl;
+      came = 0;
+      back = refl;
+      enough = omega arith;
+    },
+    same_so (IsDueLoss (IsIllLink gives may_fail history count idles closed limit) history got got c.seats (IsFull M)) M M refl,
+  )
+
+  -- Where the results of a whole run came from.
+  pub results_whole : {A E : Type 0} (M all : List Move) (c c_mid c_now : CompanyState L) (got got_mid got_now : Came) (r : Result A E) → c.seats ≡ []
+      → (let none : Option Halt = None in OnOk r (KeepsDue (IsIllLink gives may_fail history count idles closed limit) history M all none none c c_mid got got_mid))
+      → OnOk r ((c_mid.failed ≡ false) × (c_mid.lost ≡ false)) → (let none : Option Halt = None in KeepsDue (IsIllLink gives may_fail history count idles closed limit) history all all none none c_mid c_now got_mid got_now) → c_now.failed ≡ c_mid.failed → c_now.lost ≡ false → c_now.seats ≡ []
+      → OnOk r (AreResults history got got_now (records_of M) (records_of all))
+  results_whole M all c c_mid c_now got got_mid got_now (Ok x) none due sound last failed kept seats =
+      let now = last.goes got M (due.goes got M (due_first M c got none)) refl (failed ∙ sound.0) kept in
+      let loses = subst (λ (xs : List (SeatState L)). LosesDuly (IsIllLink gives may_fail history count idles closed limit) history got got_now xs M all) seats now.1 in
+      let links = now.0.behind.0 in
+      record {
+        links = links;
+        back = now.0.behind.1;
+        more = records_of loses.more;
+        are = records_after (IsDueLoss (IsIllLink gives may_fail history count idles closed limit) history got got_now [] (IsFull all)) M all loses;
+        each = All-weaker (IsDueLoss (IsIllLink gives may_fail history count idles closed limit) history got got_now [] (IsFull all) (records_of all)) (IsResultBy history links (records_of all))
+            (results_by got got_now links (IsFull all) now.0.behind.1 (records_of all)) (records_of loses.more) loses.each;
+      }
+  results_whole M all c c_mid c_now got got_mid got_now (Err why) none due sound last failed kept seats = tt
+
   -- A whole run that began with nothing lost.
   pub due_whole : {A E : Type 0} (M all : List Move) (c c_mid c_now : CompanyState L) (got got_mid got_now : Came) (r : Result A E) → joins_and_changes M ≡ 0 → c.seats ≡ []
       → (let none : Option Halt = None in OnOk r (KeepsDue (IsIllLink gives may_fail history count idles closed limit) history M all none none c c_mid got got_mid))
       → OnOk r ((c_mid.failed ≡ false) × (c_mid.lost ≡ false)) → (let none : Option Halt = None in KeepsDue (IsIllLink gives may_fail history count idles closed limit) history all all none none c_mid c_now got_mid got_now) → c_now.failed ≡ c_mid.failed → c_now.lost ≡ false → c_now.seats ≡ []
       → OnOk r (AreDueLosses gives may_fail history count idles closed limit got got_now (records_of M) (records_of all))
   due_whole M all c c_mid c_now got got_mid got_now (Ok x) first none due sound last failed kept seats =
-      let was : AreDue (IsIllLink gives may_fail history count idles closed limit) history got M M None c got = λ halt fine lost. (
-        record {
-          behind = ([], sym (append-nil got));
-          heard = 0;
-          are = subst (λ (xs : List (SeatState L)). HeardAll history xs 0) (sym none) refl;
-          came = 0;
-          back = refl;
-          enough = omega arith;
-        },
-        same_so (IsDueLoss (IsIllLink gives may_fail history count idles closed limit) history got got c.seats (IsFull M)) M M refl,
-      ) in
-      let now = last.goes got M (due.goes got M was) refl (failed ∙ sound.0) kept in
+      let now = last.goes got M (due.goes got M (due_first M c got none)) refl (failed ∙ sound.0) kept in
       all_due got got_now M all first
       (subst (λ (xs : List (SeatState L)). IsCounted history (HeardAll history xs) got got_now M all) seats now.0)
       (subst (λ (xs : List (SeatState L)). LosesDuly (IsIllLink gives may_fail history count idles closed limit) history got got_now xs M all) seats now.1)

@@ -21,10 +21,10 @@ use Rattle.outside.specs.Disk.{Outcomes}
 use Rattle.outside.specs.Files.{Files}
 use Rattle.desk.specs.State.{DeskState}
 use Rattle.links.specs.declared.passing.Passed.{Passed}
-use Rattle.links.specs.Passings.{received_in}
+use Rattle.links.specs.Passings.{received_in, sent_in}
 use Rattle.message_forms.specs.Streams.{Carries}
 use Rattle.message_forms.proofs.Parses.{carries_more}
-use Rattle.peers.specs.States.{ReceivesOn}
+use Rattle.peers.specs.States.{PassesOn}
 use Rattle.local_run.specs.declared.halt.Halt.{Halt}
 use Rattle.local_run.specs.Links.{link_moves}
 use Rattle.local_run.specs.Course.{GoesOn}
@@ -228,7 +228,7 @@ module _ {L : Type 0} (history : L → List Passed) where
   Stated M s = OffersAsStated history M s
 
   -- what this seat's link stated is the same, and more joined
-  pub stated_on : (M all : List Move) (s s_now : SeatState L) → s_now.link ≡ s.link → ReceivesOn (history s.peer.way) (history s_now.peer.way) → next_link M ≤ next_link all → stated_by s.link.0 all ≡ stated_by s.link.0 M → Stated M s → Stated all s_now
+  pub stated_on : (M all : List Move) (s s_now : SeatState L) → s_now.link ≡ s.link → PassesOn (history s.peer.way) (history s_now.peer.way) → next_link M ≤ next_link all → stated_by s.link.0 all ≡ stated_by s.link.0 M → Stated M s → Stated all s_now
   stated_on M all s s_now link on more same is =
       let number = ap (λ (l : LinkNo). l.0) link in
       record {
@@ -266,10 +266,10 @@ module _ {L : Type 0} (history : L → List Passed) where
 
   all_stated : (M all : List Move) → next_link M ≤ next_link all → (seats : List (SeatState L)) → Same M all seats → AllByRecursion (Stated M) seats → AllByRecursion (Stated all) seats
   all_stated M all more [] same are = tt
-  all_stated M all more (s ∷ seats) same are = (stated_on M all s s refl ([], sym (append-nil (received_in (history s.peer.way)))) more same.0 are.0, all_stated M all more seats same.1 are.1)
+  all_stated M all more (s ∷ seats) same are = (stated_on M all s s refl ([], sym (append-nil (received_in (history s.peer.way))), ([], sym (append-nil (sent_in (history s.peer.way))))) more same.0 are.0, all_stated M all more seats same.1 are.1)
 
   -- a seat's own link stated what was received there
-  own_stated : (M more all : List Move) (s s_now : SeatState L) → s_now.link ≡ s.link → ReceivesOn (history s.peer.way) (history s_now.peer.way) → next_link M ≤ next_link all → link_moves all ≡ link_moves M ++ more
+  own_stated : (M more all : List Move) (s s_now : SeatState L) → s_now.link ≡ s.link → PassesOn (history s.peer.way) (history s_now.peer.way) → next_link M ≤ next_link all → link_moves all ≡ link_moves M ++ more
       → AllByRecursion (IsHeardChange (received_in (history s_now.peer.way)) s.link.0) more → Stated M s → Stated all s_now
   own_stated M more all s s_now link on grow are each is =
       let number = ap (λ (l : LinkNo). l.0) link in
@@ -359,7 +359,7 @@ module _ {L : Type 0} (history : L → List Passed) where
 
   -- a call at one seat, whose link stated what was received there
   pub earn_seat : (ill : LinkNo → L → Type 0) {M all : List Move} {halt halt_now : Option Halt} {c c_now : CompanyState L} {got : List (Option LinkNo × L)} (f : List (SeatState L)) (s s_now : SeatState L) (b : List (SeatState L)) → c.seats ≡ f ++ (s ∷ b)
-      → c_now.seats ≡ f ++ (s_now ∷ b) → c_now.failed ≡ c.failed → c_now.lost ≡ c.lost → s_now.link ≡ s.link → ReceivesOn (history s.peer.way) (history s_now.peer.way) → (halt_now ≡ None → halt ≡ None)
+      → c_now.seats ≡ f ++ (s_now ∷ b) → c_now.failed ≡ c.failed → c_now.lost ≡ c.lost → s_now.link ≡ s.link → PassesOn (history s.peer.way) (history s_now.peer.way) → (halt_now ≡ None → halt ≡ None)
       → (halt_now ≡ None → StatesOn (received_in (history s_now.peer.way)) s.link.0 M all) → (halt_now ≡ None → Same M all (f ++ b)) → KeepsEarned ill history M all halt halt_now c c_now got got
   earn_seat ill {M} {all} {halt} {halt_now} {c} {c_now} {got} f s s_now b are now failed lost link on going states others = earn_step ill (λ none fine kept.
       let st = states none in

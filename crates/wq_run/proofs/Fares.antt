@@ -1,10 +1,10 @@
 -- What calls make of a seat and of the moves, one behind another.
-use Rattle.std.proofs.Common.{◌≡◌, ◌≤◌, ◌+◌, inl, ◌∙◌, ℕ, Bool, true, false, List, [], ◌∷◌, ◌++◌, Option, Some, None, Result, Ok, Err, refl, sym, ap, subst, arith, append_assoc, true≢false}
+use Rattle.std.proofs.Common.{◌≡◌, ◌≤◌, ◌+◌, ◌⊎◌, inl, inr, ⊎_elim, ◌∙◌, ℕ, Bool, true, false, List, [], ◌∷◌, ◌++◌, Option, Some, None, Result, Ok, Err, refl, sym, ap, subst, arith, append_assoc, true≢false}
 use Rattle.std.specs.Prelude.{All, cond, IfErr, IfOk, OnOk, is_none}
 use Rattle.std.specs.List.{list_any}
 use Rattle.std.proofs.lemmas.Bool.{ltb-false, or_left, or_parts}
 use Rattle.std.proofs.lemmas.List.{append-nil}
-use Rattle.std.proofs.lemmas.List.Elements.{All-append, All-cons, All-nil, All-weaker}
+use Rattle.std.proofs.lemmas.List.Elements.{All-append, All-cons, All-head, All-nil, All-tail, All-weaker}
 use Rattle.std.proofs.lemmas.List.Folds.{list_any-append}
 use Rattle.flow_types.specs.declared.numbers.Amounts.{Amounts}
 use Rattle.flow_types.specs.declared.numbers.AttemptNo.{AttemptNo}
@@ -12,6 +12,7 @@ use Rattle.flow_types.specs.declared.numbers.LinkNo.{LinkNo}
 use Rattle.flow_types.specs.declared.job.Failure.{Failure}
 use Rattle.flow_types.specs.declared.job.Job.{Job}
 use Rattle.flow_types.specs.declared.job.Outcome.{Outcome}
+use Rattle.flow_types.specs.declared.job.Task.{Task}
 use Rattle.flow_types.specs.declared.job.Outcome.TheVariants as outcomes
 use Rattle.flow_types.specs.declared.records.Record.{Record}
 use Rattle.flow_types.specs.declared.records.Record.TheVariants as records
@@ -24,11 +25,11 @@ use Rattle.run_history.specs.Links.{records_of}
 use Rattle.run_history.specs.Moves.{change_refusal, has_join_room, joins_and_changes, most_joins}
 use Rattle.links.specs.declared.passing.Passed.{Passed}
 use Rattle.links.specs.Ill.{closed as ill_closed, failed as ill_failed, misspeaks as ill_misspeaks}
-use Rattle.links.specs.Passings.{received_in}
+use Rattle.links.specs.Passings.{received_in, sent_in}
 use Rattle.link_session.specs.Sessions.{State}
 use Rattle.wq_frames.specs.Streams.{Stream}
 use Rattle.flow_types.specs.declared.messages.Message.{Message}
-use Rattle.message_forms.specs.Streams.{frames_of}
+use Rattle.message_forms.specs.Streams.{AreFramed, frames_of}
 use Rattle.desk.specs.declared.attempt.Attempt.{Attempt}
 use Rattle.desk.specs.Links.{Changes, Joins, Leaves}
 use Rattle.desk.specs.State.{DeskState}
@@ -36,31 +37,37 @@ use Rattle.peers.specs.declared.leave.Leave.{Leave}
 use Rattle.peers.specs.declared.leave.Leave.TheVariants as leaves
 use Rattle.peers.specs.declared.told.Told.{Told}
 use Rattle.peers.specs.declared.told.Told.TheVariants as tell
-use Rattle.peers.specs.Hears.{ServesOn}
+use Rattle.peers.specs.Hears.{IsResult, ServesOn}
+use Rattle.peers.specs.Provides.{WasProvided}
 use Rattle.peers.specs.Serves.{Serves}
-use Rattle.peers.specs.States.{LeavesAs, MaySend, PeerState, ReceivesOn}
+use Rattle.peers.specs.States.{LeavesAs, MaySend, PeerState, PassesOn}
 use Rattle.local_run.specs.declared.halt.Halt.{Halt}
 use Rattle.local_run.specs.Links.{link_moves}
-use Rattle.local_run.specs.Losses.{LosesIt, SparesAll, is_lost, starts_on}
+use Rattle.local_run.specs.Losses.{EndsHere, EndsIt, LosesIt, SparesAll, done_as, failed_as, is_lost, starts_on}
 use Rattle.local_run.proofs.Going.{links_grown, records_grown}
 use Rattle.flow_types.specs.declared.messages.Message.TheVariants as messages
 use Rattle.message_forms.specs.Streams.{Carries, IsAmong}
+use Rattle.message_forms.proofs.Parses.{carries_more, frames_append}
 use Rattle.peers.proofs.Owing.{went_and_came}
 use Rattle.wq_run.specs.Earned.{StatesOn}
 use Rattle.wq_run.specs.Seats.{SeatState}
 use Rattle.wq_run.proofs.Heards.{come_on, heard_come, heard_same, joins_append, ok_step, ok_with, quiet_on}
 use Rattle.wq_run.proofs.Earned.{linked_one, states_none, states_one, states_then}
 use Rattle.wq_run.specs.Losses.{GaveBack}
-use Rattle.wq_run.specs.Dues.{AddsSo, EndsWith, FaresSeat, GaveBackIf, GivesUp, IsGivenBack, HasHeard, HearsOn, IsFull, IsIllLink, IsStartedOn, LeavesFor, OffersMore, Shows, StaysHeard, ended}
+use Rattle.wq_run.specs.Results.{ShowsEnd, WasTold}
+use Rattle.wq_run.specs.Dues.{AddsSo, EndsWith, FaresSeat, GivesUp, IsShownOn, ShowsOutcome, HasHeard, HearsOn, IsFull, IsIllLink, IsStartedOn, LeavesFor, OffersMore, Shows, StaysHeard, ended}
 
 -- ---- what came stays
 
-pub received_then : (old mid new : List Passed) → ReceivesOn old mid → ReceivesOn mid new → ReceivesOn old new
-received_then old mid new one two =
-    (one.0 ++ two.0, two.1 ∙ ap (λ (b : List ℕ). b ++ two.0) one.1 ∙ append_assoc (received_in old) one.0 two.0)
+pub received_then : (old mid new : List Passed) → PassesOn old mid → PassesOn mid new → PassesOn old new
+received_then old mid new one two = (
+  one.0 ++ two.0,
+  two.1 ∙ ap (λ (b : List ℕ). b ++ two.0) one.1 ∙ append_assoc (received_in old) one.0 two.0,
+  (one.2.0 ++ two.2.0, two.2.1 ∙ ap (λ (b : List ℕ). b ++ two.2.0) one.2.1 ∙ append_assoc (sent_in old) one.2.0 two.2.0),
+)
 
-pub received_same : (old new : List Passed) → new ≡ old → ReceivesOn old new
-received_same old new same = ([], ap received_in same ∙ sym (append-nil (received_in old)))
+pub received_same : (old new : List Passed) → new ≡ old → PassesOn old new
+received_same old new same = ([], ap received_in same ∙ sym (append-nil (received_in old)), ([], ap sent_in same ∙ sym (append-nil (sent_in old))))
 
 pub gave_later : (up more : List ℕ) (all : List ℕ) (number : AttemptNo) → all ≡ up ++ more → GaveBack up number → GaveBack all number
 gave_later up more all number is back = record {
@@ -75,17 +82,48 @@ gave_later up more all number is back = record {
   so = back.so;
 }
 
-pub gave_on : (old new : List Passed) (number : AttemptNo) → ReceivesOn old new → GaveBack (received_in old) number → GaveBack (received_in new) number
+pub gave_on : (old new : List Passed) (number : AttemptNo) → PassesOn old new → GaveBack (received_in old) number → GaveBack (received_in new) number
 gave_on old new number on back = gave_later (received_in old) on.0 (received_in new) number on.1 back
+
+framed_front : (xs ys : List Message) → AreFramed (xs ++ ys) → AreFramed xs
+framed_front [] ys all = tt
+framed_front (x ∷ xs) ys all = (all.0, framed_front xs ys all.1)
+
+told_on : (old new : List Passed) (number : AttemptNo) (outcome : Outcome) → PassesOn old new → WasTold old number outcome → WasTold new number outcome
+told_on old new number outcome on is = record {
+  came = subst (λ (b : List ℕ). Carries b (messages.Done number outcome)) (sym on.1) (carries_more (received_in old) on.0 (messages.Done number outcome) is.came);
+  task = is.task;
+  of_attempt = is.of_attempt;
+  before = is.before;
+  asked = (
+    is.asked.0 ++ on.2.0,
+    record {
+      framed_all = is.asked.1.framed_all;
+      are = on.2.1 ∙ ap (λ (b : List ℕ). b ++ on.2.0) is.asked.1.are ∙ append_assoc (frames_of (is.before ++ (messages.Task is.task ∷ []))) is.asked.0 on.2.0;
+    },
+  );
+  inputs = is.inputs;
+}
+
+-- what a link shows it shows still where more passed
+pub shows_on : (old new : List Passed) → PassesOn old new → (x : Record) → ShowsEnd x old → ShowsEnd x new
+shows_on old new on (records.Opened moment run retries limit plan sources) is = tt
+shows_on old new on (records.Resumed moment run retries limit) is = tt
+shows_on old new on (records.Started moment rule attempt at) is = tt
+shows_on old new on (records.Done moment rule attempt rows) is = (is.0, is.1, told_on old new attempt (outcomes.Success is.0) on is.2)
+shows_on old new on (records.Failed moment rule attempt why) is = told_on old new attempt (outcomes.Failed why) on is
+shows_on old new on (records.Lost moment rule attempt) is = gave_on old new attempt on is
+shows_on old new on (records.Dropped moment file) is = tt
+shows_on old new on (records.Ended moment kind) is = tt
 
 -- ---- records behind others
 
 pub any_later : (test : Record → Bool) (H more all : List Record) → all ≡ H ++ more → list_any test H ≡ true → list_any test all ≡ true
 any_later test H more all are is = ap (list_any test) are ∙ list_any-append test H more ∙ or_left (list_any test H) (list_any test more) is
 
-all_unlost : (so : Record → Type 0) → ((x : Record) → is_lost x ≡ false → so x) → (xs : List Record) → list_any is_lost xs ≡ false → All so xs
-all_unlost so un [] none = All-nil so
-all_unlost so un (x ∷ xs) none = let parts = or_parts (is_lost x) (list_any is_lost xs) none in All-cons so x xs (un x parts.0) (all_unlost so un xs parts.1)
+all_unlost : (here so : Record → Type 0) → ((x : Record) → is_lost x ≡ false → here x → so x) → (xs : List Record) → list_any is_lost xs ≡ false → All here xs → All so xs
+all_unlost here so un [] none all = All-nil so
+all_unlost here so un (x ∷ xs) none all = let parts = or_parts (is_lost x) (list_any is_lost xs) none in All-cons so x xs (un x parts.0 (All-head here x xs all)) (all_unlost here so un xs parts.1 (All-tail here x xs all))
 
 -- what is so of each record that was added is so of those that were added by then
 pub adds_then : (so so_now : List Record → Record → Type 0) (M mid all : List Move) → ((x : Record) → so (records_of mid) x → so_now (records_of all) x) → AddsSo so M mid → AddsSo so_now mid all → AddsSo so_now M all
@@ -100,49 +138,55 @@ adds_then so so_now M mid all step one two = record {
 pub records_after : (so : List Record → Record → Type 0) (M all : List Move) (added : AddsSo so M all) → records_of all ≡ records_of M ++ records_of added.more
 records_after so M all added = ap records_of added.are ∙ records_grown M added.more
 
-pub unlost_back : (up : List ℕ) (link : ℕ) (all : List Record) (x : Record) → is_lost x ≡ false → IsGivenBack up link all x
-unlost_back up link all (records.Opened moment run retries limit plan sources) none = tt
-unlost_back up link all (records.Resumed moment run retries limit) none = tt
-unlost_back up link all (records.Started moment rule attempt at) none = tt
-unlost_back up link all (records.Done moment rule attempt outs) none = tt
-unlost_back up link all (records.Failed moment rule attempt why) none = tt
-unlost_back up link all (records.Lost moment rule attempt) none = absurd (true≢false none)
-unlost_back up link all (records.Dropped moment file) none = tt
-unlost_back up link all (records.Ended moment kind) none = tt
+pub unlost_back : (past : List Passed) (link : ℕ) (all : List Record) (x : Record) → is_lost x ≡ false → EndsHere all x → IsShownOn past link all x
+unlost_back past link all (records.Opened moment run retries limit plan sources) none here = tt
+unlost_back past link all (records.Resumed moment run retries limit) none here = tt
+unlost_back past link all (records.Started moment rule attempt at) none here = tt
+unlost_back past link all (records.Done moment rule attempt outs) none here = inl here
+unlost_back past link all (records.Failed moment rule attempt why) none here = inl here
+unlost_back past link all (records.Lost moment rule attempt) none here = absurd (true≢false none)
+unlost_back past link all (records.Dropped moment file) none here = tt
+unlost_back past link all (records.Ended moment kind) none here = tt
 
-pub unlost_started : (link : ℕ) (all : List Record) (x : Record) → is_lost x ≡ false → IsStartedOn link all x
-unlost_started link all (records.Opened moment run retries limit plan sources) none = tt
-unlost_started link all (records.Resumed moment run retries limit) none = tt
-unlost_started link all (records.Started moment rule attempt at) none = tt
-unlost_started link all (records.Done moment rule attempt outs) none = tt
-unlost_started link all (records.Failed moment rule attempt why) none = tt
-unlost_started link all (records.Lost moment rule attempt) none = absurd (true≢false none)
-unlost_started link all (records.Dropped moment file) none = tt
-unlost_started link all (records.Ended moment kind) none = tt
+pub unlost_started : (link : ℕ) (all : List Record) (x : Record) → is_lost x ≡ false → EndsHere all x → IsStartedOn link all x
+unlost_started link all (records.Opened moment run retries limit plan sources) none here = tt
+unlost_started link all (records.Resumed moment run retries limit) none here = tt
+unlost_started link all (records.Started moment rule attempt at) none here = tt
+unlost_started link all (records.Done moment rule attempt outs) none here = here
+unlost_started link all (records.Failed moment rule attempt why) none here = here
+unlost_started link all (records.Lost moment rule attempt) none here = absurd (true≢false none)
+unlost_started link all (records.Dropped moment file) none here = tt
+unlost_started link all (records.Ended moment kind) none here = tt
 
 -- a call that spares all
-pub spares_so : (so : List Record → Record → Type 0) (M all : List Move) → ((H : List Record) (x : Record) → is_lost x ≡ false → so H x) → SparesAll M all → AddsSo so M all
-spares_so so M all un spares = record { more = spares.more; are = spares.are; each = all_unlost (so (records_of all)) (un (records_of all)) (records_of spares.more) spares.none }
+pub spares_so : (so : List Record → Record → Type 0) (M all : List Move) → ((H : List Record) (x : Record) → is_lost x ≡ false → EndsHere H x → so H x) → SparesAll M all → AddsSo so M all
+spares_so so M all un spares = record { more = spares.more; are = spares.are; each = all_unlost (EndsHere (records_of all)) (so (records_of all)) (un (records_of all)) (records_of spares.more) spares.none spares.here }
+
+-- nothing was added
+pub spares_same : (M all : List Move) → all ≡ M → SparesAll M all
+spares_same M all same = record { more = []; are = same ∙ sym (append-nil M); none = refl; here = All-nil (EndsHere (records_of all)); quiet = refl }
 
 pub same_so : (so : List Record → Record → Type 0) (M all : List Move) → all ≡ M → AddsSo so M all
 same_so so M all same = record { more = []; are = same ∙ sym (append-nil M); each = All-nil (so (records_of all)) }
 
-pub back_later : (up up_now : List ℕ) (link : ℕ) (H more all : List Record) → ((number : AttemptNo) → GaveBack up number → GaveBack up_now number) → all ≡ H ++ more → (x : Record) → IsGivenBack up link H x → IsGivenBack up_now link all x
-back_later up up_now link H more all on are (records.Opened moment run retries limit plan sources) is = tt
-back_later up up_now link H more all on are (records.Resumed moment run retries limit) is = tt
-back_later up up_now link H more all on are (records.Started moment rule attempt at) is = tt
-back_later up up_now link H more all on are (records.Done moment rule attempt outs) is = tt
-back_later up up_now link H more all on are (records.Failed moment rule attempt why) is = tt
-back_later up up_now link H more all on are (records.Lost moment rule attempt) is = (any_later (starts_on link rule.0 attempt.0) H more all are is.0, on attempt is.1)
-back_later up up_now link H more all on are (records.Dropped moment file) is = tt
-back_later up up_now link H more all on are (records.Ended moment kind) is = tt
+pub back_later : (past past_now : List Passed) (link : ℕ) (H more all : List Record) → ((x : Record) → ShowsEnd x past → ShowsEnd x past_now) → all ≡ H ++ more → (x : Record) → IsShownOn past link H x → IsShownOn past_now link all x
+back_later past past_now link H more all on are (records.Opened moment run retries limit plan sources) is = tt
+back_later past past_now link H more all on are (records.Resumed moment run retries limit) is = tt
+back_later past past_now link H more all on are (records.Started moment rule attempt at) is = tt
+back_later past past_now link H more all on are (records.Done moment rule attempt outs) is =
+    ⊎_elim (λ here. inl (any_later (starts_on 0 rule.0 attempt.0) H more all are here)) (λ there. inr (any_later (starts_on link rule.0 attempt.0) H more all are there.0, on (records.Done moment rule attempt outs) there.1)) is
+back_later past past_now link H more all on are (records.Failed moment rule attempt why) is =
+    ⊎_elim (λ here. inl (any_later (starts_on 0 rule.0 attempt.0) H more all are here)) (λ there. inr (any_later (starts_on link rule.0 attempt.0) H more all are there.0, on (records.Failed moment rule attempt why) there.1)) is
+back_later past past_now link H more all on are (records.Lost moment rule attempt) is = (any_later (starts_on link rule.0 attempt.0) H more all are is.0, on (records.Lost moment rule attempt) is.1)
+back_later past past_now link H more all on are (records.Dropped moment file) is = tt
+back_later past past_now link H more all on are (records.Ended moment kind) is = tt
 
 pub started_later : (link : ℕ) (H more all : List Record) → all ≡ H ++ more → (x : Record) → IsStartedOn link H x → IsStartedOn link all x
 started_later link H more all are (records.Opened moment run retries limit plan sources) is = tt
 started_later link H more all are (records.Resumed moment run retries limit) is = tt
 started_later link H more all are (records.Started moment rule attempt at) is = tt
-started_later link H more all are (records.Done moment rule attempt outs) is = tt
-started_later link H more all are (records.Failed moment rule attempt why) is = tt
+started_later link H more all are (records.Done moment rule attempt outs) is = any_later (starts_on 0 rule.0 attempt.0) H more all are is
+started_later link H more all are (records.Failed moment rule attempt why) is = any_later (starts_on 0 rule.0 attempt.0) H more all are is
 started_later link H more all are (records.Lost moment rule attempt) is = any_later (starts_on link rule.0 attempt.0) H more all are is
 started_later link H more all are (records.Dropped moment file) is = tt
 started_later link H more all are (records.Ended moment kind) is = tt
@@ -158,13 +202,24 @@ it_so so M all a loses step = record {
       (All-nil (so (records_of all)));
 }
 
+-- one attempt came to its end
+end_so : (so : List Record → Record → Type 0) (M all : List Move) (a : Attempt) (entry : ℕ → Record) → (ends : EndsIt M a entry all)
+    → (list_any (starts_on a.link.0 a.rule.0 a.number.0) (records_of all) ≡ true → so (records_of all) (entry ends.moment)) → AddsSo so M all
+end_so so M all a entry ends step = let x = entry ends.moment in record {
+  more = moves.Logged x ∷ [];
+  are = ends.are;
+  each = All-cons (so (records_of all)) x []
+      (step (any_later (starts_on a.link.0 a.rule.0 a.number.0) (records_of M) (x ∷ []) (records_of all) (ap records_of ends.are ∙ records_grown M (moves.Logged x ∷ [])) ends.started))
+      (All-nil (so (records_of all)));
+}
+
 pub halted_never : (why : Halt) (halt : Option Halt) → halt ≡ Some why → halt ≡ None → ⊥
 halted_never why halt is none = true≢false (sym (ap is_none (sym is ∙ none)))
 
 -- ---- what a call makes of a seat
 
 -- no link joined or changed
-hears_quiet : {L A : Type 0} (history : L → List Passed) {M all : List Move} (r : Result A Leave) (p p_now : PeerState L) (on : ReceivesOn (history p.way) (history p_now.way)) → joins_and_changes all ≡ joins_and_changes M → OnOk r (StaysHeard history p p_now)
+hears_quiet : {L A : Type 0} (history : L → List Passed) {M all : List Move} (r : Result A Leave) (p p_now : PeerState L) (on : PassesOn (history p.way) (history p_now.way)) → joins_and_changes all ≡ joins_and_changes M → OnOk r (StaysHeard history p p_now)
     → (n : ℕ) → HasHeard history p n → HearsOn history M all p_now r n
 hears_quiet history r p p_now on same heard n was = record {
   now = n;
@@ -183,10 +238,10 @@ module _ {L A : Type 0} {ill : LinkNo → L → Type 0} {history : L → List Pa
     going = λ none. one.going (two.going none);
     loses = λ none.
         let later = two.loses none in
-        let second = subst (λ (l : LinkNo). AddsSo (IsGivenBack (received_in (history s_now.peer.way)) l.0) mid all) one.link later in
-        adds_then (IsGivenBack (received_in (history s_mid.peer.way)) s.link.0) (IsGivenBack (received_in (history s_now.peer.way)) s.link.0) M mid all
-        (back_later (received_in (history s_mid.peer.way)) (received_in (history s_now.peer.way)) s.link.0 (records_of mid) (records_of later.more) (records_of all)
-        (λ number. gave_on (history s_mid.peer.way) (history s_now.peer.way) number two.comes) (records_after (IsGivenBack (received_in (history s_now.peer.way)) s_mid.link.0) mid all later))
+        let second = subst (λ (l : LinkNo). AddsSo (IsShownOn (history s_now.peer.way) l.0) mid all) one.link later in
+        adds_then (IsShownOn (history s_mid.peer.way) s.link.0) (IsShownOn (history s_now.peer.way) s.link.0) M mid all
+        (back_later (history s_mid.peer.way) (history s_now.peer.way) s.link.0 (records_of mid) (records_of later.more) (records_of all)
+        (shows_on (history s_mid.peer.way) (history s_now.peer.way) two.comes) (records_after (IsShownOn (history s_now.peer.way) s_mid.link.0) mid all later))
         (one.loses (two.going none)) second;
     leaves = two.leaves;
     counts = λ none n was.
@@ -200,7 +255,7 @@ module _ {L A : Type 0} {ill : LinkNo → L → Type 0} {history : L → List Pa
   }
 
   -- The run stopped.
-  pub fares_stopped : {M all : List Move} {halt halt_now : Option Halt} {s s_now : SeatState L} {r : Result A Leave} (why : Halt) → s_now.link ≡ s.link → ReceivesOn (history s.peer.way) (history s_now.peer.way) → halt_now ≡ Some why → FaresSeat ill history M all halt halt_now s s_now r
+  pub fares_stopped : {M all : List Move} {halt halt_now : Option Halt} {s s_now : SeatState L} {r : Result A Leave} (why : Halt) → s_now.link ≡ s.link → PassesOn (history s.peer.way) (history s_now.peer.way) → halt_now ≡ Some why → FaresSeat ill history M all halt halt_now s s_now r
   fares_stopped {M} {all} {halt} {halt_now} why link comes stopped = record {
     link = link;
     comes = comes;
@@ -215,22 +270,22 @@ module _ {L A : Type 0} {ill : LinkNo → L → Type 0} {history : L → List Pa
   fares_stopped_same {M} {all} {halt} {halt_now} {s} why stopped = fares_stopped why refl (received_same (history s.peer.way) (history s.peer.way) refl) stopped
 
   -- Nothing was given up.
-  pub fares_spared : {M all : List Move} {halt halt_now : Option Halt} {s s_now : SeatState L} {r : Result A Leave} → s_now.link ≡ s.link → ReceivesOn (history s.peer.way) (history s_now.peer.way) → halt_now ≡ halt → SparesAll M all → link_moves all ≡ link_moves M
+  pub fares_spared : {M all : List Move} {halt halt_now : Option Halt} {s s_now : SeatState L} {r : Result A Leave} → s_now.link ≡ s.link → PassesOn (history s.peer.way) (history s_now.peer.way) → halt_now ≡ halt → SparesAll M all → link_moves all ≡ link_moves M
       → IfErr r (LeavesFor ill all s_now) → OnOk r (StaysHeard history s.peer s_now.peer) → FaresSeat ill history M all halt halt_now s s_now r
   fares_spared {M} {all} {halt} {halt_now} {s} {s_now} {r} link comes same spares unlinked leaves heard = record {
     link = link;
     comes = comes;
     going = λ none. sym same ∙ none;
-    loses = λ none. spares_so (IsGivenBack (received_in (history s_now.peer.way)) s.link.0) M all (unlost_back (received_in (history s_now.peer.way)) s.link.0) spares;
+    loses = λ none. spares_so (IsShownOn (history s_now.peer.way) s.link.0) M all (unlost_back (history s_now.peer.way) s.link.0) spares;
     leaves = λ none. leaves;
     counts = λ none. hears_quiet history r s.peer s_now.peer comes (quiet_on M spares.more all spares.are spares.quiet) heard;
     states = λ none. states_none (received_in (history s_now.peer.way)) s.link.0 M all unlinked;
   }
 
   -- The moves are the same.
-  pub fares_still : {M all : List Move} {halt halt_now : Option Halt} {s s_now : SeatState L} {r : Result A Leave} → s_now.link ≡ s.link → ReceivesOn (history s.peer.way) (history s_now.peer.way) → halt_now ≡ halt → all ≡ M
+  pub fares_still : {M all : List Move} {halt halt_now : Option Halt} {s s_now : SeatState L} {r : Result A Leave} → s_now.link ≡ s.link → PassesOn (history s.peer.way) (history s_now.peer.way) → halt_now ≡ halt → all ≡ M
       → IfErr r (LeavesFor ill all s_now) → OnOk r (StaysHeard history s.peer s_now.peer) → FaresSeat ill history M all halt halt_now s s_now r
-  fares_still {M} link comes same still leaves heard = fares_spared link comes same (record { more = []; are = still ∙ sym (append-nil M); none = refl; quiet = refl }) (ap link_moves still) leaves heard
+  fares_still {M} link comes same still leaves heard = fares_spared link comes same (spares_same _ _ still) (ap link_moves still) leaves heard
 
   -- The same however else it was answered, where it went well.
   pub fares_ok : {B : Type 0} {M all : List Move} {halt halt_now : Option Halt} {s s_now : SeatState L} {x : B} {y : A} → FaresSeat ill history M all halt halt_now s s_now (Ok x) → FaresSeat ill history M all halt halt_now s s_now (Ok y)
@@ -257,22 +312,19 @@ module _ {L A : Type 0} {ill : LinkNo → L → Type 0} {history : L → List Pa
   }
 
   -- A step that gives nothing up, and then this.
-  pub fares_behind : {M mid all : List Move} {halt halt_now : Option Halt} {s s_mid s_now : SeatState L} {r : Result A Leave} → s_mid.link ≡ s.link → ReceivesOn (history s.peer.way) (history s_mid.peer.way) → SparesAll M mid → link_moves mid ≡ link_moves M → StaysHeard history s.peer s_mid.peer
+  pub fares_behind : {M mid all : List Move} {halt halt_now : Option Halt} {s s_mid s_now : SeatState L} {r : Result A Leave} → s_mid.link ≡ s.link → PassesOn (history s.peer.way) (history s_mid.peer.way) → SparesAll M mid → link_moves mid ≡ link_moves M → StaysHeard history s.peer s_mid.peer
       → FaresSeat ill history mid all halt halt_now s_mid s_now r → FaresSeat ill history M all halt halt_now s s_now r
   fares_behind {M} {mid} {all} {halt} {halt_now} {s} {s_mid} {s_now} {r} link comes spares unlinked heard fares =
       let one : FaresSeat ill history M mid halt halt s s_mid (ended Leave) = record {
         link = link;
         comes = comes;
         going = λ none. none;
-        loses = λ none. spares_so (IsGivenBack (received_in (history s_mid.peer.way)) s.link.0) M mid (unlost_back (received_in (history s_mid.peer.way)) s.link.0) spares;
+        loses = λ none. spares_so (IsShownOn (history s_mid.peer.way) s.link.0) M mid (unlost_back (history s_mid.peer.way) s.link.0) spares;
         leaves = λ none. tt;
         counts = λ none. hears_quiet history (ended Leave) s.peer s_mid.peer comes (quiet_on M spares.more mid spares.are spares.quiet) heard;
         states = λ none. states_none (received_in (history s_mid.peer.way)) s.link.0 M mid unlinked;
       } in
       fares_then one fares
-
-pub spares_same : (M all : List Move) → all ≡ M → SparesAll M all
-spares_same M all same = record { more = []; are = same ∙ sym (append-nil M); none = refl; quiet = refl }
 
 module _ {L A : Type 0} {ill : LinkNo → L → Type 0} {history : L → List Passed} where
   -- where the seat is the same
@@ -282,22 +334,22 @@ module _ {L A : Type 0} {ill : LinkNo → L → Type 0} {history : L → List Pa
   pub fares_same : {M : List Move} {halt : Option Halt} {s : SeatState L} {x : A} → FaresSeat ill history M M halt halt s s (Ok x)
   fares_same {M} = fares_spared_same (spares_same M M refl) refl
 
-pub same_way : {L : Type 0} (history : L → List Passed) (s s_now : SeatState L) → s_now.peer.way ≡ s.peer.way → ReceivesOn (history s.peer.way) (history s_now.peer.way)
+pub same_way : {L : Type 0} (history : L → List Passed) (s s_now : SeatState L) → s_now.peer.way ≡ s.peer.way → PassesOn (history s.peer.way) (history s_now.peer.way)
 same_way history s s_now same = received_same (history s.peer.way) (history s_now.peer.way) (ap history same)
 
 -- An attempt ended so.
-pub ends_so : (up : List ℕ) (M all : List Move) (a : Attempt) (outcome : Outcome) → EndsWith M a outcome all → GaveBackIf up a.number outcome → AddsSo (IsGivenBack up a.link.0) M all
-ends_so up M all a (outcomes.Success outs) ends gave = spares_so (IsGivenBack up a.link.0) M all (unlost_back up a.link.0) ends
-ends_so up M all a (outcomes.Failed why) ends gave = spares_so (IsGivenBack up a.link.0) M all (unlost_back up a.link.0) ends
-ends_so up M all a outcomes.NotRun ends gave = it_so (IsGivenBack up a.link.0) M all a ends (λ started. (started, gave))
+pub ends_so : (past : List Passed) (M all : List Move) (a : Attempt) (outcome : Outcome) → EndsWith M a outcome all → ShowsOutcome past a.number outcome → AddsSo (IsShownOn past a.link.0) M all
+ends_so past M all a (outcomes.Success outs) ends shown = end_so (IsShownOn past a.link.0) M all a (done_as a outs) ends (λ started. inr (started, (outs, refl, shown)))
+ends_so past M all a (outcomes.Failed why) ends shown = end_so (IsShownOn past a.link.0) M all a (failed_as a why) ends (λ started. inr (started, shown))
+ends_so past M all a outcomes.NotRun ends shown = it_so (IsShownOn past a.link.0) M all a ends (λ started. (started, shown))
 
 ends_quiet : (M all : List Move) (a : Attempt) (outcome : Outcome) → EndsWith M a outcome all → joins_and_changes all ≡ joins_and_changes M
-ends_quiet M all a (outcomes.Success outs) ends = quiet_on M ends.more all ends.are ends.quiet
-ends_quiet M all a (outcomes.Failed why) ends = quiet_on M ends.more all ends.are ends.quiet
+ends_quiet M all a (outcomes.Success outs) ends = quiet_on M (moves.Logged (done_as a outs ends.moment) ∷ []) all ends.are refl
+ends_quiet M all a (outcomes.Failed why) ends = quiet_on M (moves.Logged (failed_as a why ends.moment) ∷ []) all ends.are refl
 ends_quiet M all a outcomes.NotRun ends = quiet_on M (moves.Logged (records.Lost ends.moment a.rule a.number) ∷ []) all ends.are refl
 
 -- as many offers were heard as before
-pub ends_heard : {L : Type 0} (history : L → List Passed) (p p_now : PeerState L) (M all : List Move) (a : Attempt) (outcome : Outcome) → EndsWith M a outcome all → ReceivesOn (history p.way) (history p_now.way) → p_now ≡ p → (n : ℕ) → HasHeard history p n → HearsOn history M all p_now (ended Leave) n
+pub ends_heard : {L : Type 0} (history : L → List Passed) (p p_now : PeerState L) (M all : List Move) (a : Attempt) (outcome : Outcome) → EndsWith M a outcome all → PassesOn (history p.way) (history p_now.way) → p_now ≡ p → (n : ℕ) → HasHeard history p n → HearsOn history M all p_now (ended Leave) n
 ends_heard history p p_now M all a outcome ends comes same = hears_quiet history (ended Leave) p p_now comes (ends_quiet M all a outcome ends) (heard_same history p p_now same)
 
 -- ---- why a link is left
@@ -335,21 +387,43 @@ module _ {L : Type 0} (gives : Function) (may_fail : Job → Failure → Type 0)
   what_came : (past : List Passed) (feed : Stream) (session : State) (said heard : List Message) (m : Message) → Serves gives may_fail past feed session said heard None → IsAmong m heard → Carries (received_in past) m
   what_came past feed session said heard m serves among = (went_and_came gives may_fail past feed session said heard None m serves).1 among
 
-  -- what a peer tells shows what was given back, and why it is left
-  pub shows_by : (past : List Passed) (said heard : List Message) (feed : Stream) (session : State) (t : Result Told Leave) → ServesOn gives may_fail past said heard t feed session → Shows past t
-  shows_by past said heard feed session (Ok tell.Nothing) on = tt
-  shows_by past said heard feed session (Ok (tell.Joined total largest cache)) on = tt
-  shows_by past said heard feed session (Ok (tell.Changed total largest cache)) on = what_came past feed session said (heard ++ (on.message ∷ [])) (messages.Totals total largest cache) on.serves on.is_so
-  shows_by past said heard feed session (Ok (tell.Finish attempt outs)) on = tt
-  shows_by past said heard feed session (Ok (tell.Fail attempt why)) on = tt
-  shows_by past said heard feed session (Ok (tell.Lose attempt)) on = record { heard = heard ++ (on.message ∷ []); came = (feed.rest, on.serves.came); so = on.is_so }
-  shows_by past said heard feed session (Ok (tell.PutAgain attempt files)) on = tt
-  shows_by past said heard feed session (Ok (tell.Stale attempt)) on = tt
-  shows_by past said heard feed session (Err leaves.Closed) on = on.1
-  shows_by past said heard feed session (Err leaves.Failed) on = on.1
-  shows_by past said heard feed session (Err leaves.Bad) on = on.1
-  shows_by past said heard feed session (Err leaves.Unexpected) on = on.1
-  shows_by past said heard feed session (Err leaves.Memory) on = tt
+  -- a result came, and its task had been sent
+  told_by : (past : List Passed) (feed : Stream) (session : State) (said heard : List Message) (number : AttemptNo) (outcome : Outcome) → ((t : Task) → IsAmong (messages.Task t) said → WasProvided said t) → Serves gives may_fail past feed session said heard None
+      → IsResult gives may_fail past said heard number outcome → WasTold past number outcome
+  told_by past feed session said heard number outcome provided serves is =
+      let p = provided is.task is.asked in
+      let head : List Message = p.before ++ (messages.Task is.task ∷ []) in
+      let row : said ≡ head ++ p.after = p.row ∙ sym (append_assoc p.before (messages.Task is.task ∷ []) p.after) in
+      record {
+        came = what_came past feed session said heard (messages.Done number outcome) serves is.came;
+        task = is.task;
+        of_attempt = is.of_attempt;
+        before = p.before;
+        asked = (
+          frames_of p.after,
+          record {
+            framed_all = framed_front head p.after (subst AreFramed row serves.said_framed);
+            are = serves.sent ∙ ap frames_of row ∙ frames_append head p.after;
+          },
+        );
+        inputs = p.inputs;
+      }
+
+  -- what a peer tells shows what was told or given back, and why it is left
+  pub shows_by : (past : List Passed) (said heard : List Message) → ((t : Task) → IsAmong (messages.Task t) said → WasProvided said t) → (feed : Stream) (session : State) (t : Result Told Leave) → ServesOn gives may_fail past said heard t feed session → Shows past t
+  shows_by past said heard provided feed session (Ok tell.Nothing) on = tt
+  shows_by past said heard provided feed session (Ok (tell.Joined total largest cache)) on = tt
+  shows_by past said heard provided feed session (Ok (tell.Changed total largest cache)) on = what_came past feed session said (heard ++ (on.message ∷ [])) (messages.Totals total largest cache) on.serves on.is_so
+  shows_by past said heard provided feed session (Ok (tell.Finish attempt outs)) on = told_by past feed session said (heard ++ (on.message ∷ [])) attempt (outcomes.Success outs) provided on.serves on.is_so
+  shows_by past said heard provided feed session (Ok (tell.Fail attempt why)) on = told_by past feed session said (heard ++ (on.message ∷ [])) attempt (outcomes.Failed why) provided on.serves on.is_so
+  shows_by past said heard provided feed session (Ok (tell.Lose attempt)) on = record { heard = heard ++ (on.message ∷ []); came = (feed.rest, on.serves.came); so = on.is_so }
+  shows_by past said heard provided feed session (Ok (tell.PutAgain attempt files)) on = tt
+  shows_by past said heard provided feed session (Ok (tell.Stale attempt)) on = tt
+  shows_by past said heard provided feed session (Err leaves.Closed) on = on.1
+  shows_by past said heard provided feed session (Err leaves.Failed) on = on.1
+  shows_by past said heard provided feed session (Err leaves.Bad) on = on.1
+  shows_by past said heard provided feed session (Err leaves.Unexpected) on = on.1
+  shows_by past said heard provided feed session (Err leaves.Memory) on = tt
 
 -- the desk takes no more changes
 pub change_full : (M : List Move) (why : JoinRefused) → change_refusal M ≡ Some why → IsFull M
@@ -389,7 +463,7 @@ module _ {S : Type 0} where
         link = more.link;
         comes = more.comes;
         going = λ none. none;
-        loses = λ none. changes_so (IsGivenBack (received_in (history s_now.peer.way)) before.link.0) d after link total largest cache reply changes;
+        loses = λ none. changes_so (IsShownOn (history s_now.peer.way) before.link.0) d after link total largest cache reply changes;
         leaves = λ none. leaves;
         counts = λ none n was.
             let heard = more.more n was in
@@ -436,7 +510,7 @@ module _ {S : Type 0} where
   leaves_linked d after link h = linked_one d.moves (moves.Left link) after.moves refl (ap (λ (b : DeskState S). b.moves) h)
 
   pub leaves_spare : (d after : DeskState S) (link : LinkNo) → Leaves d link after → SparesAll d.moves after.moves
-  leaves_spare d after link h = record { more = moves.Left link ∷ []; are = ap (λ (b : DeskState S). b.moves) h; none = refl; quiet = refl }
+  leaves_spare d after link h = record { more = moves.Left link ∷ []; are = ap (λ (b : DeskState S). b.moves) h; none = refl; here = All-nil (EndsHere (records_of after.moves)); quiet = refl }
 
   -- What a join makes of the moves.
   pub joins_so : (so : List Record → Record → Type 0) (d after : DeskState S) (total largest : Amounts) (cache : ℕ) (link : LinkNo) → (let r : Result LinkNo JoinRefused = Ok link in Joins d total largest cache r after) → AddsSo so d.moves after.moves

@@ -5,7 +5,7 @@ use Rattle.std.proofs.lemmas.List.{append-nil}
 use Rattle.flow_types.specs.declared.numbers.LinkNo.{LinkNo}
 use Rattle.links.specs.declared.passing.Passed.{Passed}
 use Rattle.links.specs.Passings.{received_in}
-use Rattle.peers.specs.States.{ReceivesOn}
+use Rattle.peers.specs.States.{PassesOn}
 use Rattle.wq_run.specs.Seats.{SeatState}
 use Rattle.wq_run.specs.Vain.{HandsBack, IsOfSeat}
 
@@ -28,7 +28,7 @@ module _ {L : Type 0} (history : L → List Passed) where
 
   -- The last seat's link is handed back.
   pub hands_last : (seats seats_mid seats_now : List (SeatState L)) (s : SeatState L) (link : LinkNo) (way : L) (got got_mid got_now : List (Option LinkNo × L)) → HandsOn seats seats_mid got got_mid → seats_mid ≡ seats_now ++ (s ∷ []) → link ≡ s.link
-      → ReceivesOn (history s.peer.way) (history way) → got_now ≡ got_mid ++ ((Some link, way) ∷ []) → HandsOn seats seats_now got got_now
+      → PassesOn (history s.peer.way) (history way) → got_now ≡ got_mid ++ ((Some link, way) ∷ []) → HandsOn seats seats_now got got_now
   hands_last seats seats_mid seats_now s link way got got_mid got_now hands are same on back =
       let many = ap length are in
       let both = length-append seats_now (s ∷ []) in

@@ -31,13 +31,13 @@ use Rattle.link_session.specs.Fits.{has_all, outcome_fits}
 use Rattle.link_session.specs.Sessions.{State, breaks, closed_at, ended_at, ended_by, greets, hears, lacked_at, lacked_by, lost, most_misses, place, put_again, says, told_by, word_of}
 use Rattle.links.specs.declared.passing.Passed.{Passed}
 use Rattle.links.specs.Ill.{offers_in}
-use Rattle.links.specs.Passings.{received_in}
+use Rattle.links.specs.Passings.{received_in, sent_in}
 use Rattle.peers.specs.declared.leave.Leave.{Leave}
 use Rattle.peers.specs.declared.told.Told.{Told}
 use Rattle.peers.specs.declared.told.Told.TheVariants as tell
 use Rattle.peers.specs.Hears.{Hears, Takes, Tells, Turns, told_as}
 use Rattle.peers.specs.Serves.{Serves}
-use Rattle.peers.specs.States.{PeerState, ReceivesOn}
+use Rattle.peers.specs.States.{PeerState, PassesOn}
 use Rattle.wq_run.specs.Seats.{SeatState}
 use Rattle.wq_run.specs.Dues.{CameAll, HasCome, HasHeard, HeardAll, HeardBut, HearsMore, HearsOffer, StaysHeard}
 
@@ -100,7 +100,7 @@ module _ {L : Type 0} (history : L → List Passed) where
   heard_come p n heard = record { messages = heard.heard; begins = heard.begins; many = heard.many }
 
   -- What was taken off the feed stays so where the feed grows by no more than came.
-  pub heard_on : (p p_now : PeerState L) (on : ReceivesOn (history p.way) (history p_now.way)) → length p_now.feed.rest ≤ length p.feed.rest + length on.0 → StaysHeard history p p_now
+  pub heard_on : (p p_now : PeerState L) (on : PassesOn (history p.way) (history p_now.way)) → length p_now.feed.rest ≤ length p.feed.rest + length on.0 → StaysHeard history p p_now
   heard_on p p_now on less n heard = record {
     heard = heard.heard;
     begins = (
@@ -119,18 +119,18 @@ module _ {L : Type 0} (history : L → List Passed) where
   }
 
   -- the feed is the same
-  pub heard_fed : (p p_now : PeerState L) → ReceivesOn (history p.way) (history p_now.way) → p_now.feed ≡ p.feed → StaysHeard history p p_now
+  pub heard_fed : (p p_now : PeerState L) → PassesOn (history p.way) (history p_now.way) → p_now.feed ≡ p.feed → StaysHeard history p p_now
   heard_fed p p_now on same = heard_on p p_now on (let rest = ap (λ (f : Stream). length f.rest) same in omega (arith, rest))
 
   -- the link is the same, and the feed is or has fewer bytes
   pub heard_still : (p p_now : PeerState L) → p_now.way ≡ p.way → length p_now.feed.rest ≤ length p.feed.rest → StaysHeard history p p_now
-  heard_still p p_now way less = heard_on p p_now ([], ap (λ (w : L). received_in (history w)) way ∙ sym (append-nil (received_in (history p.way)))) (omega (arith, less))
+  heard_still p p_now way less = heard_on p p_now ([], ap (λ (w : L). received_in (history w)) way ∙ sym (append-nil (received_in (history p.way))), ([], ap (λ (w : L). sent_in (history w)) way ∙ sym (append-nil (sent_in (history p.way))))) (omega (arith, less))
 
   pub heard_same : (p p_now : PeerState L) → p_now ≡ p → StaysHeard history p p_now
   heard_same p p_now same n heard = subst (λ (q : PeerState L). HasHeard history q n) (sym same) heard
 
   -- bytes came to the feed, and no message was taken off
-  pub heard_served : (gives : Function) (may_fail : Job → Failure → Type 0) (p p_now : PeerState L) (said heard : List Message) (waiting : Option Task) → ReceivesOn (history p.way) (history p_now.way)
+  pub heard_served : (gives : Function) (may_fail : Job → Failure → Type 0) (p p_now : PeerState L) (said heard : List Message) (waiting : Option Task) → PassesOn (history p.way) (history p_now.way)
       → Serves gives may_fail (history p.way) p.feed p.session said heard waiting → Serves gives may_fail (history p_now.way) p_now.feed p_now.session said heard waiting → StaysHeard history p p_now
   heard_served gives may_fail p p_now said heard waiting on old new = heard_on p p_now on (
       let was = ap length old.came.are in

@@ -23,7 +23,8 @@ pub mod Heards
 pub mod Fares
 pub mod Duly
 pub mod Duties
-pub mod Leaving
+pub mod Known
+mod Leaving
 pub mod Vain
 pub mod Hands
 pub mod Whole

@@ -25,7 +25,7 @@ use Rattle.run_history.specs.Links.{records_of}
 use Rattle.outside.specs.Disk.{Outcomes}
 use Rattle.outside.specs.Files.{Files}
 use Rattle.link_session.specs.declared.open.Open.{Open}
-use Rattle.link_session.specs.Sessions.{State}
+use Rattle.link_session.specs.Sessions.{State, started}
 use Rattle.links.specs.declared.passing.Passed.{Passed}
 use Rattle.links.specs.Honesty.{task_job}
 use Rattle.message_forms.specs.Streams.{IsAmong}
@@ -37,7 +37,12 @@ use Rattle.desk.specs.Tasks.{task_of, task_with}
 use Rattle.peers.specs.declared.leave.Leave.{Leave}
 use Rattle.peers.specs.declared.told.Told.{Told}
 use Rattle.peers.specs.declared.told.Told.TheVariants as tell
+use Rattle.link_session.specs.Keys.{lacking}
+use Rattle.flow_types.specs.declared.numbers.FileNo.{FileNo}
 use Rattle.peers.specs.Hears.{Hears, IsResult, ServesOn, Tells}
+use Rattle.peers.specs.Provides.{IsPutOrLeft, Provides, keys_of}
+use Rattle.peers.proofs.Providing.{provides_again, provides_asked, provides_first, provides_heard, provides_opened, provides_put, provides_said}
+use Rattle.wq_run.proofs.Known.{known_on}
 use Rattle.peers.specs.Serves.{AreDue, DueStaysDue, IsNew, Serves, WasHonest}
 use Rattle.peers.specs.States.{PeerState, new_peer}
 use Rattle.peers.proofs.Serving.{among_left, among_or}
@@ -246,14 +251,14 @@ newer_none newest number is t up = absurd (subst (λ (o : Option AttemptNo). IsU
 -- ---- seats
 
 module _ {L : Type 0} (holds : Type 0) (gives : Function) (may_fail : Job → Failure → Type 0) (history : L → List Passed) (honest : L → Type 0) (P : Plan) (run : ℕ) (due : Contents) where
-  abbrev pub Spoken : SeatState L → List Message → List Message → Option Task → Type 0
-  Spoken s said heard waiting = SpokenTo holds gives may_fail history honest P run due s said heard waiting
+  abbrev pub Spoken : SeatState L → List Message → List Message → Option Task → List Key → Type 0
+  Spoken s said heard waiting left = SpokenTo holds gives may_fail history honest P run due s said heard waiting left
 
   abbrev pub Trusted : SeatState L → Type 0
   Trusted s = IsTrusted holds gives may_fail history honest P run due s
 
-  abbrev pub Asks : SeatState L → Task → Type 0
-  Asks s task = MayAsk holds gives may_fail history honest P run due s task
+  abbrev pub Asks : SeatState L → Task → List Key → Type 0
+  Asks s task left = MayAsk holds gives may_fail history honest P run due s task left
 
   abbrev pub Opens : SeatState L → AttemptNo → Type 0
   Opens s number = MayOpen holds gives may_fail history honest P run due s number
@@ -267,14 +272,15 @@ module _ {L : Type 0} (holds : Type 0) (gives : Function) (may_fail : Job → Fa
   guest_trusted p link guest = record {
     said = [];
     heard = guest.heard;
-    spoken = record { serves = guest.serves; put = λ held key content is. absurd is; asked = tt; older = λ t is. absurd is; honestly = guest.honestly };
+    spoken = record { serves = guest.serves; provides = guest.provides; put = λ held key content is. absurd is; asked = tt; older = λ t is. absurd is; honestly = guest.honestly };
   }
 
   -- A message more was said.
-  said_more : (s : SeatState L) (p : PeerState L) (m : Message) (said heard : List Message) (waiting waiting_now : Option Task) → Spoken s said heard waiting → ServesBy p (said ++ (m ∷ [])) heard waiting_now → (holds → AreDue due (said ++ (m ∷ [])))
-      → ((t : Task) → messages.Task t ≡ m → AllByRecursion (IsOwn P run t) s.attempts × IsUpTo s.newest t.attempt) → honest p.way → Spoken (record s { peer = p }) (said ++ (m ∷ [])) heard waiting_now
-  said_more s p m said heard waiting waiting_now spoken serves put task on = record {
+  said_more : (s : SeatState L) (p : PeerState L) (m : Message) (said heard : List Message) (waiting waiting_now : Option Task) (left left_now : List Key) → Spoken s said heard waiting left → ServesBy p (said ++ (m ∷ [])) heard waiting_now → Provides p.session.known (said ++ (m ∷ [])) waiting_now left_now → (holds → AreDue due (said ++ (m ∷ [])))
+      → ((t : Task) → messages.Task t ≡ m → AllByRecursion (IsOwn P run t) s.attempts × IsUpTo s.newest t.attempt) → honest p.way → Spoken (record s { peer = p }) (said ++ (m ∷ [])) heard waiting_now left_now
+  said_more s p m said heard waiting waiting_now left left_now spoken serves provides put task on = record {
     serves = serves;
+    provides = provides;
     put = put;
     asked = asked_more s.attempts spoken.asked (λ t is. (task t is).0);
     older = λ t is. older_by t (among_or (messages.Task t) m said is);
@@ -302,20 +308,21 @@ module _ {L : Type 0} (holds : Type 0) (gives : Function) (may_fail : Job → Fa
       is_task (messages.Task x) = true
       is_task m = false
 
-  put_spoken : (s : SeatState L) (p : PeerState L) (key : Key) (content : List ℕ) (said heard : List Message) (waiting : Option Task) → DueStaysDue → (holds → due key.file.0 ≡ Some content) → Spoken s said heard waiting
-      → ServesBy p (said ++ (messages.Put key content ∷ [])) heard waiting → honest p.way → Spoken (record s { peer = p }) (said ++ (messages.Put key content ∷ [])) heard waiting
-  put_spoken s p key content said heard waiting stays is spoken serves on =
-      said_more s p (messages.Put key content) said heard waiting waiting spoken serves (λ held. stays due said (messages.Put key content) (spoken.put held) (is held)) (λ t same. absurd (task_no_put key content t same)) on
+  put_spoken : (s : SeatState L) (p : PeerState L) (key : Key) (content : List ℕ) (said heard : List Message) (waiting : Option Task) (left left_now : List Key) → DueStaysDue → (holds → due key.file.0 ≡ Some content) → Spoken s said heard waiting left
+      → ServesBy p (said ++ (messages.Put key content ∷ [])) heard waiting → p.session ≡ s.peer.session → Provides s.peer.session.known (said ++ (messages.Put key content ∷ [])) waiting left_now → honest p.way → Spoken (record s { peer = p }) (said ++ (messages.Put key content ∷ [])) heard waiting left_now
+  put_spoken s p key content said heard waiting left left_now stays is spoken serves same provides on =
+      said_more s p (messages.Put key content) said heard waiting waiting left left_now spoken serves (subst (λ (x : State). Provides x.known (said ++ (messages.Put key content ∷ [])) waiting left_now) (sym same) provides) (λ held. stays due said (messages.Put key content) (spoken.put held) (is held)) (λ t same. absurd (task_no_put key content t same)) on
 
   -- what a call that puts a content does
   abbrev pub Puts : PeerState L → PeerState L → Key → List ℕ → Type 0
   Puts p p_now key content = (said heard : List Message) (waiting : Option Task) → honest p.way → ServesBy p said heard waiting → ServesBy p_now (said ++ (messages.Put key content ∷ [])) heard waiting
 
-  pub put_trusted : (s : SeatState L) (p : PeerState L) (key : Key) (content : List ℕ) → DueStaysDue → (holds → due key.file.0 ≡ Some content) → Puts s.peer p key content → (honest s.peer.way → honest p.way) → Trusted s → Trusted (record s { peer = p })
-  put_trusted s p key content stays is puts on was = record {
+  pub put_trusted : (s : SeatState L) (p : PeerState L) (key : Key) (content : List ℕ) → DueStaysDue → (holds → due key.file.0 ≡ Some content) → p.session ≡ s.peer.session → Puts s.peer p key content → (honest s.peer.way → honest p.way) → Trusted s → Trusted (record s { peer = p })
+  put_trusted s p key content stays is same puts on was = record {
     said = was.said ++ (messages.Put key content ∷ []);
     heard = was.heard;
-    spoken = put_spoken s p key content was.said was.heard None stays is was.spoken (puts was.said was.heard None was.spoken.honestly was.spoken.serves) (on was.spoken.honestly);
+    spoken = put_spoken s p key content was.said was.heard None [] [] stays is was.spoken (puts was.said was.heard None was.spoken.honestly was.spoken.serves) same
+        (provides_said s.peer.session.known [] was.said None (messages.Put key content) (task_no_put key content) was.spoken.provides) (on was.spoken.honestly);
   }
 
   task_no_unlink : (key : Key) (t : Task) → messages.Task t ≡ messages.Unlink key → ⊥
@@ -326,20 +333,22 @@ module _ {L : Type 0} (holds : Type 0) (gives : Function) (may_fail : Job → Fa
       is_task m = false
 
   -- a word was said that changes nothing
-  pub word_trusted : (s : SeatState L) (p : PeerState L) (key : Key) → DueStaysDue
+  pub word_trusted : (s : SeatState L) (p : PeerState L) (key : Key) → DueStaysDue → p.session ≡ s.peer.session
       → ((said heard : List Message) (waiting : Option Task) → honest s.peer.way → ServesBy s.peer said heard waiting → ServesBy p (said ++ (messages.Unlink key ∷ [])) heard waiting) → (honest s.peer.way → honest p.way) → Trusted s → Trusted (record s { peer = p })
-  word_trusted s p key stays says on was = record {
+  word_trusted s p key stays same says on was = record {
     said = was.said ++ (messages.Unlink key ∷ []);
     heard = was.heard;
-    spoken = said_more s p (messages.Unlink key) was.said was.heard None None was.spoken (says was.said was.heard None was.spoken.honestly was.spoken.serves) (λ held. stays due was.said (messages.Unlink key) (was.spoken.put held) tt) (λ t same. absurd (task_no_unlink key t same)) (on was.spoken.honestly);
+    spoken = said_more s p (messages.Unlink key) was.said was.heard None None [] [] was.spoken (says was.said was.heard None was.spoken.honestly was.spoken.serves)
+        (subst (λ (x : State). Provides x.known (was.said ++ (messages.Unlink key ∷ [])) None []) (sym same) (provides_said s.peer.session.known [] was.said None (messages.Unlink key) (task_no_unlink key) was.spoken.provides)) (λ held. stays due was.said (messages.Unlink key) (was.spoken.put held) tt) (λ t same. absurd (task_no_unlink key t same)) (on was.spoken.honestly);
   }
 
-  pub put_asks : (s : SeatState L) (p : PeerState L) (key : Key) (content : List ℕ) (task : Task) → DueStaysDue → (holds → due key.file.0 ≡ Some content) → Puts s.peer p key content → (honest s.peer.way → honest p.way) → Asks s task → Asks (record s { peer = p }) task
-  put_asks s p key content task stays is puts on may = record {
+  pub put_asks : (s : SeatState L) (p : PeerState L) (key : Key) (content : List ℕ) (task : Task) (left : List Key) → DueStaysDue → (holds → due key.file.0 ≡ Some content) → p.session ≡ s.peer.session → Puts s.peer p key content → (honest s.peer.way → honest p.way) → Asks s task (key ∷ left) → Asks (record s { peer = p }) task left
+  put_asks s p key content task left stays is same puts on may = record {
     said = may.said ++ (messages.Put key content ∷ []);
     heard = may.heard;
     waiting = may.waiting;
-    spoken = put_spoken s p key content may.said may.heard may.waiting stays is may.spoken (puts may.said may.heard may.waiting may.spoken.honestly may.spoken.serves) (on may.spoken.honestly);
+    spoken = put_spoken s p key content may.said may.heard may.waiting (key ∷ left) left stays is may.spoken (puts may.said may.heard may.waiting may.spoken.honestly may.spoken.serves) same
+        (provides_put s.peer.session.known left may.said may.waiting key content may.spoken.provides) (on may.spoken.honestly);
     may = still may.may;
     own = may.own;
     newest = may.newest;
@@ -365,16 +374,20 @@ module _ {L : Type 0} (holds : Type 0) (gives : Function) (may_fail : Job → Fa
   abbrev pub AsksAgain : PeerState L → PeerState L → Task → Type 0
   AsksAgain p p_now task = (said heard : List Message) → honest p.way → ServesBy p said heard None → IsAmong (messages.Task task) said → ServesBy p_now (said ++ (messages.Task task ∷ [])) heard None
 
-  pub ask_trusted : (s : SeatState L) (p : PeerState L) (task : Task) → DueStaysDue → AsksFirst s.peer p task → AsksAgain s.peer p task → (honest s.peer.way → honest p.way) → Asks s task → Trusted (record s { peer = p })
-  ask_trusted s p task stays first again on may = record {
+  pub ask_trusted : (s : SeatState L) (p : PeerState L) (task : Task) → DueStaysDue → p.session ≡ s.peer.session → AsksFirst s.peer p task → AsksAgain s.peer p task → (honest s.peer.way → honest p.way) → Asks s task [] → Trusted (record s { peer = p })
+  ask_trusted s p task stays same first again on may = record {
     said = may.said ++ (messages.Task task ∷ []);
     heard = may.heard;
-    spoken = said_more s p (messages.Task task) may.said may.heard may.waiting None may.spoken (served may.may) (λ held. stays due may.said (messages.Task task) (may.spoken.put held) tt) own (on may.spoken.honestly);
+    spoken = said_more s p (messages.Task task) may.said may.heard may.waiting None [] [] may.spoken (served may.may) (subst (λ (x : State). Provides x.known (may.said ++ (messages.Task task ∷ [])) None []) (sym same) (provided may.may)) (λ held. stays due may.said (messages.Task task) (may.spoken.put held) tt) own (on may.spoken.honestly);
   }
     where
       served : (may.waiting ≡ Some task) ⊎ ((may.waiting ≡ None) × IsAmong (messages.Task task) may.said) → ServesBy p (may.said ++ (messages.Task task ∷ [])) may.heard None
       served (inl waits) = first may.said may.heard may.spoken.honestly (subst (ServesBy s.peer may.said may.heard) waits may.spoken.serves)
       served (inr among) = again may.said may.heard may.spoken.honestly (subst (ServesBy s.peer may.said may.heard) among.0 may.spoken.serves) among.1
+
+      provided : (may.waiting ≡ Some task) ⊎ ((may.waiting ≡ None) × IsAmong (messages.Task task) may.said) → Provides s.peer.session.known (may.said ++ (messages.Task task ∷ [])) None []
+      provided (inl waits) = provides_asked s.peer.session.known may.said task (subst (λ (w : Option Task). Provides s.peer.session.known may.said w []) waits may.spoken.provides)
+      provided (inr among) = provides_again s.peer.session.known may.said task among.1 (subst (λ (w : Option Task). Provides s.peer.session.known may.said w []) among.0 may.spoken.provides)
 
       own : (t : Task) → messages.Task t ≡ messages.Task task → AllByRecursion (IsOwn P run t) s.attempts × IsUpTo s.newest t.attempt
       own t same = let one : task ≡ t = sym (task_is t task same) in (
@@ -394,13 +407,16 @@ module _ {L : Type 0} (holds : Type 0) (gives : Function) (may_fail : Job → Fa
   less_up : (m n : ℕ) → m < n → m ≤ n
   less_up m n less = omega (arith, less)
 
-  pub open_asks : (s : SeatState L) (p : PeerState L) (task : Task) → OpensTask s.peer p task → (honest s.peer.way → honest p.way) → Opens s task.attempt → AllByRecursion (IsOwn P run task) s.attempts → Asks (record s { peer = p; newest = Some task.attempt }) task
-  open_asks s p task opens on may own = record {
+  pub open_asks : (s : SeatState L) (p : PeerState L) (task : Task) (files : List FileNo) → p.session ≡ started s.peer.session task → files ≡ lacking s.peer.session.known task.run task.inputs → OpensTask s.peer p task → (honest s.peer.way → honest p.way) → Opens s task.attempt
+      → AllByRecursion (IsOwn P run task) s.attempts → Asks (record s { peer = p; newest = Some task.attempt }) task (keys_of task.run files)
+  open_asks s p task files now left opens on may own = record {
     said = may.said;
     heard = may.heard;
     waiting = Some task;
     spoken = record {
       serves = opens may.said may.heard may.spoken.honestly may.spoken.serves (λ t is same. less_apart t.attempt task.attempt (may.earlier t is) same);
+      provides = subst (λ (x : State). Provides x.known may.said (Some task) (keys_of task.run files)) (sym now)
+          (subst (λ (xs : List FileNo). Provides (started s.peer.session task).known may.said (Some task) (keys_of task.run xs)) (sym left) (provides_opened s.peer.session.known may.said task may.spoken.provides));
       put = may.spoken.put;
       asked = may.spoken.asked;
       older = λ t is. less_up t.attempt.0 task.attempt.0 (may.earlier t is);
@@ -422,6 +438,7 @@ module _ {L : Type 0} (holds : Type 0) (gives : Function) (may_fail : Job → Fa
     heard = may.heard;
     spoken = record {
       serves = may.spoken.serves;
+      provides = may.spoken.provides;
       put = may.spoken.put;
       asked = all_append (SaysOwn P run may.said) s.attempts (a ∷ []) may.spoken.asked ((λ t is same. absurd (less_apart t.attempt a.number (may.earlier t is) same)), tt);
       older = may.spoken.older;
@@ -436,7 +453,7 @@ module _ {L : Type 0} (holds : Type 0) (gives : Function) (may_fail : Job → Fa
   attempts_less s xs less was = record {
     said = was.said;
     heard = was.heard;
-    spoken = record { serves = was.spoken.serves; put = was.spoken.put; asked = less (SaysOwn P run was.said) was.spoken.asked; older = was.spoken.older; honestly = was.spoken.honestly };
+    spoken = record { serves = was.spoken.serves; provides = was.spoken.provides; put = was.spoken.put; asked = less (SaysOwn P run was.said) was.spoken.asked; older = was.spoken.older; honestly = was.spoken.honestly };
   }
 
   pub take_trusted : (s : SeatState L) (xs : List Attempt) (at : ℕ) → xs ≡ remove s.attempts at → Trusted s → Trusted (seat_with s xs)
@@ -448,11 +465,11 @@ module _ {L : Type 0} (holds : Type 0) (gives : Function) (may_fail : Job → Fa
 
   -- ---- bytes come
 
-  pub come_trusted : (s : SeatState L) (p : PeerState L) → ((said heard : List Message) (waiting : Option Task) → honest s.peer.way → ServesBy s.peer said heard waiting → ServesBy p said heard waiting) → (honest s.peer.way → honest p.way) → Trusted s → Trusted (record s { peer = p })
-  come_trusted s p stays on was = record {
+  pub come_trusted : (s : SeatState L) (p : PeerState L) → p.session ≡ s.peer.session → ((said heard : List Message) (waiting : Option Task) → honest s.peer.way → ServesBy s.peer said heard waiting → ServesBy p said heard waiting) → (honest s.peer.way → honest p.way) → Trusted s → Trusted (record s { peer = p })
+  come_trusted s p same stays on was = record {
     said = was.said;
     heard = was.heard;
-    spoken = record { serves = stays was.said was.heard None was.spoken.honestly was.spoken.serves; put = was.spoken.put; asked = was.spoken.asked; older = was.spoken.older; honestly = on was.spoken.honestly };
+    spoken = record { serves = stays was.said was.heard None was.spoken.honestly was.spoken.serves; provides = subst (λ (x : State). Provides x.known was.said None []) (sym same) was.spoken.provides; put = was.spoken.put; asked = was.spoken.asked; older = was.spoken.older; honestly = on was.spoken.honestly };
   }
 
   -- ---- a message is heard
@@ -461,27 +478,37 @@ module _ {L : Type 0} (holds : Type 0) (gives : Function) (may_fail : Job → Fa
   abbrev pub HearsAs : PeerState L → PeerState L → Told → Type 0
   HearsAs p p_now t = let r : Result Told Leave = Ok t in (said heard : List Message) → honest p.way → ServesBy p said heard None → ServesOn gives may_fail (history p_now.way) said heard r p_now.feed p_now.session
 
-  heard_more : (s : SeatState L) (p : PeerState L) (said heard heard_now : List Message) → Spoken s said heard None → ServesBy p said heard_now None → honest p.way → Spoken (record s { peer = p }) said heard_now None
-  heard_more s p said heard heard_now spoken serves on = record { serves = serves; put = spoken.put; asked = spoken.asked; older = spoken.older; honestly = on }
+  heard_more : (s : SeatState L) (p : PeerState L) (said heard heard_now : List Message) → Spoken s said heard None [] → ServesBy p said heard_now None → Provides p.session.known said None [] → honest p.way → Spoken (record s { peer = p }) said heard_now None []
+  heard_more s p said heard heard_now spoken serves provides on = record { serves = serves; provides = provides; put = spoken.put; asked = spoken.asked; older = spoken.older; honestly = on }
 
-  heard_by : (s : SeatState L) (p : PeerState L) (t : Told) (said heard : List Message) → Spoken s said heard None → honest p.way → Tells gives may_fail (history p.way) p.feed p.session said heard t → Trusted (record s { peer = p })
-  heard_by s p t said heard spoken on tells = record { said = said; heard = heard ++ (tells.message ∷ []); spoken = heard_more s p said heard (heard ++ (tells.message ∷ [])) spoken tells.serves on }
+  heard_by : (s : SeatState L) (p : PeerState L) (t : Told) (said heard : List Message) → Spoken s said heard None [] → Provides p.session.known said None [] → honest p.way → Tells gives may_fail (history p.way) p.feed p.session said heard t → Trusted (record s { peer = p })
+  heard_by s p t said heard spoken provides on tells = record { said = said; heard = heard ++ (tells.message ∷ []); spoken = heard_more s p said heard (heard ++ (tells.message ∷ [])) spoken tells.serves provides on }
 
-  pub heard_trusted : (s : SeatState L) (p : PeerState L) (t : Told) → HearsAs s.peer p t → (honest s.peer.way → honest p.way) → Trusted s → Trusted (record s { peer = p })
-  heard_trusted s p t hears on was = by_told t (hears was.said was.heard was.spoken.honestly was.spoken.serves)
+  -- what a call that hears a message makes of the session
+  abbrev pub MeansAs : PeerState L → PeerState L → Told → Type 0
+  MeansAs p p_now t = p.feed.stop ≡ None → (let r : Result Told Leave = Ok t in Hears p.feed p.session r p_now.feed p_now.session)
+
+  heard_known : (s : SeatState L) (p : PeerState L) (t : Told) → MeansAs s.peer p t → (was : Trusted s) → Provides p.session.known was.said None []
+  heard_known s p t means was = known_on s.peer.feed p.feed s.peer.session p.session t was.said provides_heard (means was.spoken.serves.going) was.spoken.provides
+
+  pub heard_trusted : (s : SeatState L) (p : PeerState L) (t : Told) → MeansAs s.peer p t → HearsAs s.peer p t → (honest s.peer.way → honest p.way) → Trusted s → Trusted (record s { peer = p })
+  heard_trusted s p t means hears on was = by_told t (hears was.said was.heard was.spoken.honestly was.spoken.serves)
     where
       on_now : honest p.way
       on_now = on was.spoken.honestly
 
+      known : Provides p.session.known was.said None []
+      known = heard_known s p t means was
+
       by_told : (t : Told) → (let r : Result Told Leave = Ok t in ServesOn gives may_fail (history p.way) was.said was.heard r p.feed p.session) → Trusted (record s { peer = p })
-      by_told tell.Nothing serves = record { said = was.said; heard = was.heard; spoken = heard_more s p was.said was.heard was.heard was.spoken serves on_now }
-      by_told (tell.Joined total largest cache) tells = heard_by s p (tell.Joined total largest cache) was.said was.heard was.spoken on_now tells
-      by_told (tell.Changed total largest cache) tells = heard_by s p (tell.Changed total largest cache) was.said was.heard was.spoken on_now tells
-      by_told (tell.Finish attempt outs) tells = heard_by s p (tell.Finish attempt outs) was.said was.heard was.spoken on_now tells
-      by_told (tell.Fail attempt why) tells = heard_by s p (tell.Fail attempt why) was.said was.heard was.spoken on_now tells
-      by_told (tell.Lose attempt) tells = heard_by s p (tell.Lose attempt) was.said was.heard was.spoken on_now tells
-      by_told (tell.PutAgain attempt files) tells = heard_by s p (tell.PutAgain attempt files) was.said was.heard was.spoken on_now tells
-      by_told (tell.Stale attempt) tells = heard_by s p (tell.Stale attempt) was.said was.heard was.spoken on_now tells
+      by_told tell.Nothing serves = record { said = was.said; heard = was.heard; spoken = heard_more s p was.said was.heard was.heard was.spoken serves known on_now }
+      by_told (tell.Joined total largest cache) tells = heard_by s p (tell.Joined total largest cache) was.said was.heard was.spoken known on_now tells
+      by_told (tell.Changed total largest cache) tells = heard_by s p (tell.Changed total largest cache) was.said was.heard was.spoken known on_now tells
+      by_told (tell.Finish attempt outs) tells = heard_by s p (tell.Finish attempt outs) was.said was.heard was.spoken known on_now tells
+      by_told (tell.Fail attempt why) tells = heard_by s p (tell.Fail attempt why) was.said was.heard was.spoken known on_now tells
+      by_told (tell.Lose attempt) tells = heard_by s p (tell.Lose attempt) was.said was.heard was.spoken known on_now tells
+      by_told (tell.PutAgain attempt files) tells = heard_by s p (tell.PutAgain attempt files) was.said was.heard was.spoken known on_now tells
+      by_told (tell.Stale attempt) tells = heard_by s p (tell.Stale attempt) was.said was.heard was.spoken known on_now tells
 
   -- a result of a task that was asked is what the commands say of its attempt
   result_at : (said : List Message) (number : AttemptNo) (outcome : Outcome) (task : Task) → task.attempt ≡ number → IsAmong (messages.Task task) said
@@ -489,56 +516,78 @@ module _ {L : Type 0} (holds : Type 0) (gives : Function) (may_fail : Job → Fa
   result_at said number outcome task same among fact is a own at row there =
       let one : task_with P row a.number run ≡ task = own_with P run a row task there (own task among (same ∙ sym at)) in subst (λ (x : Task). fact (task_job x due)) (sym one) is
 
-  abbrev ResultOf : List Passed → List Message → AttemptNo → Outcome → Type 0
-  ResultOf past said number outcome = IsResult gives may_fail past said number outcome
+  abbrev ResultOf : List Passed → List Message → List Message → AttemptNo → Outcome → Type 0
+  ResultOf past said heard number outcome = IsResult gives may_fail past said heard number outcome
 
-  success_due : (past : List Passed) (said : List Message) (number : AttemptNo) (outs : List (List ℕ)) (xs : List Attempt) → AreDue due said → WasHonest gives may_fail past → AllByRecursion (SaysOwn P run said) xs → ResultOf past said number (outcomes.Success outs)
+  success_due : (past : List Passed) (said heard : List Message) (number : AttemptNo) (outs : List (List ℕ)) (xs : List Attempt) → AreDue due said → WasHonest gives may_fail past → AllByRecursion (SaysOwn P run said) xs → ResultOf past said heard number (outcomes.Success outs)
       → AllByRecursion (EndsDue P gives may_fail due number (outcomes.Success outs)) xs
-  success_due past said number outs xs put was own r =
+  success_due past said heard number outs xs put was own r =
       all_step (SaysOwn P run said) (EndsDue P gives may_fail due number (outcomes.Success outs))
       (λ a says at row there. result_at said number (outcomes.Success outs) r.task r.of_attempt r.asked (λ (job : Job). EndsAsTold gives may_fail job (outcomes.Success outs)) (r.honest due put was) a says at row there) xs own
 
-  failure_due : (past : List Passed) (said : List Message) (number : AttemptNo) (why : Failure) (xs : List Attempt) → AreDue due said → WasHonest gives may_fail past → AllByRecursion (SaysOwn P run said) xs → ResultOf past said number (outcomes.Failed why)
+  failure_due : (past : List Passed) (said heard : List Message) (number : AttemptNo) (why : Failure) (xs : List Attempt) → AreDue due said → WasHonest gives may_fail past → AllByRecursion (SaysOwn P run said) xs → ResultOf past said heard number (outcomes.Failed why)
       → AllByRecursion (EndsDue P gives may_fail due number (outcomes.Failed why)) xs
-  failure_due past said number why xs put was own r =
+  failure_due past said heard number why xs put was own r =
       all_step (SaysOwn P run said) (EndsDue P gives may_fail due number (outcomes.Failed why))
       (λ a says at row there. result_at said number (outcomes.Failed why) r.task r.of_attempt r.asked (λ (job : Job). EndsAsTold gives may_fail job (outcomes.Failed why)) (r.honest due put was) a says at row there) xs own
 
   -- What is told is due.
-  pub heard_due : (s : SeatState L) (p : PeerState L) (t : Told) → HearsAs s.peer p t → (honest s.peer.way → honest p.way) → (holds → honest p.way → WasHonest gives may_fail (history p.way)) → Trusted s → TellsDue holds gives may_fail history honest P run due (record s { peer = p }) t
-  heard_due s p t hears on past was = by_told t (hears was.said was.heard was.spoken.honestly was.spoken.serves)
+  pub heard_due : (s : SeatState L) (p : PeerState L) (t : Told) → MeansAs s.peer p t → HearsAs s.peer p t → (honest s.peer.way → honest p.way) → (holds → honest p.way → WasHonest gives may_fail (history p.way)) → Trusted s → TellsDue holds gives may_fail history honest P run due (record s { peer = p }) t
+  heard_due s p t means hears on past was = by_told t (hears was.said was.heard was.spoken.honestly was.spoken.serves)
     where
       on_now : honest p.way
       on_now = on was.spoken.honestly
+
+      known : Provides p.session.known was.said None []
+      known = heard_known s p t means was
 
       by_told : (t : Told) → (let r : Result Told Leave = Ok t in ServesOn gives may_fail (history p.way) was.said was.heard r p.feed p.session) → TellsDue holds gives may_fail history honest P run due (record s { peer = p }) t
       by_told tell.Nothing serves = tt
       by_told (tell.Joined total largest cache) tells = tt
       by_told (tell.Changed total largest cache) tells = tt
-      by_told (tell.Finish attempt outs) tells = λ held. success_due (history p.way) was.said attempt outs s.attempts (was.spoken.put held) (past held on_now) was.spoken.asked tells.is_so
-      by_told (tell.Fail attempt why) tells = λ held. failure_due (history p.way) was.said attempt why s.attempts (was.spoken.put held) (past held on_now) was.spoken.asked tells.is_so
+      by_told (tell.Finish attempt outs) tells = λ held. success_due (history p.way) was.said (was.heard ++ (tells.message ∷ [])) attempt outs s.attempts (was.spoken.put held) (past held on_now) was.spoken.asked tells.is_so
+      by_told (tell.Fail attempt why) tells = λ held. failure_due (history p.way) was.said (was.heard ++ (tells.message ∷ [])) attempt why s.attempts (was.spoken.put held) (past held on_now) was.spoken.asked tells.is_so
       by_told (tell.Lose attempt) tells = tt
       by_told (tell.PutAgain attempt files) tells = record {
         said = was.said;
         heard = was.heard ++ (tells.message ∷ []);
-        spoken = heard_more s p was.said was.heard (was.heard ++ (tells.message ∷ [])) was.spoken tells.serves on_now;
+        spoken = heard_more s p was.said was.heard (was.heard ++ (tells.message ∷ [])) was.spoken tells.serves known on_now;
         task = tells.is_so.0;
         of_attempt = tells.is_so.1;
         among = tells.is_so.2;
       }
       by_told (tell.Stale attempt) tells = tt
 
+  put_or_left : (said : List Message) (left : List Key) (key : Key) → IsPutOrLeft said [] key → IsPutOrLeft said left key
+  put_or_left said left key (inl put) = inl put
+  put_or_left said left key (inr none) = absurd none
+
+  all_put_or_left : (said : List Message) (left known : List Key) → AllByRecursion (IsPutOrLeft said []) known → AllByRecursion (IsPutOrLeft said left) known
+  all_put_or_left said left [] all = tt
+  all_put_or_left said left (key ∷ known) all = (put_or_left said left key all.0, all_put_or_left said left known all.1)
+
+  -- more may be put once more
+  wide_left : (s : SeatState L) (said heard : List Message) (left : List Key) → Spoken s said heard None [] → Spoken s said heard None left
+  wide_left s said heard left spoken = record {
+    serves = spoken.serves;
+    provides = record { put_or_left = all_put_or_left said left s.peer.session.known spoken.provides.put_or_left; waits = spoken.provides.waits; provided = spoken.provides.provided };
+    put = spoken.put;
+    asked = spoken.asked;
+    older = spoken.older;
+    honestly = spoken.honestly;
+  }
+
   -- A task that was asked may be asked again.
-  pub again_asks : (s : SeatState L) (number : AttemptNo) (f : List Attempt) (a : Attempt) (b : List Attempt) (task : Task) → s.attempts ≡ f ++ (a ∷ b) → a.number ≡ number → NoneHas a.number f × NoneHas a.number b → own_task P run a ≡ Some task
-      → WasAsked holds gives may_fail history honest P run due s number → Asks s task
-  again_asks s number f a b task split at alone is was =
+  pub again_asks : (s : SeatState L) (number : AttemptNo) (f : List Attempt) (a : Attempt) (b : List Attempt) (task : Task) (left : List Key) → s.attempts ≡ f ++ (a ∷ b) → a.number ≡ number → NoneHas a.number f × NoneHas a.number b → own_task P run a ≡ Some task
+      → WasAsked holds gives may_fail history honest P run due s number → Asks s task left
+  again_asks s number f a b task left split at alone is was =
       let says : SaysOwn P run was.said a = all_at (SaysOwn P run was.said) f a b (subst (AllByRecursion (SaysOwn P run was.said)) split was.spoken.asked) in
       let one : was.task ≡ task = some_task was.task task (sym (says was.task was.among (was.of_attempt ∙ sym at)) ∙ is) in
       record {
         said = was.said;
         heard = was.heard;
         waiting = None;
-        spoken = was.spoken;
+        spoken = wide_left s was.said was.heard left was.spoken;
         may = inr (refl, subst (λ (x : Task). IsAmong (messages.Task x) was.said) one was.among);
         own = subst (AllByRecursion (IsOwn P run task)) (sym split) (own_all P run f a b task alone is);
         newest = subst (λ (x : Task). IsUpTo s.newest x.attempt) one (was.spoken.older was.task was.among);
@@ -559,34 +608,37 @@ module _ {L : Type 0} (gives : Function) (may_fail : Job → Failure → Type 0)
   new_awaited holds p way run fresh on same serves = record {
     opens = subst (λ (q : PeerState L). AllByRecursion (λ (o : Open). ⊥) q.session.attempts) (sym same) tt;
     going = ap (λ (q : PeerState L). q.feed.stop) same;
-    so = λ held. record { serves = serves fresh; honestly = subst (λ (q : PeerState L). honest q.way) (sym same) (on held) };
+    so = λ held. record { serves = serves fresh; provides = subst (λ (q : PeerState L). Provides q.session.known [] None []) (sym same) provides_first; honestly = subst (λ (q : PeerState L). honest q.way) (sym same) (on held) };
   }
 
   -- bytes came of it
-  pub come_stranger : (p q : PeerState L) → ((said heard : List Message) (waiting : Option Task) → honest p.way → Serves gives may_fail (history p.way) p.feed p.session said heard waiting → Serves gives may_fail (history q.way) q.feed q.session said heard waiting)
+  pub come_stranger : (p q : PeerState L) → q.session ≡ p.session → ((said heard : List Message) (waiting : Option Task) → honest p.way → Serves gives may_fail (history p.way) p.feed p.session said heard waiting → Serves gives may_fail (history q.way) q.feed q.session said heard waiting)
       → (honest p.way → honest q.way) → Stranger p → Stranger q
-  come_stranger p q stays on was = record { serves = stays [] [] None was.honestly was.serves; honestly = on was.honestly }
+  come_stranger p q same stays on was = record { serves = stays [] [] None was.honestly was.serves; provides = subst (λ (x : State). Provides x.known [] None []) (sym same) was.provides; honestly = on was.honestly }
 
   -- nothing was heard of it
   pub guest_of : (holds : Type 0) (p : PeerState L) → IsGuest (IsAwaited holds gives may_fail history honest) p → IsGuest (IsMeant holds gives may_fail history honest) p
   guest_of holds p guest = record {
     opens = guest.opens;
     going = guest.going;
-    so = λ held. record { heard = []; serves = (guest.so held).serves; honestly = (guest.so held).honestly };
+    so = λ held. record { heard = []; serves = (guest.so held).serves; provides = (guest.so held).provides; honestly = (guest.so held).honestly };
   }
 
   -- what a call that hears a message does
   abbrev pub HearsGuest : PeerState L → PeerState L → Told → Type 0
   HearsGuest p q t = let r : Result Told Leave = Ok t in (said heard : List Message) → honest p.way → Serves gives may_fail (history p.way) p.feed p.session said heard None → ServesOn gives may_fail (history q.way) said heard r q.feed q.session
 
-  pub heard_guest : (p q : PeerState L) (t : Told) → HearsGuest p q t → (honest p.way → honest q.way) → Guest p → Guest q
-  heard_guest p q t hears on was = by_told t (hears [] was.heard was.honestly was.serves)
+  pub heard_guest : (p q : PeerState L) (t : Told) → (p.feed.stop ≡ None → (let r : Result Told Leave = Ok t in Hears p.feed p.session r q.feed q.session)) → HearsGuest p q t → (honest p.way → honest q.way) → Guest p → Guest q
+  heard_guest p q t means hears on was = by_told t (hears [] was.heard was.honestly was.serves)
     where
+      known : Provides q.session.known [] None []
+      known = known_on p.feed q.feed p.session q.session t [] provides_heard (means was.serves.going) was.provides
+
       by : (t : Told) → Tells gives may_fail (history q.way) q.feed q.session [] was.heard t → Guest q
-      by t tells = record { heard = was.heard ++ (tells.message ∷ []); serves = tells.serves; honestly = on was.honestly }
+      by t tells = record { heard = was.heard ++ (tells.message ∷ []); serves = tells.serves; provides = known; honestly = on was.honestly }
 
       by_told : (t : Told) → (let r : Result Told Leave = Ok t in ServesOn gives may_fail (history q.way) [] was.heard r q.feed q.session) → Guest q
-      by_told tell.Nothing serves = record { heard = was.heard; serves = serves; honestly = on was.honestly }
+      by_told tell.Nothing serves = record { heard = was.heard; serves = serves; provides = known; honestly = on was.honestly }
       by_told (tell.Joined total largest cache) tells = by (tell.Joined total largest cache) tells
       by_told (tell.Changed total largest cache) tells = by (tell.Changed total largest cache) tells
       by_told (tell.Finish attempt outs) tells = by (tell.Finish attempt outs) tells
@@ -611,7 +663,7 @@ module _ {L : Type 0} (gives : Function) (may_fail : Job → Failure → Type 0)
       record {
         opens = h.opens;
         going = h.going;
-        so = λ held. let was = guest.so held in record { serves = serves [] [] was.honestly was.serves; honestly = on was.honestly };
+        so = λ held. let was = guest.so held in record { serves = serves [] [] was.honestly was.serves; provides = known_on p.feed q.feed p.session q.session tell.Nothing [] provides_heard (hears guest.going) was.provides; honestly = on was.honestly };
       }
 
   -- And while messages are heard of it.
@@ -619,4 +671,4 @@ module _ {L : Type 0} (gives : Function) (may_fail : Job → Failure → Type 0)
       → IsGuest (IsMeant holds gives may_fail history honest) p → IsGuest (IsMeant holds gives may_fail history honest) q
   told_guest holds p q t hears serves on guest =
       let h = hears_on (λ (o : Open). ⊥) (λ o none. none) p.feed q.feed p.session q.session t guest.going guest.opens (hears guest.going) in
-      record { opens = h.opens; going = h.going; so = λ held. heard_guest p q t serves on (guest.so held) }
+      record { opens = h.opens; going = h.going; so = λ held. heard_guest p q t hears serves on (guest.so held) }

@@ -1,8 +1,9 @@
--- Why attempts at workers are lost.
+-- Why attempts at workers are lost, and how others came to their end there.
 use Rattle.std.specs.Prelude.{◌≡◌, ◌≤◌, ◌<◌, ◌+◌, ◌⊎◌, ℕ, zero, suc, Bool, true, false, List, [], ◌∷◌, ◌++◌, Option, Some, None, Result, Ok, Err, IfErr, OnOk, All, length}
 use Rattle.std.specs.List.{list_any}
 use Rattle.flow_types.specs.declared.numbers.AttemptNo.{AttemptNo}
 use Rattle.flow_types.specs.declared.numbers.LinkNo.{LinkNo}
+use Rattle.flow_types.specs.declared.numbers.RuleNo.{RuleNo}
 use Rattle.flow_types.specs.declared.job.Failure.{Failure}
 use Rattle.flow_types.specs.declared.job.Job.{Job}
 use Rattle.flow_types.specs.declared.job.Outcome.{Outcome}
@@ -25,12 +26,13 @@ use Rattle.peers.specs.declared.leave.Leave.TheVariants as leaves
 use Rattle.peers.specs.declared.told.Told.{Told}
 use Rattle.peers.specs.declared.told.Told.TheVariants as tell
 use Rattle.peers.specs.Serves.{WasHonest}
-use Rattle.peers.specs.States.{PeerState, ReceivesOn}
+use Rattle.peers.specs.States.{PeerState, PassesOn}
 use Rattle.local_run.specs.declared.halt.Halt.{Halt}
 use Rattle.local_run.specs.Links.{link_moves}
-use Rattle.local_run.specs.Losses.{LosesIt, SparesAll, starts_on}
+use Rattle.local_run.specs.Losses.{EndsHere, EndsIt, LosesIt, done_as, failed_as, starts_on}
 use Rattle.wq_run.specs.Earned.{StatesOn}
 use Rattle.wq_run.specs.Losses.{GaveBack, account_of}
+use Rattle.wq_run.specs.Results.{ShowsEnd, WasTold}
 use Rattle.wq_run.specs.Seats.{CompanyState, SeatState}
 
 -- ---- links
@@ -40,15 +42,17 @@ abbrev pub IsIllLink : {L : Type 0} → Function → (Job → Failure → Type 0
 IsIllLink gives may_fail history count idles closed limit link way =
     (others : List Account) → IsIll limit (WasHonest gives may_fail (history way)) others (account_of history count idles closed (Some link) way)
 
--- If the attempt wasn't run, it was given back.
-abbrev pub GaveBackIf : List ℕ → AttemptNo → Outcome → Type 0
-GaveBackIf up number (outcomes.Success outs) = Unit {0}
-GaveBackIf up number (outcomes.Failed why) = Unit {0}
-GaveBackIf up number outcomes.NotRun = GaveBack up number
+-- What passed shows that the attempt ended so: a result was told, or it was given back.
+abbrev pub ShowsOutcome : List Passed → AttemptNo → Outcome → Type 0
+ShowsOutcome past number (outcomes.Success outs) = WasTold past number (outcomes.Success outs)
+ShowsOutcome past number (outcomes.Failed why) = WasTold past number (outcomes.Failed why)
+ShowsOutcome past number outcomes.NotRun = GaveBack (received_in past) number
 
--- What the next message of a peer shows: an attempt that is lost was given back, other amounts were received, and a peer that is left has misspoken.
+-- What the next message of a peer shows: a result was told, an attempt that is lost was given back, other amounts were received, and a peer that is left has misspoken.
 abbrev pub Shows : List Passed → Result Told Leave → Type 0
 Shows history (Ok (tell.Changed total largest cache)) = Carries (received_in history) (messages.Totals total largest cache)
+Shows history (Ok (tell.Finish attempt outs)) = WasTold history attempt (outcomes.Success outs)
+Shows history (Ok (tell.Fail attempt why)) = WasTold history attempt (outcomes.Failed why)
 Shows history (Ok (tell.Lose attempt)) = GaveBack (received_in history) attempt
 Shows history (Ok t) = Unit {0}
 Shows history (Err leaves.Memory) = Unit {0}
@@ -118,19 +122,25 @@ pub record HearsOn {L A : Type 0} (history : L → List Passed) (M all : List Mo
 
 -- What a call that ends an attempt so adds.
 abbrev pub EndsWith : List Move → Attempt → Outcome → List Move → Type 0
-EndsWith M a (outcomes.Success outs) all = SparesAll M all
-EndsWith M a (outcomes.Failed why) all = SparesAll M all
+EndsWith M a (outcomes.Success outs) all = EndsIt M a (done_as a outs) all
+EndsWith M a (outcomes.Failed why) all = EndsIt M a (failed_as a why) all
 EndsWith M a outcomes.NotRun all = LosesIt M a all
 
--- If the record gives an attempt up, that was started on this link.
+-- If the record gives an attempt up, that was started on this link; and one that came to its end was started at the local place.
 abbrev pub IsStartedOn : ℕ → List Record → Record → Type 0
 IsStartedOn link all (records.Lost moment rule attempt) = list_any (starts_on link rule.0 attempt.0) all ≡ true
+IsStartedOn link all (records.Done moment rule attempt rows) = list_any (starts_on 0 rule.0 attempt.0) all ≡ true
+IsStartedOn link all (records.Failed moment rule attempt why) = list_any (starts_on 0 rule.0 attempt.0) all ≡ true
 IsStartedOn link all _ = Unit {0}
 
--- If the record gives an attempt up, that was started on this link and given back among these bytes.
-abbrev pub IsGivenBack : List ℕ → ℕ → List Record → Record → Type 0
-IsGivenBack up link all (records.Lost moment rule attempt) = (list_any (starts_on link rule.0 attempt.0) all ≡ true) × GaveBack up attempt
-IsGivenBack up link all _ = Unit {0}
+-- If the record gives an attempt up or tells how it came to its end, that was started on this link, which shows it; or it came to its end and was started at the local place.
+abbrev pub IsShownOn : List Passed → ℕ → List Record → Record → Type 0
+IsShownOn past link all (records.Lost moment rule attempt) = (list_any (starts_on link rule.0 attempt.0) all ≡ true) × GaveBack (received_in past) attempt
+IsShownOn past link all (records.Done moment rule attempt rows) =
+    (list_any (starts_on 0 rule.0 attempt.0) all ≡ true) ⊎ ((list_any (starts_on link rule.0 attempt.0) all ≡ true) × ShowsEnd (records.Done moment rule attempt rows) past)
+IsShownOn past link all (records.Failed moment rule attempt why) =
+    (list_any (starts_on 0 rule.0 attempt.0) all ≡ true) ⊎ ((list_any (starts_on link rule.0 attempt.0) all ≡ true) × ShowsEnd (records.Failed moment rule attempt why) past)
+IsShownOn past link all _ = Unit {0}
 
 -- More moves stand behind these, of whose records this is so among all.
 pub record AddsSo (so : List Record → Record → Type 0) (M all : List Move) : Type 0 where
@@ -142,12 +152,12 @@ pub record AddsSo (so : List Record → Record → Type 0) (M all : List Move) :
 abbrev pub ended : (E : Type 0) → Result (Unit {0}) E
 ended E = Ok tt
 
--- What a call makes of a seat and of the moves: its link is the same and what came over it stays, and where nothing stopped the run nothing had, and what was given up was given back there. Where the seat is left then, this is why. Joins and changes were added for offers that came, and its link alone stated anything, as was received there.
+-- What a call makes of a seat and of the moves: its link is the same and what passed over it stays, and where nothing stopped the run nothing had, and what ended was given back or told there. Where the seat is left then, this is why. Joins and changes were added for offers that came, and its link alone stated anything, as was received there.
 pub record FaresSeat {L A : Type 0} (ill : LinkNo → L → Type 0) (history : L → List Passed) (M all : List Move) (halt halt_now : Option Halt) (s s_now : SeatState L) (result : Result A Leave) : Type 0 where
   pub link : s_now.link ≡ s.link
-  pub comes : ReceivesOn (history s.peer.way) (history s_now.peer.way)
+  pub comes : PassesOn (history s.peer.way) (history s_now.peer.way)
   pub going : halt_now ≡ None → halt ≡ None
-  pub loses : halt_now ≡ None → AddsSo (IsGivenBack (received_in (history s_now.peer.way)) s.link.0) M all
+  pub loses : halt_now ≡ None → AddsSo (IsShownOn (history s_now.peer.way) s.link.0) M all
   pub leaves : halt_now ≡ None → IfErr result (LeavesFor ill all s_now)
   pub counts : halt_now ≡ None → (n : ℕ) → HasHeard history s.peer n → HearsOn history M all s_now.peer result n
   pub states : halt_now ≡ None → StatesOn (received_in (history s_now.peer.way)) s.link.0 M all
@@ -155,7 +165,7 @@ pub record FaresSeat {L A : Type 0} (ill : LinkNo → L → Type 0) (history : L
 -- A seat as a message made it by which its peer offers something else.
 pub record OffersMore {L : Type 0} (history : L → List Passed) (s s_now : SeatState L) : Type 0 where
   pub link : s_now.link ≡ s.link
-  pub comes : ReceivesOn (history s.peer.way) (history s_now.peer.way)
+  pub comes : PassesOn (history s.peer.way) (history s_now.peer.way)
   pub more : HearsMore history s.peer s_now.peer
 
 -- All that ran at a seat was given up, and nothing else was done; or the run stopped.
@@ -167,14 +177,26 @@ pub record GivesUp (link : ℕ) (M all : List Move) (halt halt_now : Option Halt
 
 -- ---- all of them
 
--- The attempt was given back over the link of this number, which has a seat.
-abbrev pub IsBackAt : {L : Type 0} → (L → List Passed) → ℕ → AttemptNo → List (SeatState L) → Type 0
-IsBackAt history link number [] = ⊥
-IsBackAt history link number (s ∷ seats) = ((s.link.0 ≡ link) × GaveBack (received_in (history s.peer.way)) number) ⊎ IsBackAt history link number seats
+-- The link of this number has a seat, and shows the record by which an attempt there ended.
+abbrev pub IsShownAt : {L : Type 0} → (L → List Passed) → ℕ → Record → List (SeatState L) → Type 0
+IsShownAt history link x [] = ⊥
+IsShownAt history link x (s ∷ seats) = ((s.link.0 ≡ link) × ShowsEnd x (history s.peer.way)) ⊎ IsShownAt history link x seats
 
 -- The link was handed back under this number, behind these that were handed back before.
 abbrev pub CameBack : {L : Type 0} → List (Option LinkNo × L) → LinkNo → L → List (Option LinkNo × L) → Type 0
 CameBack {L} before link way got = (between : List (Option LinkNo × L)) × (behind : List (Option LinkNo × L)) × (got ≡ before ++ (between ++ ((Some link, way) ∷ behind)))
+
+-- A link was handed back under this number which shows the record.
+pub record IsShownBack {L : Type 0} (history : L → List Passed) (before got : List (Option LinkNo × L)) (link : LinkNo) (x : Record) : Type 0 where
+  pub way : L
+  pub back : CameBack before link way got
+  pub shown : ShowsEnd x (history way)
+
+-- The attempt was started at the local place, or on a link which has a seat or was handed back, and shows the record by which it came to its end.
+abbrev pub IsDueResult : {L : Type 0} → (L → List Passed) → List (Option LinkNo × L) → List (Option LinkNo × L) → List (SeatState L) → List Record → RuleNo → AttemptNo → Record → Type 0
+IsDueResult history before got seats all rule attempt x =
+    (list_any (starts_on 0 rule.0 attempt.0) all ≡ true)
+    ⊎ ((link : LinkNo) × (list_any (starts_on link.0 rule.0 attempt.0) all ≡ true) × (IsShownAt history link.0 x seats ⊎ IsShownBack history before got link x))
 
 -- A link was handed back under this number which is ill or over which the attempt was given back; or the desk takes no more joins and changes.
 pub record IsDueBack {L : Type 0} (ill : LinkNo → L → Type 0) (history : L → List Passed) (before got : List (Option LinkNo × L)) (full : Type 0) (link : LinkNo) (number : AttemptNo) : Type 0 where
@@ -182,14 +204,16 @@ pub record IsDueBack {L : Type 0} (ill : LinkNo → L → Type 0) (history : L �
   pub back : CameBack before link way got
   pub cause : ill link way ⊎ GaveBack (received_in (history way)) number ⊎ full
 
--- If the record gives an attempt up, it was given back over the link on which it was started, or that was handed back for cause.
+-- If the record gives an attempt up, it was given back over the link on which it was started, or that was handed back for cause; and how one came to its end is told by the link on which it was started, or it was started at the local place.
 abbrev pub IsDueLoss : {L : Type 0} → (LinkNo → L → Type 0) → (L → List Passed) → List (Option LinkNo × L) → List (Option LinkNo × L) → List (SeatState L) → Type 0 → List Record → Record → Type 0
 IsDueLoss ill history before got seats full all (records.Lost moment rule attempt) =
     (link : LinkNo) × (list_any (starts_on link.0 rule.0 attempt.0) all ≡ true)
-    × (IsBackAt history link.0 attempt seats ⊎ IsDueBack ill history before got full link attempt)
+    × (IsShownAt history link.0 (records.Lost moment rule attempt) seats ⊎ IsDueBack ill history before got full link attempt)
+IsDueLoss ill history before got seats full all (records.Done moment rule attempt rows) = IsDueResult history before got seats all rule attempt (records.Done moment rule attempt rows)
+IsDueLoss ill history before got seats full all (records.Failed moment rule attempt why) = IsDueResult history before got seats all rule attempt (records.Failed moment rule attempt why)
 IsDueLoss ill history before got seats full all _ = Unit {0}
 
--- More moves stand behind these, and each attempt that they give up is due by these seats and links.
+-- More moves stand behind these, and each attempt that they give up or that came to its end by them is due by these seats and links.
 abbrev pub LosesDuly : {L : Type 0} → (LinkNo → L → Type 0) → (L → List Passed) → List (Option LinkNo × L) → List (Option LinkNo × L) → List (SeatState L) → List Move → List Move → Type 0
 LosesDuly ill history before got seats M all = AddsSo (IsDueLoss ill history before got seats (IsFull all)) M all
 
@@ -219,7 +243,7 @@ AreDue ill history before M all halt c got = AreDueBy ill history (HeardAll hist
 abbrev pub AreDueBut : {L : Type 0} → (LinkNo → L → Type 0) → (L → List Passed) → ℕ → List (Option LinkNo × L) → List Move → List Move → Option Halt → CompanyState L → List (Option LinkNo × L) → Type 0
 AreDueBut ill history at before M all halt c got = AreDueBy ill history (HeardBut history at c.seats) before M all halt c got
 
--- Whatever was lost by then, it is due as before, and so is what was lost since.
+-- Whatever ended by then, it is due as before, and so is what ended since.
 pub record KeepsDue {L : Type 0} (ill : LinkNo → L → Type 0) (history : L → List Passed) (moves moves_now : List Move) (halt halt_now : Option Halt) (c c_now : CompanyState L) (got got_now : List (Option LinkNo × L)) : Type 0 where
   pub goes : (before : List (Option LinkNo × L)) (M : List Move) → AreDue ill history before M moves halt c got → AreDue ill history before M moves_now halt_now c_now got_now
 

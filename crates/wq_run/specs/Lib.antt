@@ -5,6 +5,7 @@ pub mod Works
 pub mod Trusted
 pub mod Earned
 pub mod Losses
+pub mod Results
 pub mod Dues
 pub mod Keeping
 pub mod Vain

@@ -9,6 +9,7 @@ use Rattle.flow_types.specs.declared.job.Job.{Job}
 use Rattle.flow_types.specs.declared.job.Outcome.{Outcome}
 use Rattle.flow_types.specs.declared.job.Outcome.TheVariants as outcomes
 use Rattle.flow_types.specs.declared.job.Task.{Task}
+use Rattle.flow_types.specs.declared.messages.Key.{Key}
 use Rattle.flow_types.specs.declared.messages.Message.{Message}
 use Rattle.flow_types.specs.declared.messages.Message.TheVariants as messages
 use Rattle.flow_types.specs.declared.records.Record.{Record}
@@ -22,6 +23,7 @@ use Rattle.desk.specs.declared.attempt.Attempt.{Attempt}
 use Rattle.desk.specs.Tasks.{task_with}
 use Rattle.peers.specs.declared.told.Told.{Told}
 use Rattle.peers.specs.declared.told.Told.TheVariants as tell
+use Rattle.peers.specs.Provides.{Provides}
 use Rattle.peers.specs.Serves.{AreDue, Serves}
 use Rattle.peers.specs.States.{PeerState}
 use Rattle.wq_run.specs.Seats.{SeatState}
@@ -76,9 +78,10 @@ IsUpTo (Some newest) number = number.0 ≤ newest.0
 
 -- ---- seats
 
--- The seat's peer is served with these messages said and heard, over a link of which this is so: each task of an attempt that runs there is the attempt's, and where that is relied on each content that was put is the one that is due.
-pub record SpokenTo {L : Type 0} (holds : Type 0) (gives : Function) (may_fail : Job → Failure → Type 0) (history : L → List Passed) (honest : L → Type 0) (P : Plan) (run : ℕ) (due : Contents) (s : SeatState L) (said heard : List Message) (waiting : Option Task) : Type 0 where
+-- The seat's peer is served with these messages said and heard, over a link of which this is so: each task of an attempt that runs there is the attempt's, each was said behind all that it takes in, of the inputs of one that waits no more than these are left to be put, and where that is relied on each content that was put is the one that is due.
+pub record SpokenTo {L : Type 0} (holds : Type 0) (gives : Function) (may_fail : Job → Failure → Type 0) (history : L → List Passed) (honest : L → Type 0) (P : Plan) (run : ℕ) (due : Contents) (s : SeatState L) (said heard : List Message) (waiting : Option Task) (left : List Key) : Type 0 where
   pub serves : Serves gives may_fail (history s.peer.way) s.peer.feed s.peer.session said heard waiting
+  pub provides : Provides s.peer.session.known said waiting left
   pub put : holds → AreDue due said
   pub asked : AllByRecursion (SaysOwn P run said) s.attempts
   pub older : (t : Task) → IsAmong (messages.Task t) said → IsUpTo s.newest t.attempt
@@ -88,21 +91,21 @@ pub record SpokenTo {L : Type 0} (holds : Type 0) (gives : Function) (may_fail :
 pub record IsTrusted {L : Type 0} (holds : Type 0) (gives : Function) (may_fail : Job → Failure → Type 0) (history : L → List Passed) (honest : L → Type 0) (P : Plan) (run : ℕ) (due : Contents) (s : SeatState L) : Type 0 where
   pub said : List Message
   pub heard : List Message
-  pub spoken : SpokenTo holds gives may_fail history honest P run due s said heard None
+  pub spoken : SpokenTo holds gives may_fail history honest P run due s said heard None []
 
 -- No task of this attempt, nor of a later one, was said.
 pub record MayOpen {L : Type 0} (holds : Type 0) (gives : Function) (may_fail : Job → Failure → Type 0) (history : L → List Passed) (honest : L → Type 0) (P : Plan) (run : ℕ) (due : Contents) (s : SeatState L) (number : AttemptNo) : Type 0 where
   pub said : List Message
   pub heard : List Message
-  pub spoken : SpokenTo holds gives may_fail history honest P run due s said heard None
+  pub spoken : SpokenTo holds gives may_fail history honest P run due s said heard None []
   pub earlier : (t : Task) → IsAmong (messages.Task t) said → t.attempt.0 < number.0
 
--- The task waits to be said, or was said and none waits; it is that of an attempt that runs there.
-pub record MayAsk {L : Type 0} (holds : Type 0) (gives : Function) (may_fail : Job → Failure → Type 0) (history : L → List Passed) (honest : L → Type 0) (P : Plan) (run : ℕ) (due : Contents) (s : SeatState L) (task : Task) : Type 0 where
+-- The task waits to be said, or was said and none waits; it is that of an attempt that runs there, and no more than these keys are left to be put before it.
+pub record MayAsk {L : Type 0} (holds : Type 0) (gives : Function) (may_fail : Job → Failure → Type 0) (history : L → List Passed) (honest : L → Type 0) (P : Plan) (run : ℕ) (due : Contents) (s : SeatState L) (task : Task) (left : List Key) : Type 0 where
   pub said : List Message
   pub heard : List Message
   pub waiting : Option Task
-  pub spoken : SpokenTo holds gives may_fail history honest P run due s said heard waiting
+  pub spoken : SpokenTo holds gives may_fail history honest P run due s said heard waiting left
   pub may : (waiting ≡ Some task) ⊎ ((waiting ≡ None) × IsAmong (messages.Task task) said)
   pub own : AllByRecursion (IsOwn P run task) s.attempts
   pub newest : IsUpTo s.newest task.attempt
@@ -111,7 +114,7 @@ pub record MayAsk {L : Type 0} (holds : Type 0) (gives : Function) (may_fail : J
 pub record WasAsked {L : Type 0} (holds : Type 0) (gives : Function) (may_fail : Job → Failure → Type 0) (history : L → List Passed) (honest : L → Type 0) (P : Plan) (run : ℕ) (due : Contents) (s : SeatState L) (number : AttemptNo) : Type 0 where
   pub said : List Message
   pub heard : List Message
-  pub spoken : SpokenTo holds gives may_fail history honest P run due s said heard None
+  pub spoken : SpokenTo holds gives may_fail history honest P run due s said heard None []
   pub task : Task
   pub of_attempt : task.attempt ≡ number
   pub among : IsAmong (messages.Task task) said
@@ -135,6 +138,7 @@ TellsDue holds gives may_fail history honest P run due s _ = Unit {0}
 pub record IsHonestGuest {L : Type 0} (gives : Function) (may_fail : Job → Failure → Type 0) (history : L → List Passed) (honest : L → Type 0) (p : PeerState L) : Type 0 where
   pub heard : List Message
   pub serves : Serves gives may_fail (history p.way) p.feed p.session [] heard None
+  pub provides : Provides p.session.known [] None []
   pub honestly : honest p.way
 
 -- It is so where anything is known of links.
@@ -144,6 +148,7 @@ IsMeant known gives may_fail history honest p = known → IsHonestGuest gives ma
 -- Nothing was said to the peer yet and nothing was heard of it, and this is so of its link.
 pub record IsStranger {L : Type 0} (gives : Function) (may_fail : Job → Failure → Type 0) (history : L → List Passed) (honest : L → Type 0) (p : PeerState L) : Type 0 where
   pub serves : Serves gives may_fail (history p.way) p.feed p.session [] [] None
+  pub provides : Provides p.session.known [] None []
   pub honestly : honest p.way
 
 -- It is so where anything is known of links.

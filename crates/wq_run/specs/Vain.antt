@@ -19,7 +19,7 @@ use Rattle.links.specs.Honesty.{IsAtLeast}
 use Rattle.links.specs.Ill.{IsIll}
 use Rattle.links.specs.Passings.{received_in}
 use Rattle.peers.specs.Serves.{WasHonest}
-use Rattle.peers.specs.States.{PeerState, ReceivesOn}
+use Rattle.peers.specs.States.{PeerState, PassesOn}
 use Rattle.wq_run.specs.declared.rounds.Turn.{Turn}
 use Rattle.wq_run.specs.declared.rounds.Turn.TheVariants as turns
 use Rattle.wq_run.specs.Earned.{IsOffered}
@@ -64,7 +64,7 @@ pub record IsOfSeat {L : Type 0} (history : L → List Passed) (seats : List (Se
   pub later : List (SeatState L)
   pub among : seats ≡ earlier ++ (seat ∷ later)
   pub number : link.0 ≡ Some seat.link
-  pub comes : ReceivesOn (history seat.peer.way) (history link.1)
+  pub comes : PassesOn (history seat.peer.way) (history link.1)
 
 -- As many links were handed back behind those as there were seats, and each is one of theirs.
 pub record HandsBack {L : Type 0} (history : L → List Passed) (seats : List (SeatState L)) (got got_now : List (Option LinkNo × L)) : Type 0 where

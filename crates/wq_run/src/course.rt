@@ -16,6 +16,7 @@ ghost use Rattle.local_run.specs.Runs.{IsCutRun};
 ghost use Rattle.wq_run.specs.Calm.{ComeFew, GoesWell};
 ghost use Rattle.wq_run.specs.Ends.{AreBack, EndsHere, IsSparedRunners, LosesOnLinks, StopsBy};
 ghost use Rattle.wq_run.specs.Losses.{AreDueLosses};
+ghost use Rattle.wq_run.specs.Results.{AreResults};
 ghost use Rattle.wq_run.specs.Trusted.{IsOf};
 ghost use Rattle.wq_run.specs.Vain.{AreVain, IfWaited, NeedsAtMost};
 
@@ -90,6 +91,8 @@ pub fn work<
         → OnOk result (AreDueLosses F.gives F.may_fail H.Way.history H.Way.count
         H.Way.idle_count H.Way.is_closed workers.limit (H.got hall.old) (H.got hall.new)
         (records_of desk.old.moves) (records_of desk.new.moves)) }
+    ensures results { H.Way.tells → OnOk result (AreResults H.Way.history (H.got hall.old)
+        (H.got hall.new) (records_of desk.old.moves) (records_of desk.new.moves)) }
     ensures vain { H.Way.tells → joins_and_changes desk.old.moves ≡ 0
         → IfOk result (λ check. IfWaited check (AreVain F.gives F.may_fail H.Way.history
         H.Way.count H.Way.idle_count H.Way.is_closed workers.limit desk.new.plan desk.new.options

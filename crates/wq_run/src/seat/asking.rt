@@ -15,7 +15,7 @@ ghost use Rattle.link_session.specs.Keys.{key_of};
 ghost use Rattle.link_session.specs.Sessions.{is_open, started};
 ghost use Rattle.local_run.specs.Underway.{IsHeld, IsSurePool};
 ghost use Rattle.peers.specs.Provides.{keys_of};
-ghost use Rattle.peers.specs.States.{MaySend, ReceivesOn};
+ghost use Rattle.peers.specs.States.{MaySend, PassesOn};
 ghost use Rattle.wq_run.specs.Calm.{AddsWell, Asked, FaresWell, IsSureOf, IsSureSeat, IsSureToAsk};
 ghost use Rattle.wq_run.specs.Calm.{IsWantOr, StaysOr};
 ghost use Rattle.wq_run.specs.Dues.{FaresSeat, IsIllLink};
@@ -82,12 +82,12 @@ impl<F: Commands, L: Link<F>, T: Terms + Trust> Seat<F, L, T> {
         ensures attempts { self.new.attempts ≡ self.old.attempts }
         ensures session { self.new.peer.session ≡ self.old.peer.session }
         ensures feed { self.new.peer.feed ≡ self.old.peer.feed }
-        ensures asks { (task : TaskValue) → IsHeard T.holds L.tells
+        ensures asks { (task : TaskValue) (left : List KeyValue) → IsHeard T.holds L.tells
             → MayAsk T.holds F.gives F.may_fail L.history (IsFair T.holds L.tells L.honest) T.plan T.run T.due self.old task
-            → OnOk result
-            (MayAsk T.holds F.gives F.may_fail L.history (IsFair T.holds L.tells L.honest) T.plan T.run T.due self.new task) }
+            (key ∷ left) → OnOk result
+            (MayAsk T.holds F.gives F.may_fail L.history (IsFair T.holds L.tells L.honest) T.plan T.run T.due self.new task left) }
         ensures comes { L.tells
-            → ReceivesOn (L.history self.old.peer.way) (L.history self.new.peer.way) }
+            → PassesOn (L.history self.old.peer.way) (L.history self.new.peer.way) }
         ensures cause { MaySend (L.count self.old.peer.way) (L.count self.new.peer.way) result }
         ensures calm { (asked : Option Asked) (task : TaskValue) (left : List KeyValue) → L.tells
             → IsSureToAsk F.gives F.may_fail L.history (IsSureOf L.sure L.offers asked) self.old
@@ -112,13 +112,13 @@ impl<F: Commands, L: Link<F>, T: Terms + Trust> Seat<F, L, T> {
         requires counts { HasCounts (messages.Task task) }
         requires short { length (spelling (messages.Task task)) ≤ most_body }
         requires asks { IsHeard T.holds L.tells
-            → MayAsk T.holds F.gives F.may_fail L.history (IsFair T.holds L.tells L.honest) T.plan T.run T.due self.old task }
+            → MayAsk T.holds F.gives F.may_fail L.history (IsFair T.holds L.tells L.honest) T.plan T.run T.due self.old task [] }
         ensures link { self.new.link ≡ self.old.link }
         ensures attempts { self.new.attempts ≡ self.old.attempts }
         ensures session { self.new.peer.session ≡ self.old.peer.session }
         ensures feed { self.new.peer.feed ≡ self.old.peer.feed }
         ensures comes { L.tells
-            → ReceivesOn (L.history self.old.peer.way) (L.history self.new.peer.way) }
+            → PassesOn (L.history self.old.peer.way) (L.history self.new.peer.way) }
         ensures cause { MaySend (L.count self.old.peer.way) (L.count self.new.peer.way) result }
         ensures calm { (asked : Option Asked) → L.tells
             → IsSureToAsk F.gives F.may_fail L.history (IsSureOf L.sure L.offers asked) self.old
@@ -155,8 +155,9 @@ impl<F: Commands, L: Link<F>, T: Terms + Trust> Seat<F, L, T> {
         ensures asks { IsHeard T.holds L.tells → MayOpen T.holds F.gives F.may_fail L.history (IsFair T.holds L.tells L.honest) T.plan T.run T.due
             self.old task.now.attempt
             → AllByRecursion (IsOwn T.plan T.run task.now) self.old.attempts
-            → OnOk result
-            (MayAsk T.holds F.gives F.may_fail L.history (IsFair T.holds L.tells L.honest) T.plan T.run T.due self.new task.now) }
+            → IfOk result (λ files.
+            MayAsk T.holds F.gives F.may_fail L.history (IsFair T.holds L.tells L.honest) T.plan T.run T.due self.new task.now
+            (keys_of task.now.run files)) }
         ensures calm { (asked : Option Asked) → L.tells
             → IsSureSeat F.gives F.may_fail L.history (IsSureOf L.sure L.offers asked) self.old
             → ((newest : AttemptNoValue) → self.old.newest ≡ Some newest
@@ -189,10 +190,11 @@ impl<F: Commands, L: Link<F>, T: Terms + Trust> Seat<F, L, T> {
             (IsSurePool B.fits) S.files S.may_leave S.moment S.images_since desk.old desk.new
             held.old held.new self.old self.new
             result }
-        ensures asks { (task : TaskValue) → IsHeard T.holds L.tells
+        ensures asks { (task : TaskValue) (left : List KeyValue) → held.new.halt ≡ None
+            → IsHeard T.holds L.tells
             → MayAsk T.holds F.gives F.may_fail L.history (IsFair T.holds L.tells L.honest) T.plan T.run T.due self.old task
-            → OnOk result
-            (MayAsk T.holds F.gives F.may_fail L.history (IsFair T.holds L.tells L.honest) T.plan T.run T.due self.new task) }
+            (key_of run file ∷ left) → OnOk result
+            (MayAsk T.holds F.gives F.may_fail L.history (IsFair T.holds L.tells L.honest) T.plan T.run T.due self.new task left) }
         ensures fares { (limit : ℕ) → L.tells → FaresSeat
             (IsIllLink F.gives F.may_fail L.history L.count L.idle_count L.is_closed limit)
             L.history desk.old.moves desk.new.moves held.old.halt held.new.halt self.old self.new result }
@@ -240,7 +242,8 @@ impl<F: Commands, L: Link<F>, T: Terms + Trust> Seat<F, L, T> {
         requires of { IsOf T.trust F.gives T.sources S.tells T.kept T.holds T.plan T.options T.run T.due
             desk.old.plan desk.old.options (records_of desk.old.moves) }
         requires asks { IsHeard T.holds L.tells
-            → MayAsk T.holds F.gives F.may_fail L.history (IsFair T.holds L.tells L.honest) T.plan T.run T.due self.old task }
+            → MayAsk T.holds F.gives F.may_fail L.history (IsFair T.holds L.tells L.honest) T.plan T.run T.due self.old task
+            (keys_of task.run files.now) }
         requires at { IsAtSeat T.trust F.gives F.may_fail T.sources S.tells T.kept
             (IsSurePool B.fits) S.files S.may_leave S.moment S.images_since desk.old held.old
             self.old }

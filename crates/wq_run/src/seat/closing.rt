@@ -13,14 +13,13 @@ ghost use Rattle.worker_pool.specs.Courses.{EndsAsTold};
 ghost use Rattle.desk.specs.declared.attempt.Attempt.{Attempt as AttemptValue};
 ghost use Rattle.desk.specs.State.{DeskState, IsFine};
 ghost use Rattle.link_session.specs.Sessions.{is_open};
-ghost use Rattle.links.specs.Passings.{received_in};
 ghost use Rattle.peers.specs.declared.leave.Leave.{Leave};
-ghost use Rattle.peers.specs.States.{ReceivesOn};
+ghost use Rattle.peers.specs.States.{PassesOn};
 ghost use Rattle.local_run.specs.declared.halt.Halt.{Halt as HaltValue};
 ghost use Rattle.local_run.specs.Underway.{AwayState, IsHeld, IsSurePool, RunsAt, Underway};
 ghost use Rattle.local_run.specs.Underway.{halt_after};
 ghost use Rattle.wq_run.specs.Calm.{AddsWell, Asked, FaresWell, IsSureOf, IsSureSeat};
-ghost use Rattle.wq_run.specs.Dues.{EndsWith, FaresSeat, GaveBackIf, GivesUp, IsIllLink, ended};
+ghost use Rattle.wq_run.specs.Dues.{EndsWith, FaresSeat, GivesUp, IsIllLink, ShowsOutcome, ended};
 ghost use Rattle.wq_run.specs.Seats.{AtPlace, IsAtPlace, IsAtSeat, KeepsSeat, MayEnd, MayEndAs};
 ghost use Rattle.wq_run.specs.Seats.{Stays};
 ghost use Rattle.wq_run.specs.Trusted.{EndsDue};
@@ -102,7 +101,7 @@ impl<F: Commands, L: Link<F>, T: Terms + Trust> Seat<F, L, T> {
             self.old.attempts }
         requires gone { is_open number self.old.peer.session.attempts ≡ false }
         requires back { L.tells
-            → GaveBackIf (received_in (L.history self.old.peer.way)) number outcome }
+            → ShowsOutcome (L.history self.old.peer.way) number outcome }
         ensures keeps { KeepsSeat T.trust F.gives F.may_fail T.sources S.tells T.kept
             (IsSurePool B.fits) S.files S.may_leave S.moment S.images_since desk.old desk.new
             held.old held.new self.old self.new }
@@ -162,7 +161,7 @@ impl<F: Commands, L: Link<F>, T: Terms + Trust> Seat<F, L, T> {
         ensures attempts { self.new.attempts ≡ self.old.attempts }
         ensures feed { self.new.peer.feed ≡ self.old.peer.feed }
         ensures comes { L.tells
-            → ReceivesOn (L.history self.old.peer.way) (L.history self.new.peer.way) }
+            → PassesOn (L.history self.old.peer.way) (L.history self.new.peer.way) }
     {
         self.is_ready = false;
         for attempt in &self.attempts {

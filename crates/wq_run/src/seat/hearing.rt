@@ -12,7 +12,7 @@ ghost use Rattle.wq_frames.specs.Frames.{front, part};
 ghost use Rattle.peers.specs.Hears.{Hears, IsCalm};
 ghost use Rattle.peers.specs.Provides.{Provides};
 ghost use Rattle.peers.specs.Serves.{IsSettled, IsStillOwed, Serves};
-ghost use Rattle.peers.specs.States.{LeavesAs, MaySend, ReceivesOn};
+ghost use Rattle.peers.specs.States.{LeavesAs, MaySend, PassesOn};
 ghost use Rattle.local_run.specs.declared.halt.Halt.{Halt as HaltValue};
 ghost use Rattle.local_run.specs.Underway.{HeldState, IsSurePool};
 ghost use Rattle.wq_run.specs.Calm.{AddsWell, Asked, FaresWell, IsSureOf, IsSureSeat, StaysOr};
@@ -54,7 +54,7 @@ impl<F: Commands, L: Link<F>, T: Terms + Trust> Seat<F, L, T> {
         ensures session { self.new.peer.session ≡ self.old.peer.session }
         ensures going { self.old.peer.feed.stop ≡ None → self.new.peer.feed.stop ≡ None }
         ensures comes { L.tells
-            → ReceivesOn (L.history self.old.peer.way) (L.history self.new.peer.way) }
+            → PassesOn (L.history self.old.peer.way) (L.history self.new.peer.way) }
         ensures heard { L.tells → IsTrusted T.holds F.gives F.may_fail L.history
             (IsFair T.holds L.tells L.honest) T.plan T.run T.due self.old
             → OnOk result (StaysHeard L.history self.old.peer self.new.peer) }
@@ -103,7 +103,7 @@ impl<F: Commands, L: Link<F>, T: Terms + Trust> Seat<F, L, T> {
             (IsTrusted T.holds F.gives F.may_fail L.history (IsFair T.holds L.tells L.honest) T.plan
             T.run T.due self.new) }
         ensures comes { L.tells
-            → ReceivesOn (L.history self.old.peer.way) (L.history self.new.peer.way) }
+            → PassesOn (L.history self.old.peer.way) (L.history self.new.peer.way) }
         ensures cause { MaySend (L.count self.old.peer.way) (L.count self.new.peer.way) result }
         ensures surely { L.sure self.old.peer.way → L.sure self.new.peer.way }
         ensures calm { (asked : Option Asked) → L.tells
@@ -135,7 +135,7 @@ impl<F: Commands, L: Link<F>, T: Terms + Trust> Seat<F, L, T> {
             (IsTrusted T.holds F.gives F.may_fail L.history (IsFair T.holds L.tells L.honest) T.plan
             T.run T.due self.new) }
         ensures comes { L.tells
-            → ReceivesOn (L.history self.old.peer.way) (L.history self.new.peer.way) }
+            → PassesOn (L.history self.old.peer.way) (L.history self.new.peer.way) }
         ensures cause { MaySend (L.count self.old.peer.way) (L.count self.new.peer.way) result }
         ensures surely { L.sure self.old.peer.way → L.sure self.new.peer.way }
         ensures calm { (asked : Option Asked) → L.tells
@@ -171,7 +171,7 @@ impl<F: Commands, L: Link<F>, T: Terms + Trust> Seat<F, L, T> {
             (IsTrusted T.holds F.gives F.may_fail L.history (IsFair T.holds L.tells L.honest) T.plan
             T.run T.due self.new) }
         ensures comes { L.tells
-            → ReceivesOn (L.history self.old.peer.way) (L.history self.new.peer.way) }
+            → PassesOn (L.history self.old.peer.way) (L.history self.new.peer.way) }
         ensures cause { MaySend (L.count self.old.peer.way) (L.count self.new.peer.way) result }
         ensures surely { L.sure self.old.peer.way → L.sure self.new.peer.way }
         ensures calm { (asked : Option Asked) → L.tells
@@ -197,7 +197,7 @@ impl<F: Commands, L: Link<F>, T: Terms + Trust> Seat<F, L, T> {
         ensures session { self.new.peer.session ≡ self.old.peer.session }
         ensures going { self.old.peer.feed.stop ≡ None → self.new.peer.feed.stop ≡ None }
         ensures comes { L.tells
-            → ReceivesOn (L.history self.old.peer.way) (L.history self.new.peer.way) }
+            → PassesOn (L.history self.old.peer.way) (L.history self.new.peer.way) }
         ensures heard { L.tells → IsTrusted T.holds F.gives F.may_fail L.history
             (IsFair T.holds L.tells L.honest) T.plan T.run T.due self.old
             → OnOk result (StaysHeard L.history self.old.peer self.new.peer) }

@@ -25,6 +25,7 @@ returns g c =
         lost = top.lost;
         lost_away = top.lost_away;
         due_losses = top.due_losses;
+        results = top.results;
         back = top.back;
         alone = top.alone;
         moments = top.moments;

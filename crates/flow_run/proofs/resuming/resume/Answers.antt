@@ -23,6 +23,7 @@ use Rattle.local_run.proofs.Refused.{damage_told, early_over, reads_same}
 use Rattle.wq_run.specs.Ends.{LosesOnLinks}
 use Rattle.wq_run.specs.Calm.{GoesWell}
 use Rattle.wq_run.specs.Losses.{AreDueLosses}
+use Rattle.wq_run.specs.Results.{AreResults}
 use Rattle.flow_run.specs.Places.{PlacedBy}
 use Rattle.flow_run.proofs.resuming.resume.Goals as goal
 
@@ -79,6 +80,10 @@ returns-in-Ok-clause-lost_away g c =
 pub returns-in-Ok-clause-due_losses : goal.returns-in-Ok-clause-due_losses
 returns-in-Ok-clause-due_losses g c tells told H spelled =
     subst (λ (G : List Record). OnOk c.run.result.how (AreDueLosses g.F.Commands.gives g.F.Commands.may_fail g.H.Way.Link.history g.H.Way.Link.count g.H.Way.Link.idle_count g.H.Way.Link.is_closed c.args.workers.limit (g.H.Hall.got c.args.hall.now) (g.H.Hall.got c.run.new.hall) G c.run.result.records)) (c.in-Ok.ensures.exact told H spelled) (c.run.ensures.due_losses tells)
+
+pub returns-in-Ok-clause-results : goal.returns-in-Ok-clause-results
+returns-in-Ok-clause-results g c away tells told H spelled =
+    subst (λ (G : List Record). OnOk c.run.result.how (AreResults g.H.Way.Link.history (g.H.Hall.got c.args.hall.now) (g.H.Hall.got c.run.new.hall) G c.run.result.records)) (c.in-Ok.ensures.exact told H spelled) (c.run.ensures.results away tells)
 
 pub returns-in-Ok-clause-places : goal.returns-in-Ok-clause-places
 returns-in-Ok-clause-places g c told H spelled =
@@ -152,6 +157,7 @@ returns-in-Ok-clause-over g c = record {
   lost = c.run.ensures.lost;
   lost_away = c.run.ensures.lost_away;
   due_losses = c.run.ensures.due_losses;
+  results = c.run.ensures.results;
 }
 
 pub returns-in-Ok-clause-honest : goal.returns-in-Ok-clause-honest

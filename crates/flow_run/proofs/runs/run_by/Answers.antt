@@ -31,9 +31,10 @@ use Rattle.flow_run.specs.Places.{PlacedBy}
 use Rattle.flow_run.specs.Reached.{IsReached}
 use Rattle.wq_run.specs.Calm.{GoesWell}
 use Rattle.wq_run.specs.Losses.{AreDueLosses}
+use Rattle.wq_run.specs.Results.{AreResults}
 use Rattle.wq_run.specs.Vain.{AreVain, IfWaited, NeedsAtMost}
 use Rattle.flow_run.proofs.Losses.{loses_begun}
-use Rattle.flow_run.proofs.Dues.{by_either, due_begun, due_none, joins_begun}
+use Rattle.flow_run.proofs.Dues.{by_either, due_begun, due_none, joins_begun, opened_result, records_begun, results_begun}
 use Rattle.flow_run.proofs.Calms.{well_begun}
 use Rattle.flow_run.proofs.Added.{adds_begun}
 use Rattle.flow_run.proofs.Placed.{placed_none}
@@ -160,6 +161,18 @@ returns-in-Ok-clause-due_losses g c tells =
     (λ here. on_ok how (LosesNone c.args.history all) (AreDueLosses g.F.Commands.gives g.F.Commands.may_fail g.H.Way.Link.history g.H.Way.Link.count g.H.Way.Link.idle_count g.H.Way.Link.is_closed c.args.workers.limit got got_now c.args.history all)
     (due_none g.F.Commands.gives g.F.Commands.may_fail g.H.Way.Link.history g.H.Way.Link.count g.H.Way.Link.idle_count g.H.Way.Link.is_closed c.args.workers.limit got got_now c.args.history all (ap g.H.Hall.got {x = c.run_desk.new.hall} (c.run_desk.ensures.alone (wq ∙ here))))
     (returns-in-Ok-clause-lost g c here))
+
+pub returns-in-Ok-clause-results : goal.returns-in-Ok-clause-results
+returns-in-Ok-clause-results g c away tells =
+    let b : IsBegun (g.S.Site.count c.args.site) c.args.plan c.args.options c.args.log.name c.args.history g.F.Commands.may_fail (serial c.args.plan g.F.Commands.gives g.T.Terms.sources) c.in-Ok.desk = (begun g.S.Site.count c.args.plan c.args.options c.args.log.name c.args.history c.now.result g.S.Site.tells (g.S.Site.files c.args.site) c.args.site g.F.Commands.may_fail (serial c.args.plan g.F.Commands.gives g.T.Terms.sources) c.in-Ok.desk c.in-Ok.ensures.reply) in
+    let all = c.run_desk.result.records in
+    let mid = records_of c.in-Ok.desk.moves in
+    let got = g.H.Hall.got c.args.hall.now in
+    let got_now = g.H.Hall.got c.run_desk.new.hall in
+    let wq : c.in-Ok.desk.options.wq ≡ c.args.options.wq = ap (λ (O : Options). O.wq) b.options in
+    on_ok c.run_desk.result.how (AreResults g.H.Way.Link.history got got_now mid all) (AreResults g.H.Way.Link.history got got_now c.args.history all)
+    (results_begun g.H.Way.Link.history got got_now c.args.history mid all b.over.1.0 (records_begun c.in-Ok.desk c.args.history b.over) (λ links. opened_result g.H.Way.Link.history links all b.over.1.0 b.over.1.1))
+    (c.run_desk.ensures.results (wq ∙ away) tells)
 
 pub run_desk-requires-clause-asked : goal.run_desk-requires-clause-asked
 run_desk-requires-clause-asked g c κs within =

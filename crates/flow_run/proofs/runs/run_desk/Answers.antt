@@ -24,6 +24,7 @@ use Rattle.local_run.proofs.Openings.{opens_on}
 use Rattle.wq_run.specs.Ends.{EndsHere, EndsWaiting, LosesOnLinks}
 use Rattle.wq_run.specs.Calm.{GoesWell}
 use Rattle.wq_run.specs.Losses.{AreDueLosses}
+use Rattle.wq_run.specs.Results.{AreResults}
 use Rattle.wq_run.specs.Vain.{AreVain, IfWaited}
 use Rattle.flow_run.proofs.Placed.{placed_by}
 use Rattle.flow_run.proofs.Reaching.{reached_whole}
@@ -75,6 +76,10 @@ returns-clause-lost_away g c =
 pub returns-clause-due_losses : goal.returns-clause-due_losses
 returns-clause-due_losses g c away tells unjoined =
     subst (λ (G : List Record). OnOk c.work-how.result (AreDueLosses g.F.Commands.gives g.F.Commands.may_fail g.H.Way.Link.history g.H.Way.Link.count g.H.Way.Link.idle_count g.H.Way.Link.is_closed c.args.workers.limit (g.H.Hall.got c.args.hall.now) (g.H.Hall.got c.work-how.new.hall) (records_of c.args.desk.moves) G)) (sym c.into_parts-site.ensures.records) (c.work-how.ensures.due_losses away tells unjoined)
+
+pub returns-clause-results : goal.returns-clause-results
+returns-clause-results g c away tells =
+    subst (λ (G : List Record). OnOk c.work-how.result (AreResults g.H.Way.Link.history (g.H.Hall.got c.args.hall.now) (g.H.Hall.got c.work-how.new.hall) (records_of c.args.desk.moves) G)) (sym c.into_parts-site.ensures.records) (c.work-how.ensures.results away tells)
 
 pub returns-clause-ends : goal.returns-clause-ends
 returns-clause-ends g c alone =

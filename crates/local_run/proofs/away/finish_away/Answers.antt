@@ -9,5 +9,5 @@ returns g c = record {
   underway = λ away front back first held waiting heard halt are u.
       c.finish.ensures.underway (done_by (front ++ back) away) first held waiting heard halt
       (away_out g.T.Terms.trust g.F.Commands.gives g.F.Commands.may_fail g.T.Terms.sources g.S.Site.tells g.T.Terms.kept (IsSurePool g.B.Terms.fits) g.S.Site.files g.S.Site.may_leave g.S.Site.moment g.S.Site.images_since away first c.args.desk.now held waiting heard halt front c.args.attempt back are u);
-  spares = c.finish.ensures.spares;
+  ends = c.finish.ensures.ends;
 }

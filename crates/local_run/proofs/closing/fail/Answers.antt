@@ -1,4 +1,4 @@
-use Rattle.std.proofs.Common.{Err, ap, arith, refl, subst}
+use Rattle.std.proofs.Common.{Err, ap, arith, refl, subst, Ok}
 use Rattle.flow_types.specs.declared.records.Record.TheVariants as records
 use Rattle.flow_types.specs.declared.job.Outcome.TheVariants as outcomes
 use Rattle.worker_pool.specs.Tallies.{plus, tally_of}
@@ -8,7 +8,8 @@ use Rattle.local_run.specs.Underway.{IsSurePool}
 use Rattle.local_run.proofs.Closings.{is_broken}
 use Rattle.local_run.proofs.RunsClosed.{failed_ending}
 use Rattle.local_run.proofs.UnderClosed.{closed_stopped, closes_under, fail_goes, stopped_memory, stopped_site}
-use Rattle.local_run.proofs.Sparing.{one_spares}
+use Rattle.local_run.specs.Losses.{failed_as}
+use Rattle.local_run.proofs.Sparing.{ends_it}
 use Rattle.local_run.proofs.closing.fail.Goals as goal
 
 pub returns-in-Ok : goal.returns-in-Ok
@@ -25,7 +26,7 @@ returns-in-Ok g c = record {
       (closed_stopped g.T.Terms.trust g.F.Commands.gives g.F.Commands.may_fail g.T.Terms.sources g.S.Site.tells g.T.Terms.kept (IsSurePool g.B.Terms.fits) g.S.Site.files g.S.Site.may_leave g.S.Site.moment g.S.Site.images_since away g.S.Site.count first d after a x (closed c.fail.result) held waiting heard later halt c.requires.valid (failed_ending c.args.moment a.rule a.number c.args.why) (ap closed c.in-Ok.is) c.fail.ensures.reply goes (omega arith)
       (λ told m other. c.fail.ensures.reads told m other.0) u)
       (λ going. (going, λ is. absurd (never is))) u;
-  spares = one_spares c.args.desk.now.moves (records.Failed c.args.moment c.args.attempt.rule c.args.attempt.number c.args.why) c.fail.new.self.moves (ap (λ (b : DeskState g.row.S.Denot). b.moves) c.in-Ok.ensures.reply.2) refl;
+  ends = ends_it g.S.Site.count c.args.desk.now c.fail.new.self c.args.attempt (failed_as c.args.attempt c.args.why) c.args.moment (Ok tt) c.works-works.ensures.legal c.in-Ok.ensures.reply;
 }
 
 pub returns-in-Err-Broken : goal.returns-in-Err-Broken
@@ -42,7 +43,7 @@ returns-in-Err-Broken g c = record {
       (stopped_site g.S.Site.tells g.T.Terms.kept (IsSurePool g.B.Terms.fits) g.S.Site.files after later
       (is_broken g.S.Site.count d _ _ after (subst (λ (w : CloseRefused). Closes g.S.Site.count d a.rule a.number a.link x (Err w) after) c.in-Err-Broken.field-0-is c.in-Err-Broken.ensures.reply)))
       (λ going. absurd going) u;
-  spares = tt;
+  ends = tt;
 }
 
 pub returns-in-Err-Memory : goal.returns-in-Err-Memory
@@ -58,5 +59,5 @@ returns-in-Err-Memory g c = record {
       refl (λ is none. absurd (never is))
       (stopped_memory g.S.Site.tells g.T.Terms.kept (IsSurePool g.B.Terms.fits) g.S.Site.files after later)
       (λ going. absurd going) u;
-  spares = tt;
+  ends = tt;
 }

@@ -1,9 +1,11 @@
-use Rattle.std.proofs.Common.{None, Some, ◌≡◌, ap, arith, subst, sym}
+use Rattle.std.proofs.Common.{None, Some, ◌≡◌, ap, arith, refl, subst, sym}
 use Rattle.flow_types.specs.declared.job.Outcome.{Outcome}
 use Rattle.outside.specs.Jobs.{IsSuccess}
 use Rattle.worker_pool.specs.Tallies.{plus, tally_of}
+use Rattle.local_run.specs.Losses.{done_as, failed_as}
 use Rattle.local_run.specs.Underway.{IsSurePool, Underway, halt_after}
 use Rattle.local_run.proofs.HeldClosed.{failure_due, failure_is, heard_more, outputs_are, outputs_due, unrun_stops}
+use Rattle.local_run.proofs.Sparing.{ends_spare}
 use Rattle.local_run.proofs.hearing.close.Goals as goal
 
 pub finish-requires-clause-outputs : goal.finish-requires-clause-outputs
@@ -29,7 +31,7 @@ returns-in-Success g c = record {
       let none : (tally_of c.args.outcome).failed ≡ 0 = ap (λ (o : Outcome). (tally_of o).failed) c.in-Success.is in
       c.finish.ensures.underway away first held waiting later halt
       (heard_more g.T.Terms.trust g.F.Commands.gives g.F.Commands.may_fail g.T.Terms.sources g.S.Site.tells g.T.Terms.kept (IsSurePool g.B.Terms.fits) g.S.Site.files g.S.Site.may_leave g.S.Site.moment g.S.Site.images_since away first c.args.desk.now held waiting (Some c.args.attempt) heard later halt (omega arith) (omega (arith, none)) u);
-  spares = c.finish.ensures.spares;
+  spares = λ here. ends_spare c.args.desk.now.moves c.args.attempt (done_as c.args.attempt c.in-Success.outs) c.finish.new.desk.moves (λ moment. refl) (λ moment H is. is) here c.finish.result c.finish.ensures.ends;
 }
 
 pub returns-in-Failed : goal.returns-in-Failed
@@ -37,7 +39,7 @@ returns-in-Failed g c = record {
   underway = λ away first held waiting heard halt success u.
       subst (λ (o : Outcome). Underway g.T.Terms.trust g.F.Commands.gives g.F.Commands.may_fail g.T.Terms.sources g.S.Site.tells g.T.Terms.kept (IsSurePool g.B.Terms.fits) g.S.Site.files g.S.Site.may_leave g.S.Site.moment g.S.Site.images_since away first c.fail.new.desk held waiting None (plus heard (tally_of o)) (halt_after c.fail.result halt)) (sym c.in-Failed.is)
       (c.fail.ensures.underway away first held waiting heard halt (λ is. subst IsSuccess c.in-Failed.is (success is)) u);
-  spares = c.fail.ensures.spares;
+  spares = λ here. ends_spare c.args.desk.now.moves c.args.attempt (failed_as c.args.attempt c.in-Failed.why) c.fail.new.desk.moves (λ moment. refl) (λ moment H is. is) here c.fail.result c.fail.ensures.ends;
 }
 
 pub returns-in-NotRun : goal.returns-in-NotRun
@@ -49,5 +51,5 @@ returns-in-NotRun g c = record {
       c.give_up.ensures.underway away first held waiting later halt
       (heard_more g.T.Terms.trust g.F.Commands.gives g.F.Commands.may_fail g.T.Terms.sources g.S.Site.tells g.T.Terms.kept (IsSurePool g.B.Terms.fits) g.S.Site.files g.S.Site.may_leave g.S.Site.moment g.S.Site.images_since away first c.args.desk.now held waiting (Some c.args.attempt) heard later halt (omega arith) (omega (arith, none)) u)
       (λ fine. unrun_stops g.T.Terms.trust g.F.Commands.gives g.F.Commands.may_fail g.T.Terms.sources g.S.Site.tells g.T.Terms.kept (IsSurePool g.B.Terms.fits) g.S.Site.files g.S.Site.may_leave g.S.Site.moment g.S.Site.images_since away c.args.desk.now later fine (omega (arith, one)) (λ is. subst IsSuccess c.in-NotRun.is (success is)));
-  spares = tt;
+  spares = λ here. tt;
 }

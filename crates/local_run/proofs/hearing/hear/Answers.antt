@@ -1,9 +1,12 @@
 use Rattle.std.proofs.Common.{None, Result, ◌∙◌, ap, refl, subst, sym}
+use Rattle.std.specs.Prelude.{OnOk}
 use Rattle.flow_types.specs.declared.numbers.AttemptNo.{AttemptNo}
 use Rattle.worker_pool.specs.Pools.{PoolState}
 use Rattle.local_run.specs.declared.halt.Halt.{Halt}
-use Rattle.local_run.specs.Underway.{HeldState, IsHeld, IsSurePool, halt_after}
+use Rattle.local_run.specs.Losses.{SparesAll}
+use Rattle.local_run.specs.Underway.{AreHere, HeldState, IsHeld, IsSurePool, halt_after}
 use Rattle.local_run.proofs.HeldClosed.{outcome_at, same_under, start_held, taken_is, taken_may, taken_out}
+use Rattle.local_run.proofs.Sparing.{here_link}
 use Rattle.local_run.proofs.hearing.hear.Goals as goal
 
 pub take-attempt-requires : goal.take-attempt-requires
@@ -52,3 +55,10 @@ pub returns-in_default-clause-underway : goal.returns-in_default-clause-underway
 returns-in_default-clause-underway g c away first u =
     let same = c.hear.ensures.none c.in_default.is in
     same_under g.T.Terms.trust g.F.Commands.gives g.F.Commands.may_fail g.T.Terms.sources g.S.Site.tells g.T.Terms.kept (IsSurePool g.B.Terms.fits) g.S.Site.files g.S.Site.may_leave g.S.Site.moment g.S.Site.images_since away first c.args.desk.now _ c.args.held.now.attempts _ c.hear.new.self.waiting None _ c.hear.new.self.heard _ c.args.held.now.halt refl (ap (λ (p : PoolState). p.waiting) same) (ap (λ (p : PoolState). p.heard) same) refl u
+
+pub returns-in_default-close-clause-spares : goal.returns-in_default-close-clause-spares
+returns-in_default-close-clause-spares g c none =
+    let u = c.requires.underway in
+    let h = c.take-attempt.ensures.attempts in
+    let here = here_link u.1.plan u.1.options h.0 c.take-attempt.result h.1 (subst (AreHere u.1.plan u.1.options) h.2 u.2.here) in
+    (sym c.take-attempt.ensures.halt ∙ none, subst (λ (r : Result (Unit {0}) Halt). OnOk r (SparesAll c.args.desk.now.moves c.close.new.desk.moves)) c.in_default-close.is (c.close.ensures.spares here))

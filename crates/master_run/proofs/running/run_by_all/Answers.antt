@@ -24,8 +24,9 @@ use Rattle.txn_log.specs.Spells.{Spells}
 use Rattle.master_run.proofs.Leaving.{memory_leaves, ran_leaves, unread_leaves}
 use Rattle.wq_run.specs.Ends.{AreBack}
 use Rattle.wq_run.specs.Losses.{AreDueLosses}
+use Rattle.wq_run.specs.Results.{AreResults}
 use Rattle.wq_run.specs.Vain.{AreVain}
-use Rattle.flow_run.proofs.Dues.{due_none}
+use Rattle.flow_run.proofs.Dues.{due_none, results_none}
 use Rattle.flow_run.proofs.Stops.{back_same}
 use Rattle.master_run.proofs.Fitted.{at_most, fits_here}
 use Rattle.master_run.proofs.Ran.{closed_run, closed_starts, cut_run, failed_run, logged_run, loses_none, lost_run, none_refused, over_run, ran_serves, run_faults, told_cause}
@@ -171,6 +172,27 @@ returns-in-Ok-resume-clause-due_losses g c tells t H spelled keeps =
 
 pub returns-clause-due_losses : goal.returns-clause-due_losses
 returns-clause-due_losses g c tells t H spelled keeps =
+    let s : Rise = record { before = c.args.before; after = c.faults-after-in-Err.result } in
+    unread_cuts c.files_spell_one_list.ensures.header c.files_spell_one_list.ensures.whole s (g.S.Site.files c.args.site c.args.ask.log) H c.in-Err.refused.why spelled (c.in-Err.ensures.damaged t)
+    (loses_cut (kind_of (unread_cause s c.in-Err.refused.why)) (subst (λ (cause : Cause). may_lose (kind_of cause) ≡ false) c.unread_cause.ensures keeps))
+
+pub returns-in_default-clause-results : goal.returns-in_default-clause-results
+returns-in_default-clause-results g c tells t H spelled wq work keeps = absurd (true≢false keeps)
+
+pub returns-in-Ok-resume-clause-results : goal.returns-in-Ok-resume-clause-results
+returns-in-Ok-resume-clause-results g c tells t H spelled wq work keeps =
+    let same : c.run_cause.result ≡ run_cause (site_rise (counts c.args.before (map g.R.Runner.count c.args.runners.now) (g.H.Hall.count c.args.hall.now) (g.H.Hall.idle_count c.args.hall.now) 0) (counts (g.S.Site.count c.in-Ok-resume.ended.site) (map g.R.Runner.count c.resume.new.runners) (g.H.Hall.count c.resume.new.hall) (g.H.Hall.idle_count c.resume.new.hall) 0)) c.first_rise-runner.result (hall_rise (counts c.args.before (map g.R.Runner.count c.args.runners.now) (g.H.Hall.count c.args.hall.now) (g.H.Hall.idle_count c.args.hall.now) 0) (counts (g.S.Site.count c.in-Ok-resume.ended.site) (map g.R.Runner.count c.resume.new.runners) (g.H.Hall.count c.resume.new.hall) (g.H.Hall.idle_count c.resume.new.hall) 0)) c.args.ask.plan c.in-Ok-resume.ended.how =
+    c.run_cause.ensures ∙ told_cause c.args.before c.faults-after.result (g.S.Site.count c.in-Ok-resume.ended.site) c.faults-met.result (g.H.Hall.count c.args.hall.now) c.faults.result (g.H.Hall.count c.resume.new.hall) c.first_rise-runner.result c.in-Ok.copied c.args.ask.plan c.in-Ok-resume.ended.how c.faults-after.ensures c.faults-met.ensures c.faults.ensures c.in-Ok.ensures.0 in
+    let got = g.H.Hall.got c.args.hall.now in
+    let got_now = g.H.Hall.got c.resume.new.hall in
+    let records = c.in-Ok-resume.ended.records in
+    lost_run (AreResults g.H.Way.Link.history got got_now H records)
+    (site_rise (counts c.args.before (map g.R.Runner.count c.args.runners.now) (g.H.Hall.count c.args.hall.now) (g.H.Hall.idle_count c.args.hall.now) 0) (counts (g.S.Site.count c.in-Ok-resume.ended.site) (map g.R.Runner.count c.resume.new.runners) (g.H.Hall.count c.resume.new.hall) (g.H.Hall.idle_count c.resume.new.hall) 0)) c.first_rise-runner.result (hall_rise (counts c.args.before (map g.R.Runner.count c.args.runners.now) (g.H.Hall.count c.args.hall.now) (g.H.Hall.idle_count c.args.hall.now) 0) (counts (g.S.Site.count c.in-Ok-resume.ended.site) (map g.R.Runner.count c.resume.new.runners) (g.H.Hall.count c.resume.new.hall) (g.H.Hall.idle_count c.resume.new.hall) 0)) c.args.ask.plan c.in-Ok-resume.ended.how
+    (λ refused. results_none g.H.Way.Link.history got got_now H records (ap g.H.Hall.got (c.in-Ok-resume.ensures.unmet refused)) (c.in-Ok-resume.ensures.same t H spelled refused))
+    (c.in-Ok-resume.ensures.results wq tells t H spelled) (subst (λ (cause : Cause). may_lose (kind_of cause) ≡ false) same keeps)
+
+pub returns-clause-results : goal.returns-clause-results
+returns-clause-results g c tells t H spelled wq work keeps =
     let s : Rise = record { before = c.args.before; after = c.faults-after-in-Err.result } in
     unread_cuts c.files_spell_one_list.ensures.header c.files_spell_one_list.ensures.whole s (g.S.Site.files c.args.site c.args.ask.log) H c.in-Err.refused.why spelled (c.in-Err.ensures.damaged t)
     (loses_cut (kind_of (unread_cause s c.in-Err.refused.why)) (subst (λ (cause : Cause). may_lose (kind_of cause) ≡ false) c.unread_cause.ensures keeps))

@@ -190,6 +190,12 @@ returns-in-Ok-clause-due_losses g c tells told options chosen ask asked H spelle
     subst (λ (w : Workers). AreDueLosses g.F.Commands.gives g.F.Commands.may_fail g.H.Way.Link.history g.H.Way.Link.count g.H.Way.Link.idle_count g.H.Way.Link.is_closed w.limit (g.H.Hall.got c.args.hall.now) (g.H.Hall.got c.serve.new.hall) H c.serve.result.records) (c.in-Ok.ensures.meets options chosen)
     (c.serve.ensures.due_losses tells told H (subst (λ (fs : Files). Spells H (fs c.in-Ok.ask.log)) (sym (c.in-Ok.ensures.files told)) at_ask) keeps)
 
+pub returns-in-Ok-clause-results : goal.returns-in-Ok-clause-results
+returns-in-Ok-clause-results g c tells told ask asked H spelled wq work keeps =
+    let same : c.in-Ok.ask ≡ ask = same_ask c.in-Ok.ask ask (sym (c.in-Ok.ensures.stage told) ∙ asked) in
+    let at_ask : Spells H (g.S.Site.files c.args.site c.in-Ok.ask.log) = subst (λ (a : Ask). Spells H (g.S.Site.files c.args.site a.log)) (sym same) spelled in
+    c.serve.ensures.results tells told H (subst (λ (fs : Files). Spells H (fs c.in-Ok.ask.log)) (sym (c.in-Ok.ensures.files told)) at_ask) (ap (λ (a : Ask). a.options.wq) same ∙ wq) (ap (λ (a : Ask). a.work) same ∙ work) keeps
+
 pub returns-in-Ok-clause-opened : goal.returns-in-Ok-clause-opened
 returns-in-Ok-clause-opened g c options chosen ends =
     subst (λ (O : RunOptions). OpensBy O c.serve.result.records) (c.in-Ok.ensures.goes_by options chosen) (c.serve.ensures.opened ends)
@@ -206,6 +212,12 @@ returns-in-Err-clause-failed g c told ask asked alone H spelled whole =
 
 pub returns-in-Err-clause-due_losses : goal.returns-in-Err-clause-due_losses
 returns-in-Err-clause-due_losses g c tells told options chosen ask asked H spelled keeps =
+    let s : Rise = record { before = c.faults-before.result; after = c.faults-after.result } in
+    refused_cuts (request c.args.words.now c.args.env.now (g.S.Site.files c.args.site)) ask s c.in-Err.refusal (c.in-Err.ensures.stage told) asked
+    (loses_cut (kind_of (refusal_cause s c.in-Err.refusal)) (subst (λ (cause : Cause). may_lose (kind_of cause) ≡ false) c.refusal_cause.ensures keeps))
+
+pub returns-in-Err-clause-results : goal.returns-in-Err-clause-results
+returns-in-Err-clause-results g c tells told ask asked H spelled wq work keeps =
     let s : Rise = record { before = c.faults-before.result; after = c.faults-after.result } in
     refused_cuts (request c.args.words.now c.args.env.now (g.S.Site.files c.args.site)) ask s c.in-Err.refusal (c.in-Err.ensures.stage told) asked
     (loses_cut (kind_of (refusal_cause s c.in-Err.refusal)) (subst (λ (cause : Cause). may_lose (kind_of cause) ≡ false) c.refusal_cause.ensures keeps))

@@ -25,6 +25,7 @@ use Rattle.run_history.proofs.Limits.{limit-legal}
 use Rattle.master_run.proofs.Unneeded.{drops_unneeded}
 use Rattle.wq_run.specs.Ends.{AreBack}
 use Rattle.wq_run.specs.Losses.{AreDueLosses}
+use Rattle.wq_run.specs.Results.{AreResults}
 use Rattle.wq_run.specs.Vain.{AreVain}
 use Rattle.master_run.proofs.Reprinted.{after_closed, after_cut, after_failed, after_kept, after_legal, after_planned, after_refused, after_run, after_spared, after_sure, after_waited, printed_ends, printed_fault, printed_serves, printed_words, stands}
 use Rattle.master_run.proofs.top.makeflow_top.Goals as goal
@@ -95,6 +96,11 @@ pub returns-clause-due_losses : goal.returns-clause-due_losses
 returns-clause-due_losses g c tells told options chosen ask asked H spelled =
     after_kept (AreDueLosses g.F.Commands.gives g.F.Commands.may_fail g.H.Way.Link.history g.H.Way.Link.count g.H.Way.Link.idle_count g.H.Way.Link.is_closed options.limits.idle (g.H.Hall.got c.args.hall.now) (g.H.Hall.got c.follow-course.new.hall) H c.follow-course.result.records) (g.O.Sink.count c.args.out.now) (g.O.Sink.count c.tell-cause.new.out) c.follow-course.result.cause c.tell-cause.result (stands (g.O.Sink.count c.args.out.now) (g.O.Sink.count c.tell-cause.new.out) c.follow-course.result.cause c.tell-cause.result c.tell-cause.ensures.stands)
     (c.follow-course.ensures.due_losses tells told options chosen ask asked H spelled)
+
+pub returns-clause-results : goal.returns-clause-results
+returns-clause-results g c tells told ask asked H spelled wq work =
+    after_kept (AreResults g.H.Way.Link.history (g.H.Hall.got c.args.hall.now) (g.H.Hall.got c.follow-course.new.hall) H c.follow-course.result.records) (g.O.Sink.count c.args.out.now) (g.O.Sink.count c.tell-cause.new.out) c.follow-course.result.cause c.tell-cause.result (stands (g.O.Sink.count c.args.out.now) (g.O.Sink.count c.tell-cause.new.out) c.follow-course.result.cause c.tell-cause.result c.tell-cause.ensures.stands)
+    (c.follow-course.ensures.results tells told ask asked H spelled wq work)
 
 pub returns-clause-places : goal.returns-clause-places
 returns-clause-places g c told ask asked H spelled begins =

@@ -87,6 +87,16 @@ pub returns-in-PrintLog-clause-vain : goal.returns-in-PrintLog-clause-vain
 returns-in-PrintLog-clause-vain g c tells =
     still_waits (λ (wait : Wait). AreVain g.F.Commands.gives g.F.Commands.may_fail g.H.Way.Link.history g.H.Way.Link.count g.H.Way.Link.idle_count g.H.Way.Link.is_closed c.args.ask.workers.limit c.args.ask.plan c.args.ask.options (before_end c.read_log.result.records) (g.H.Hall.got c.args.hall.now) (g.H.Hall.got c.args.hall.now)) c.read_log.result.cause c.read_log.ensures.runs_not
 
+pub returns-in-PrintLog-clause-results : goal.returns-in-PrintLog-clause-results
+returns-in-PrintLog-clause-results g c tells t H spelled wq work keeps =
+    let is : c.args.ask.work ≡ works.PrintLog = search rules in
+    let wrong : works.PrintLog ≡ works.Run = sym is ∙ work in cc
+
+pub returns-in-Clean-clause-results : goal.returns-in-Clean-clause-results
+returns-in-Clean-clause-results g c tells t H spelled wq work keeps =
+    let is : c.args.ask.work ≡ works.Clean = search rules in
+    let wrong : works.Clean ≡ works.Run = sym is ∙ work in cc
+
 pub returns-in-Clean-clause-sure_links : goal.returns-in-Clean-clause-sure_links
 returns-in-Clean-clause-sure_links g c t H spelled wq work sure links =
     let is : c.args.ask.work ≡ works.Clean = search rules in

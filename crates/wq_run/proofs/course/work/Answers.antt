@@ -13,8 +13,9 @@ use Rattle.wq_run.proofs.Working.{are_back, damage_by, ends_by_waiting, spared_b
 use Rattle.flow_types.specs.declared.numbers.LinkNo.{LinkNo}
 use Rattle.run_history.specs.Links.{records_of}
 use Rattle.wq_run.specs.Losses.{AreDueLosses}
+use Rattle.wq_run.specs.Results.{AreResults}
 use Rattle.wq_run.specs.Vain.{AreVain, IfWaited, NeedsAtMost}
-use Rattle.wq_run.proofs.Duly.{due_whole}
+use Rattle.wq_run.proofs.Duly.{due_whole, results_whole}
 use Rattle.wq_run.proofs.Heards.{ok_step}
 use Rattle.wq_run.proofs.Whole.{vain_whole}
 use Rattle.wq_run.specs.Calm.{Asked, ComeFew, IsComing, IsSureOf, IsSureCompany, IsUnmet}
@@ -40,6 +41,7 @@ returns-in-Err-Failed g c =
       never = λ is. tt;
       lost = tt;
       due_losses = λ tells first. tt;
+      results = λ tells. tt;
       vain = λ tells first. tt;
       ends = tt;
       back = λ uncut. record { more = []; are = c.listen.ensures.got ∙ sym (append-nil (g.H.Hall.got c.args.hall.now)); many = (let given = c.listen.ensures.given in omega (arith, given)); apart = λ k. omega arith };
@@ -64,6 +66,7 @@ returns-in-Err-Memory g c =
       never = λ is. tt;
       lost = tt;
       due_losses = λ tells first. tt;
+      results = λ tells. tt;
       vain = λ tells first. tt;
       ends = tt;
       back = λ uncut. absurd (uncut tt);
@@ -108,6 +111,7 @@ returns-then-has_lost g c =
       never = λ is. tt;
       lost = tt;
       due_losses = λ tells first. tt;
+      results = λ tells. tt;
       vain = λ tells first. tt;
       ends = tt;
       back = λ uncut. absurd (uncut tt);
@@ -142,6 +146,12 @@ returns g c =
           let kept : c.disband.new.company.lost ≡ false = search rules in
           subst (λ (xs : List (Option LinkNo × g.row.H-Way.Denot)). OnOk c.run_all-done.result (AreDueLosses g.F.Commands.gives g.F.Commands.may_fail g.H.Way.Link.history g.H.Way.Link.count g.H.Way.Link.idle_count g.H.Way.Link.is_closed c.args.workers.limit xs (g.H.Hall.got c.disband.new.hall) (records_of c.args.desk.now.moves) (records_of c.run_all-done.new.desk.moves))) c.listen.ensures.got
           (due_whole g.F.Commands.gives g.F.Commands.may_fail g.H.Way.Link.history g.H.Way.Link.count g.H.Way.Link.idle_count g.H.Way.Link.is_closed c.args.workers.limit c.args.desk.now.moves c.run_all-done.new.desk.moves company c.run_all-done.new.company c.disband.new.company (g.H.Hall.got c.listen.new.self) (g.H.Hall.got c.run_all-done.new.hall) (g.H.Hall.got c.disband.new.hall) c.run_all-done.result first none (ok_step c.run_all-done.result _ _ (λ keeps. keeps.due) (c.run_all-done.ensures.due tells)) c.run_all-done.ensures.sound (c.disband.ensures.due c.args.workers.limit c.run_all-done.new.desk.moves tells) c.disband.ensures.failed kept c.disband.ensures.seats);
+      results = λ tells.
+          let company : CompanyState g.row.H-Way.Denot = c.new-company.result in
+          let none : company.seats ≡ [] = ap (λ (x : CompanyState g.row.H-Way.Denot). x.seats) c.new-company.ensures in
+          let kept : c.disband.new.company.lost ≡ false = search rules in
+          subst (λ (xs : List (Option LinkNo × g.row.H-Way.Denot)). OnOk c.run_all-done.result (AreResults g.H.Way.Link.history xs (g.H.Hall.got c.disband.new.hall) (records_of c.args.desk.now.moves) (records_of c.run_all-done.new.desk.moves))) c.listen.ensures.got
+          (results_whole g.F.Commands.gives g.F.Commands.may_fail g.H.Way.Link.history g.H.Way.Link.count g.H.Way.Link.idle_count g.H.Way.Link.is_closed c.args.workers.limit c.args.desk.now.moves c.run_all-done.new.desk.moves company c.run_all-done.new.company c.disband.new.company (g.H.Hall.got c.listen.new.self) (g.H.Hall.got c.run_all-done.new.hall) (g.H.Hall.got c.disband.new.hall) c.run_all-done.result none (ok_step c.run_all-done.result _ _ (λ keeps. keeps.due) (c.run_all-done.ensures.due tells)) c.run_all-done.ensures.sound (c.disband.ensures.due c.args.workers.limit c.run_all-done.new.desk.moves tells) c.disband.ensures.failed kept c.disband.ensures.seats);
       vain = λ tells first.
           let company : CompanyState g.row.H-Way.Denot = c.new-company.result in
           let none : company.seats ≡ [] = ap (λ (x : CompanyState g.row.H-Way.Denot). x.seats) c.new-company.ensures in

@@ -29,4 +29,4 @@ returns-clause-again g c = λ said heard tells serves ours.
 pub returns-clause-kept : goal.returns-clause-kept
 returns-clause-kept g c = λ tells.
     kept_by g.L.Link.history (record { way = c.self.inside.way; feed = c.self.inside.feeder; session = c.self.inside.session }) c.args.self.now (g.L.Link.history c.say.new.way) c.self.view_is
-    (none_came (g.L.Link.history c.self.inside.way) (g.L.Link.history c.say.new.way) (c.say.ensures.sends tells).nothing_came)
+    (none_came (g.L.Link.history c.self.inside.way) (g.L.Link.history c.say.new.way) (c.say.ensures.sends tells).nothing_came (c.say.ensures.sends tells).further)

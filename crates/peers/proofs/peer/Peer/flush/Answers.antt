@@ -1,4 +1,4 @@
-use Rattle.std.proofs.Common.{ap, refl}
+use Rattle.std.proofs.Common.{[], ap, refl}
 use Rattle.links.specs.Passings.{received_in}
 use Rattle.peers.proofs.Serving.{rests, same_peer}
 use Rattle.peers.proofs.Receiving.{kept_by, none_came}
@@ -18,4 +18,4 @@ returns-clause-serves g c = λ said heard waiting tells serves.
 pub returns-clause-kept : goal.returns-clause-kept
 returns-clause-kept g c = λ tells.
     kept_by g.L.Link.history (record { way = c.self.inside.way; feed = c.self.inside.feeder; session = c.self.inside.session }) c.args.self.now (g.L.Link.history c.flush.new.self) c.self.view_is
-    (none_came (g.L.Link.history c.self.inside.way) (g.L.Link.history c.flush.new.self) (ap received_in (c.flush.ensures.history tells)))
+    (none_came (g.L.Link.history c.self.inside.way) (g.L.Link.history c.flush.new.self) (ap received_in (c.flush.ensures.history tells)) ([], c.flush.ensures.history tells))

@@ -22,4 +22,4 @@ returns-clause-serves g c = λ said heard waiting tells serves.
 pub returns-clause-kept : goal.returns-clause-kept
 returns-clause-kept g c = λ tells.
     kept_by g.L.Link.history (record { way = c.self.inside.way; feed = c.self.inside.feeder; session = c.self.inside.session }) c.args.self.now (g.L.Link.history c.say_put.new.way) c.self.view_is
-    (none_came (g.L.Link.history c.self.inside.way) (g.L.Link.history c.say_put.new.way) (c.say_put.ensures.sends tells).nothing_came)
+    (none_came (g.L.Link.history c.self.inside.way) (g.L.Link.history c.say_put.new.way) (c.say_put.ensures.sends tells).nothing_came (c.say_put.ensures.sends tells).further)

@@ -50,9 +50,9 @@ returns-clause-serves g c = λ said heard waiting tells serves.
 pub returns-in-Ok-clause-kept : goal.returns-in-Ok-clause-kept
 returns-in-Ok-clause-kept g c = λ tells.
     kept_by g.L.Link.history (record { way = c.self.inside.way; feed = c.self.inside.feeder; session = c.self.inside.session }) c.args.self.now (g.L.Link.history c.say.new.way) c.self.view_is
-    (none_came (g.L.Link.history c.self.inside.way) (g.L.Link.history c.say.new.way) (c.say.ensures.sends tells).nothing_came)
+    (none_came (g.L.Link.history c.self.inside.way) (g.L.Link.history c.say.new.way) (c.say.ensures.sends tells).nothing_came (c.say.ensures.sends tells).further)
 
 pub returns-clause-kept : goal.returns-clause-kept
 returns-clause-kept g c = λ tells.
     kept_by g.L.Link.history (record { way = c.self.inside.way; feed = c.self.inside.feeder; session = c.self.inside.session }) c.args.self.now (g.L.Link.history c.say.new.way) c.self.view_is
-    (none_came (g.L.Link.history c.self.inside.way) (g.L.Link.history c.say.new.way) (c.say.ensures.sends tells).nothing_came)
+    (none_came (g.L.Link.history c.self.inside.way) (g.L.Link.history c.say.new.way) (c.say.ensures.sends tells).nothing_came (c.say.ensures.sends tells).further)

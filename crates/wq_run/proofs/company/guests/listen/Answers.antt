@@ -8,7 +8,7 @@ use Rattle.wq_run.proofs.company.guests.listen.Goals as goal
 
 pub returns-in-Ok-Piece-clause-stranger : goal.returns-in-Ok-Piece-clause-stranger
 returns-in-Ok-Piece-clause-stranger g c was =
-    come_stranger g.F.Commands.gives g.F.Commands.may_fail g.L.Link.history (IsFair g.T.Trust.holds g.L.Link.tells g.L.Link.honest) c.ready.new.self c.listen.new.self (λ said heard waiting honest serves. c.in-Ok-Piece.ensures.serves said heard waiting honest.0 serves) (λ fair. (fair.0, λ held. c.listen.ensures.on.honestly (fair.1 held)))
+    come_stranger g.F.Commands.gives g.F.Commands.may_fail g.L.Link.history (IsFair g.T.Trust.holds g.L.Link.tells g.L.Link.honest) c.ready.new.self c.listen.new.self c.listen.ensures.session (λ said heard waiting honest serves. c.in-Ok-Piece.ensures.serves said heard waiting honest.0 serves) (λ fair. (fair.0, λ held. c.listen.ensures.on.honestly (fair.1 held)))
     (subst (λ (p : PeerState g.row.L.Denot). IsStranger g.F.Commands.gives g.F.Commands.may_fail g.L.Link.history (IsFair g.T.Trust.holds g.L.Link.tells g.L.Link.honest) p) (sym c.ready.ensures) was)
 
 pub returns-in-Ok-Piece-clause-calm : goal.returns-in-Ok-Piece-clause-calm
@@ -19,7 +19,7 @@ returns-in-Ok-Piece-clause-calm g c asked tells was =
 
 pub returns-in-Ok-Idle-clause-stranger : goal.returns-in-Ok-Idle-clause-stranger
 returns-in-Ok-Idle-clause-stranger g c was =
-    come_stranger g.F.Commands.gives g.F.Commands.may_fail g.L.Link.history (IsFair g.T.Trust.holds g.L.Link.tells g.L.Link.honest) c.ready.new.self c.listen.new.self (λ said heard waiting honest serves. c.in-Ok-Idle.ensures.serves said heard waiting honest.0 serves) (λ fair. (fair.0, λ held. c.listen.ensures.on.honestly (fair.1 held)))
+    come_stranger g.F.Commands.gives g.F.Commands.may_fail g.L.Link.history (IsFair g.T.Trust.holds g.L.Link.tells g.L.Link.honest) c.ready.new.self c.listen.new.self c.listen.ensures.session (λ said heard waiting honest serves. c.in-Ok-Idle.ensures.serves said heard waiting honest.0 serves) (λ fair. (fair.0, λ held. c.listen.ensures.on.honestly (fair.1 held)))
     (subst (λ (p : PeerState g.row.L.Denot). IsStranger g.F.Commands.gives g.F.Commands.may_fail g.L.Link.history (IsFair g.T.Trust.holds g.L.Link.tells g.L.Link.honest) p) (sym c.ready.ensures) was)
 
 pub returns-in-Ok-Idle-clause-calm : goal.returns-in-Ok-Idle-clause-calm

@@ -5,7 +5,7 @@ use Rattle.wq_run.specs.Seats.{CompanyState, SeatState, gathered, one_under, sea
 use Rattle.wq_run.proofs.Companies.{gathered_less, met_then, still_met}
 use Rattle.wq_run.proofs.Services.{met_none}
 use Rattle.wq_run.proofs.Counting.{seated_split}
-use Rattle.peers.specs.States.{PeerState, ReceivesOn}
+use Rattle.peers.specs.States.{PeerState, PassesOn}
 use Rattle.wq_run.proofs.Hands.{HandsOn, hands_last, hands_none, hands_whole}
 use Rattle.wq_run.specs.Dues.{IsIllLink, KeepsDue}
 use Rattle.wq_run.proofs.Fares.{fares_still}
@@ -54,7 +54,7 @@ loop-seat-preserved g c =
           subst (λ (xs : List (SeatState g.row.H-Way.Denot)). HandsOn g.H.Way.Link.history c.args.company.now.seats xs (g.H.Hall.got c.args.hall.now) (g.H.Hall.got c.hand_back.new.hall)) (sym c.hand_back.ensures.seats)
           (hands_last g.H.Way.Link.history c.args.company.now.seats c.loop-seat.company.seats c.pop.new.self.items c.in-Some.seat c.link-link.result c.into_way.result (g.H.Hall.got c.args.hall.now) (g.H.Hall.got c.loop-seat.hall) (g.H.Hall.got c.hand_back.new.hall)
           (c.loop-seat.invariant.hands tells was) are (c.link-link.ensures ∙ c.farewell.ensures.link)
-          (subst (λ (x : g.row.H-Way.Denot). ReceivesOn (g.H.Way.Link.history c.in-Some.seat.peer.way) (g.H.Way.Link.history x)) (sym way) (c.farewell.ensures.comes tells)) (c.hand_back.ensures.back kept));
+          (subst (λ (x : g.row.H-Way.Denot). PassesOn (g.H.Way.Link.history c.in-Some.seat.peer.way) (g.H.Way.Link.history x)) (sym way) (c.farewell.ensures.comes tells)) (c.hand_back.ensures.back kept));
       met = met_then c.loop-seat.invariant.met (met_then (still_met (record {
         links = omega (arith, many, both, guests);
         fewer = λ k.

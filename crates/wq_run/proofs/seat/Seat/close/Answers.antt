@@ -12,7 +12,7 @@ use Rattle.std.specs.Prelude.{OnOk}
 use Rattle.flow_types.specs.declared.numbers.AttemptNo.{AttemptNo}
 use Rattle.links.specs.Passings.{received_in}
 use Rattle.peers.specs.States.{PeerState}
-use Rattle.wq_run.specs.Dues.{AddsSo, EndsWith, GaveBackIf, IsGivenBack}
+use Rattle.wq_run.specs.Dues.{AddsSo, EndsWith, IsShownOn, ShowsOutcome}
 use Rattle.wq_run.proofs.Earned.{states_none}
 use Rattle.wq_run.proofs.Fares.{ends_heard, ends_so, fares_stopped, same_way}
 use Rattle.wq_run.specs.Calm.{AddsWell, IsSureOf}
@@ -73,14 +73,15 @@ returns-in_default-clause-fares g c limit tells =
     let on : a.link.0 ≡ c.args.self.now.link.0 = on_at c.args.self.now.link.0 split.0 a split.1 (subst (AreOn c.args.self.now.link.0) split.2 is.at.seat.placed.there) in
     let up = received_in (g.L.Link.history c.take-attempt.new.self.peer.way) in
     let ends : EndsWith c.args.desk.now.moves a c.args.outcome c.end_away.new.desk.moves = subst (λ (r : Result (Unit {0}) Halt). OnOk r (EndsWith c.args.desk.now.moves a c.args.outcome c.end_away.new.desk.moves)) c.in_default.is c.end_away.ensures.adds in
-    let back : GaveBackIf up a.number c.args.outcome = subst (λ (n : AttemptNo). GaveBackIf up n c.args.outcome) (sym c.take-attempt.ensures.number)
-    (subst (λ (p : PeerState g.row.L.Denot). GaveBackIf (received_in (g.L.Link.history p.way)) c.args.number c.args.outcome) (sym peer) (c.requires.back tells)) in
+    let past = g.L.Link.history c.take-attempt.new.self.peer.way in
+    let back : ShowsOutcome past a.number c.args.outcome = subst (λ (n : AttemptNo). ShowsOutcome past n c.args.outcome) (sym c.take-attempt.ensures.number)
+    (subst (λ (p : PeerState g.row.L.Denot). ShowsOutcome (g.L.Link.history p.way) c.args.number c.args.outcome) (sym peer) (c.requires.back tells)) in
     record {
       link = ap (λ (s : SeatState g.row.L.Denot). s.link) split.3;
       comes = same_way g.L.Link.history c.args.self.now c.take-attempt.new.self (ap (λ (p : PeerState g.row.L.Denot). p.way) peer);
       going = λ none. none;
-      loses = λ none. subst (λ (k : ℕ). AddsSo (IsGivenBack up k) c.args.desk.now.moves c.end_away.new.desk.moves) on
-          (ends_so up c.args.desk.now.moves c.end_away.new.desk.moves a c.args.outcome ends back);
+      loses = λ none. subst (λ (k : ℕ). AddsSo (IsShownOn past k) c.args.desk.now.moves c.end_away.new.desk.moves) on
+          (ends_so past c.args.desk.now.moves c.end_away.new.desk.moves a c.args.outcome ends back);
       states = λ none. states_none up c.args.self.now.link.0 c.args.desk.now.moves c.end_away.new.desk.moves
           (close_unlinked g.T.Terms.trust g.F.Commands.gives g.F.Commands.may_fail g.T.Terms.sources g.S.Site.tells g.T.Terms.kept (IsSurePool g.B.Terms.fits) g.S.Site.files g.S.Site.may_leave g.S.Site.moment g.S.Site.images_since c.args.desk.now c.end_away.new.desk c.args.held.now c.args.self.now a split.0 split.1 (halt_after c.end_away.result) split.2 c.end_away.ensures.underway is);
       leaves = λ none. tt;

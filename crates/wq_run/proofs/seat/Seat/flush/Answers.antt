@@ -8,11 +8,11 @@ use Rattle.wq_run.proofs.seat.Seat.flush.Goals as goal
 
 pub invariant_of-self : goal.invariant_of-self
 invariant_of-self g c ready held =
-    come_trusted g.T.Trust.holds g.F.Commands.gives g.F.Commands.may_fail g.L.Link.history (IsFair g.T.Trust.holds g.L.Link.tells g.L.Link.honest) g.T.Trust.plan g.T.Trust.run g.T.Trust.due (record { peer = c.self.inside.peer; link = c.self.inside.link; attempts = c.self.inside.attempts.items; newest = c.self.inside.newest }) c.flush.new.self (λ said heard waiting honest serves. c.flush.ensures.serves said heard waiting honest.0 serves) (λ fair. (fair.0, λ held. c.flush.ensures.on.honestly (fair.1 held))) (c.self.invariant ready held)
+    come_trusted g.T.Trust.holds g.F.Commands.gives g.F.Commands.may_fail g.L.Link.history (IsFair g.T.Trust.holds g.L.Link.tells g.L.Link.honest) g.T.Trust.plan g.T.Trust.run g.T.Trust.due (record { peer = c.self.inside.peer; link = c.self.inside.link; attempts = c.self.inside.attempts.items; newest = c.self.inside.newest }) c.flush.new.self c.flush.ensures.session (λ said heard waiting honest serves. c.flush.ensures.serves said heard waiting honest.0 serves) (λ fair. (fair.0, λ held. c.flush.ensures.on.honestly (fair.1 held))) (c.self.invariant ready held)
 
 pub returns-in-Ok-clause-trusted : goal.returns-in-Ok-clause-trusted
 returns-in-Ok-clause-trusted g c tells was =
-    come_trusted g.T.Trust.holds g.F.Commands.gives g.F.Commands.may_fail g.L.Link.history (IsFair g.T.Trust.holds g.L.Link.tells g.L.Link.honest) g.T.Trust.plan g.T.Trust.run g.T.Trust.due (record { peer = c.self.inside.peer; link = c.self.inside.link; attempts = c.self.inside.attempts.items; newest = c.self.inside.newest }) c.flush.new.self (λ said heard waiting honest serves. c.flush.ensures.serves said heard waiting tells serves) (λ fair. (fair.0, λ held. c.flush.ensures.on.honestly (fair.1 held))) (subst (IsTrusted g.T.Trust.holds g.F.Commands.gives g.F.Commands.may_fail g.L.Link.history (IsFair g.T.Trust.holds g.L.Link.tells g.L.Link.honest) g.T.Trust.plan g.T.Trust.run g.T.Trust.due) (sym c.self.view_is) was)
+    come_trusted g.T.Trust.holds g.F.Commands.gives g.F.Commands.may_fail g.L.Link.history (IsFair g.T.Trust.holds g.L.Link.tells g.L.Link.honest) g.T.Trust.plan g.T.Trust.run g.T.Trust.due (record { peer = c.self.inside.peer; link = c.self.inside.link; attempts = c.self.inside.attempts.items; newest = c.self.inside.newest }) c.flush.new.self c.flush.ensures.session (λ said heard waiting honest serves. c.flush.ensures.serves said heard waiting tells serves) (λ fair. (fair.0, λ held. c.flush.ensures.on.honestly (fair.1 held))) (subst (IsTrusted g.T.Trust.holds g.F.Commands.gives g.F.Commands.may_fail g.L.Link.history (IsFair g.T.Trust.holds g.L.Link.tells g.L.Link.honest) g.T.Trust.plan g.T.Trust.run g.T.Trust.due) (sym c.self.view_is) was)
 
 pub returns-in-Ok-clause-calm : goal.returns-in-Ok-clause-calm
 returns-in-Ok-clause-calm g c asked tells was =

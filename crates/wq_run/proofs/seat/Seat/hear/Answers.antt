@@ -188,6 +188,14 @@ returns-then-not-is_ready g c = record {
 pub returns-clause-fares : goal.returns-clause-fares
 returns-clause-fares g c limit tells = fares_still c.next.ensures.link (same_way g.L.Link.history c.args.self.now c.next.new.self c.next.ensures.way) refl refl (misspeaks_leaves g.F.Commands.gives g.F.Commands.may_fail g.L.Link.history g.L.Link.count g.L.Link.idle_count g.L.Link.is_closed limit c.args.desk.now.moves c.next.new.self c.in-Err.leave (c.in-Err.ensures.shows tells)) tt
 
+pub close-requires-clause-back : goal.close-requires-clause-back
+close-requires-clause-back g c κs within tells =
+    subst (λ (x : Told). let r : Result Told Leave = Ok x in Shows (g.L.Link.history c.next.new.self.peer.way) r) c.in-Ok-Finish.field-0-is (c.in-Ok-Finish.ensures.shows tells)
+
+pub close-requires-in-Ok-Fail-clause-back : goal.close-requires-in-Ok-Fail-clause-back
+close-requires-in-Ok-Fail-clause-back g c κs within tells =
+    subst (λ (x : Told). let r : Result Told Leave = Ok x in Shows (g.L.Link.history c.next.new.self.peer.way) r) c.in-Ok-Fail.field-0-is (c.in-Ok-Fail.ensures.shows tells)
+
 pub close-requires-in-Ok-Lose-clause-back : goal.close-requires-in-Ok-Lose-clause-back
 close-requires-in-Ok-Lose-clause-back g c κs within tells =
     subst (λ (x : Told). let r : Result Told Leave = Ok x in Shows (g.L.Link.history c.next.new.self.peer.way) r) c.in-Ok-Lose.field-0-is (c.in-Ok-Lose.ensures.shows tells)

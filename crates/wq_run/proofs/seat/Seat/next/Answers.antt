@@ -11,28 +11,28 @@ use Rattle.wq_run.proofs.seat.Seat.next.Goals as goal
 
 pub invariant_of-self : goal.invariant_of-self
 invariant_of-self g c ready held =
-    heard_trusted g.T.Trust.holds g.F.Commands.gives g.F.Commands.may_fail g.L.Link.history (IsFair g.T.Trust.holds g.L.Link.tells g.L.Link.honest) g.T.Trust.plan g.T.Trust.run g.T.Trust.due (record { peer = c.self.inside.peer; link = c.self.inside.link; attempts = c.self.inside.attempts.items; newest = c.self.inside.newest }) c.hear.new.self c.in-Ok.told
+    heard_trusted g.T.Trust.holds g.F.Commands.gives g.F.Commands.may_fail g.L.Link.history (IsFair g.T.Trust.holds g.L.Link.tells g.L.Link.honest) g.T.Trust.plan g.T.Trust.run g.T.Trust.due (record { peer = c.self.inside.peer; link = c.self.inside.link; attempts = c.self.inside.attempts.items; newest = c.self.inside.newest }) c.hear.new.self c.in-Ok.told c.in-Ok.ensures.hears
     (λ said heard honest serves. c.in-Ok.ensures.serves said heard honest.0 serves) (λ honest. subst (IsFair g.T.Trust.holds g.L.Link.tells g.L.Link.honest) (sym c.hear.ensures.way) honest) (c.self.invariant ready held)
 
 pub returns-in-Ok-clause-due : goal.returns-in-Ok-clause-due
 returns-in-Ok-clause-due g c held =
-    heard_due g.T.Trust.holds g.F.Commands.gives g.F.Commands.may_fail g.L.Link.history (IsFair g.T.Trust.holds g.L.Link.tells g.L.Link.honest) g.T.Trust.plan g.T.Trust.run g.T.Trust.due (record { peer = c.self.inside.peer; link = c.self.inside.link; attempts = c.self.inside.attempts.items; newest = c.self.inside.newest }) c.hear.new.self c.in-Ok.told
+    heard_due g.T.Trust.holds g.F.Commands.gives g.F.Commands.may_fail g.L.Link.history (IsFair g.T.Trust.holds g.L.Link.tells g.L.Link.honest) g.T.Trust.plan g.T.Trust.run g.T.Trust.due (record { peer = c.self.inside.peer; link = c.self.inside.link; attempts = c.self.inside.attempts.items; newest = c.self.inside.newest }) c.hear.new.self c.in-Ok.told c.in-Ok.ensures.hears
     (λ said heard honest serves. c.in-Ok.ensures.serves said heard honest.0 serves) (λ honest. subst (IsFair g.T.Trust.holds g.L.Link.tells g.L.Link.honest) (sym c.hear.ensures.way) honest)
     (λ held fair. (c.honest_links_were_honest.ensures c.hear.new.self.way (fair.1 held)).1) (subst (IsTrusted g.T.Trust.holds g.F.Commands.gives g.F.Commands.may_fail g.L.Link.history (IsFair g.T.Trust.holds g.L.Link.tells g.L.Link.honest) g.T.Trust.plan g.T.Trust.run g.T.Trust.due) (sym c.self.view_is) (c.requires.trusted held))
 
 pub returns-in-Ok-clause-shows : goal.returns-in-Ok-clause-shows
 returns-in-Ok-clause-shows g c tells =
     let was = subst (IsTrusted g.T.Trust.holds g.F.Commands.gives g.F.Commands.may_fail g.L.Link.history (IsFair g.T.Trust.holds g.L.Link.tells g.L.Link.honest) g.T.Trust.plan g.T.Trust.run g.T.Trust.due) (sym c.self.view_is) (c.requires.trusted (inl tells)) in
-    shows_by g.F.Commands.gives g.F.Commands.may_fail g.L.Link.history g.L.Link.count g.L.Link.idle_count g.L.Link.is_closed 0 (g.L.Link.history c.hear.new.self.way) was.said was.heard c.hear.new.self.feed c.hear.new.self.session (Ok c.in-Ok.told) (c.in-Ok.ensures.serves was.said was.heard tells was.spoken.serves)
+    shows_by g.F.Commands.gives g.F.Commands.may_fail g.L.Link.history g.L.Link.count g.L.Link.idle_count g.L.Link.is_closed 0 (g.L.Link.history c.hear.new.self.way) was.said was.heard was.spoken.provides.provided c.hear.new.self.feed c.hear.new.self.session (Ok c.in-Ok.told) (c.in-Ok.ensures.serves was.said was.heard tells was.spoken.serves)
 
 pub returns-in-Err-clause-shows : goal.returns-in-Err-clause-shows
 returns-in-Err-clause-shows g c tells =
     let was = subst (IsTrusted g.T.Trust.holds g.F.Commands.gives g.F.Commands.may_fail g.L.Link.history (IsFair g.T.Trust.holds g.L.Link.tells g.L.Link.honest) g.T.Trust.plan g.T.Trust.run g.T.Trust.due) (sym c.self.view_is) (c.requires.trusted (inl tells)) in
-    shows_by g.F.Commands.gives g.F.Commands.may_fail g.L.Link.history g.L.Link.count g.L.Link.idle_count g.L.Link.is_closed 0 (g.L.Link.history c.hear.new.self.way) was.said was.heard c.hear.new.self.feed c.hear.new.self.session (Err c.in-Err.leave) (c.in-Err.ensures.serves was.said was.heard tells was.spoken.serves)
+    shows_by g.F.Commands.gives g.F.Commands.may_fail g.L.Link.history g.L.Link.count g.L.Link.idle_count g.L.Link.is_closed 0 (g.L.Link.history c.hear.new.self.way) was.said was.heard was.spoken.provides.provided c.hear.new.self.feed c.hear.new.self.session (Err c.in-Err.leave) (c.in-Err.ensures.serves was.said was.heard tells was.spoken.serves)
 
 pub returns-in-Ok-clause-spoken : goal.returns-in-Ok-clause-spoken
 returns-in-Ok-clause-spoken g c held =
-    heard_trusted g.T.Trust.holds g.F.Commands.gives g.F.Commands.may_fail g.L.Link.history (IsFair g.T.Trust.holds g.L.Link.tells g.L.Link.honest) g.T.Trust.plan g.T.Trust.run g.T.Trust.due (record { peer = c.self.inside.peer; link = c.self.inside.link; attempts = c.self.inside.attempts.items; newest = c.self.inside.newest }) c.hear.new.self c.in-Ok.told
+    heard_trusted g.T.Trust.holds g.F.Commands.gives g.F.Commands.may_fail g.L.Link.history (IsFair g.T.Trust.holds g.L.Link.tells g.L.Link.honest) g.T.Trust.plan g.T.Trust.run g.T.Trust.due (record { peer = c.self.inside.peer; link = c.self.inside.link; attempts = c.self.inside.attempts.items; newest = c.self.inside.newest }) c.hear.new.self c.in-Ok.told c.in-Ok.ensures.hears
     (λ said heard honest serves. c.in-Ok.ensures.serves said heard honest.0 serves) (λ honest. subst (IsFair g.T.Trust.holds g.L.Link.tells g.L.Link.honest) (sym c.hear.ensures.way) honest) (subst (IsTrusted g.T.Trust.holds g.F.Commands.gives g.F.Commands.may_fail g.L.Link.history (IsFair g.T.Trust.holds g.L.Link.tells g.L.Link.honest) g.T.Trust.plan g.T.Trust.run g.T.Trust.due) (sym c.self.view_is) (c.requires.trusted held))
 
 pub returns-in-Ok-clause-heard : goal.returns-in-Ok-clause-heard

@@ -9,11 +9,11 @@ use Rattle.wq_run.proofs.seat.Seat.probe.Goals as goal
 
 pub invariant_of-self : goal.invariant_of-self
 invariant_of-self g c ready held =
-    word_trusted g.T.Trust.holds g.F.Commands.gives g.F.Commands.may_fail g.L.Link.history (IsFair g.T.Trust.holds g.L.Link.tells g.L.Link.honest) g.T.Trust.plan g.T.Trust.run g.T.Trust.due (record { peer = c.self.inside.peer; link = c.self.inside.link; attempts = c.self.inside.attempts.items; newest = c.self.inside.newest }) c.probe.new.self no_key c.what_is_due_stays_due.ensures (λ said heard waiting honest serves. c.in-Ok.ensures.serves said heard waiting honest.0 serves) (λ fair. (fair.0, λ held. c.probe.ensures.on.honestly (fair.1 held))) (c.self.invariant ready held)
+    word_trusted g.T.Trust.holds g.F.Commands.gives g.F.Commands.may_fail g.L.Link.history (IsFair g.T.Trust.holds g.L.Link.tells g.L.Link.honest) g.T.Trust.plan g.T.Trust.run g.T.Trust.due (record { peer = c.self.inside.peer; link = c.self.inside.link; attempts = c.self.inside.attempts.items; newest = c.self.inside.newest }) c.probe.new.self no_key c.what_is_due_stays_due.ensures c.probe.ensures.session (λ said heard waiting honest serves. c.in-Ok.ensures.serves said heard waiting honest.0 serves) (λ fair. (fair.0, λ held. c.probe.ensures.on.honestly (fair.1 held))) (c.self.invariant ready held)
 
 pub returns-in-Ok-clause-trusted : goal.returns-in-Ok-clause-trusted
 returns-in-Ok-clause-trusted g c tells was =
-    word_trusted g.T.Trust.holds g.F.Commands.gives g.F.Commands.may_fail g.L.Link.history (IsFair g.T.Trust.holds g.L.Link.tells g.L.Link.honest) g.T.Trust.plan g.T.Trust.run g.T.Trust.due (record { peer = c.self.inside.peer; link = c.self.inside.link; attempts = c.self.inside.attempts.items; newest = c.self.inside.newest }) c.probe.new.self no_key c.what_is_due_stays_due.ensures (λ said heard waiting honest serves. c.in-Ok.ensures.serves said heard waiting honest.0 serves) (λ fair. (fair.0, λ held. c.probe.ensures.on.honestly (fair.1 held))) (subst (IsTrusted g.T.Trust.holds g.F.Commands.gives g.F.Commands.may_fail g.L.Link.history (IsFair g.T.Trust.holds g.L.Link.tells g.L.Link.honest) g.T.Trust.plan g.T.Trust.run g.T.Trust.due) (sym c.self.view_is) was)
+    word_trusted g.T.Trust.holds g.F.Commands.gives g.F.Commands.may_fail g.L.Link.history (IsFair g.T.Trust.holds g.L.Link.tells g.L.Link.honest) g.T.Trust.plan g.T.Trust.run g.T.Trust.due (record { peer = c.self.inside.peer; link = c.self.inside.link; attempts = c.self.inside.attempts.items; newest = c.self.inside.newest }) c.probe.new.self no_key c.what_is_due_stays_due.ensures c.probe.ensures.session (λ said heard waiting honest serves. c.in-Ok.ensures.serves said heard waiting honest.0 serves) (λ fair. (fair.0, λ held. c.probe.ensures.on.honestly (fair.1 held))) (subst (IsTrusted g.T.Trust.holds g.F.Commands.gives g.F.Commands.may_fail g.L.Link.history (IsFair g.T.Trust.holds g.L.Link.tells g.L.Link.honest) g.T.Trust.plan g.T.Trust.run g.T.Trust.due) (sym c.self.view_is) was)
 
 pub returns-in-Ok-clause-calm : goal.returns-in-Ok-clause-calm
 returns-in-Ok-clause-calm g c asked tells was =

@@ -1,9 +1,10 @@
-use Rattle.std.proofs.Common.{List, [], ap, arith, drop, refl, subst, suc, ℕ, ◌+◌, ◌∙◌, ◌≡◌}
+use Rattle.std.proofs.Common.{List, [], sym, ap, arith, drop, refl, subst, suc, ℕ, ◌+◌, ◌∙◌, ◌≡◌}
 use Rattle.local_run.specs.Underway.{IsSurePool}
 use Rattle.wq_frames.specs.Streams.{Stream}
 use Rattle.wq_run.proofs.Asks.{keeps_same, keeps_still}
 use Rattle.wq_run.proofs.Shares.{keeps_then, leaves_then}
-use Rattle.wq_run.proofs.Steps.{after_kept, after_then, at_then}
+use Rattle.wq_run.specs.Trusted.{IsFair, MayAsk}
+use Rattle.wq_run.proofs.Steps.{after_kept, after_then, at_then, none_of}
 use Rattle.wq_run.proofs.Trusts.{of_seat}
 use Rattle.wq_run.proofs.Fares.{fares_same, fares_still, fares_then, send_leaves}
 use Rattle.std.proofs.Math.Seq.{drop-cons}
@@ -30,7 +31,12 @@ returns-in-Err g c = record {
 pub loop-file-preserved : goal.loop-file-preserved
 loop-file-preserved g c = record {
   keeps = keeps_then g.T.Terms.trust g.F.Commands.gives g.F.Commands.may_fail g.T.Terms.sources g.S.Site.tells g.T.Terms.kept (IsSurePool g.B.Terms.fits) g.S.Site.files g.S.Site.may_leave g.S.Site.moment g.S.Site.images_since c.args.desk.now c.loop-file.desk c.put.new.desk c.args.held.now c.loop-file.held c.put.new.held c.args.self.now c.loop-file.self c.put.new.self c.loop-file.invariant.keeps c.in-Ok.ensures.keeps;
-  asks = λ held. c.in-Ok.ensures.asks c.args.task held (c.loop-file.invariant.asks held);
+  asks = λ none held.
+      let tells = (c.requires.asks held).spoken.honestly.0 in
+      let mid = c.loop-file.invariant.asks ((c.in-Ok.ensures.fares 0 tells).going none) held in
+      let now = c.in-Ok.ensures.asks c.args.task (keys_of c.args.task.run (drop (suc c.loop-file.file-index) c.args.files.now)) none held (subst (λ (xs : List FileNo). MayAsk g.T.Trust.holds g.F.Commands.gives g.F.Commands.may_fail g.L.Link.history (IsFair g.T.Trust.holds g.L.Link.tells g.L.Link.honest) g.T.Trust.plan g.T.Trust.run g.T.Trust.due c.loop-file.self c.args.task (keys_of c.args.task.run xs)) (drop-cons c.args.files.now c.loop-file.file-index (record { 0 = 0 }) (omega arith)) mid) in
+      let next : suc c.loop-file.file-index ≡ c.loop-file.file-index + 1 = omega arith in
+      subst (λ (n : ℕ). MayAsk g.T.Trust.holds g.F.Commands.gives g.F.Commands.may_fail g.L.Link.history (IsFair g.T.Trust.holds g.L.Link.tells g.L.Link.honest) g.T.Trust.plan g.T.Trust.run g.T.Trust.due c.put.new.self c.args.task (keys_of c.args.task.run (drop n c.args.files.now))) next now;
   fares = λ limit tells. fares_then (c.loop-file.invariant.fares limit tells) (c.in-Ok.ensures.fares limit tells);
   calm = λ asked tells was none.
       let mid = c.loop-file.invariant.calm asked tells was ((c.in-Ok.ensures.fares 0 tells).going none) in
@@ -59,4 +65,9 @@ pub put-requires-clause-of : goal.put-requires-clause-of
 put-requires-clause-of g c κs within = of_seat g.T.Terms.trust g.F.Commands.gives g.F.Commands.may_fail g.T.Terms.sources g.S.Site.tells g.T.Terms.kept (IsSurePool g.B.Terms.fits) g.S.Site.files g.S.Site.may_leave g.S.Site.moment g.S.Site.images_since g.T.Trust.holds g.T.Trust.plan g.T.Trust.options g.T.Trust.run g.T.Trust.due c.args.desk.now c.loop-file.desk c.args.held.now c.loop-file.held c.args.self.now c.loop-file.self c.requires.at c.loop-file.invariant.keeps c.requires.of
 
 pub loop-file-init : goal.loop-file-init
-loop-file-init g c = record { keeps = keeps_same g.T.Terms.trust g.F.Commands.gives g.F.Commands.may_fail g.T.Terms.sources g.S.Site.tells g.T.Terms.kept (IsSurePool g.B.Terms.fits) g.S.Site.files g.S.Site.may_leave g.S.Site.moment g.S.Site.images_since c.args.desk.now c.args.held.now c.args.self.now; asks = c.requires.asks; fares = λ limit tells. fares_same; calm = λ asked tells was none. (well_same _ _ refl, was) }
+loop-file-init g c = record { keeps = keeps_same g.T.Terms.trust g.F.Commands.gives g.F.Commands.may_fail g.T.Terms.sources g.S.Site.tells g.T.Terms.kept (IsSurePool g.B.Terms.fits) g.S.Site.files g.S.Site.may_leave g.S.Site.moment g.S.Site.images_since c.args.desk.now c.args.held.now c.args.self.now; asks = λ none held. c.requires.asks held; fares = λ limit tells. fares_same; calm = λ asked tells was none. (well_same _ _ refl, was) }
+
+pub ask-requires-clause-asks : goal.ask-requires-clause-asks
+ask-requires-clause-asks g c κs within held =
+    let over : drop c.loop-file.file-index c.args.files.now ≡ [] = none_left c.args.files.now c.loop-file.file-index (omega arith) in
+    subst (λ (xs : List FileNo). MayAsk g.T.Trust.holds g.F.Commands.gives g.F.Commands.may_fail g.L.Link.history (IsFair g.T.Trust.holds g.L.Link.tells g.L.Link.honest) g.T.Trust.plan g.T.Trust.run g.T.Trust.due c.loop-file.self c.args.task (keys_of c.args.task.run xs)) over (c.loop-file.invariant.asks (none_of c.loop-file.held.halt (sym c.if-not-is_going.ensures)) held)

@@ -96,3 +96,18 @@ returns-else-as_slice-gt-MOST_BYTES-clause-wants g c on none = (well_same _ _ (a
 
 pub returns-in-Err-clause-wants : goal.returns-in-Err-clause-wants
 returns-in-Err-clause-wants g c on none = absurd (halted_never c.in-Err.why c.stop-in-Err.new.self.halt (ap (λ (h : HeldState). h.halt) c.stop-in-Err.ensures) none)
+
+pub returns-then-not-is_going-clause-asks : goal.returns-then-not-is_going-clause-asks
+returns-then-not-is_going-clause-asks g c task left none held may = absurd (not_going c.args.held.now.halt (sym c.if-not-is_going.ensures) none)
+
+pub returns-then-not-present-clause-asks : goal.returns-then-not-present-clause-asks
+returns-then-not-present-clause-asks g c task left none held may = absurd (halted_never halts.Memory c.stop.new.self.halt (ap (λ (h : HeldState). h.halt) c.stop.ensures) none)
+
+pub returns-then-as_slice-gt-MOST_BYTES-clause-asks : goal.returns-then-as_slice-gt-MOST_BYTES-clause-asks
+returns-then-as_slice-gt-MOST_BYTES-clause-asks g c task left none held may = absurd (halted_never halts.Memory c.stop-then-as_slice-gt-MOST_BYTES.new.self.halt (ap (λ (h : HeldState). h.halt) c.stop-then-as_slice-gt-MOST_BYTES.ensures) none)
+
+pub returns-else-as_slice-gt-MOST_BYTES-clause-asks : goal.returns-else-as_slice-gt-MOST_BYTES-clause-asks
+returns-else-as_slice-gt-MOST_BYTES-clause-asks g c task left none held may = c.send.ensures.asks task left held may
+
+pub returns-in-Err-clause-asks : goal.returns-in-Err-clause-asks
+returns-in-Err-clause-asks g c task left none held may = absurd (halted_never c.in-Err.why c.stop-in-Err.new.self.halt (ap (λ (h : HeldState). h.halt) c.stop-in-Err.ensures) none)

@@ -5,7 +5,7 @@ use Rattle.run_history.specs.Links.{records_of}
 use Rattle.link_session.specs.Sessions.{is_open}
 use Rattle.local_run.specs.Underway.{HeldState, IsSurePool}
 use Rattle.wq_frames.specs.Streams.{Stream}
-use Rattle.wq_run.specs.Trusted.{IsFair, IsOwn, MayOpen}
+use Rattle.wq_run.specs.Trusted.{IsFair, IsOwn, MayAsk, MayOpen}
 use Rattle.wq_run.proofs.Asks.{GoesBy, keeps_still, open_keeps, stops_want, suits_of}
 use Rattle.wq_run.proofs.Closes.{inside, placed}
 use Rattle.wq_run.proofs.Steps.{after_then, at_then}
@@ -66,5 +66,7 @@ pub provide-requires-clause-asks : goal.provide-requires-clause-asks
 provide-requires-clause-asks g c κs within held =
     let of = c.in-Some.ensures.of in
     let own = own_by c.args.desk.now.plan c.args.desk.now.options (records_of c.args.desk.now.moves) of.1 c.in-Some.task c.requires.of of.5 in
-    c.in-Ok.ensures.asks held (subst (MayOpen g.T.Trust.holds g.F.Commands.gives g.F.Commands.may_fail g.L.Link.history (IsFair g.T.Trust.holds g.L.Link.tells g.L.Link.honest) g.T.Trust.plan g.T.Trust.run g.T.Trust.due c.args.self.now) (sym ((suits_of c.args.desk.now.plan (records_of c.args.desk.now.moves) of.1 c.in-Some.task of.5).1 ∙ of.4)) (c.requires.opens held))
-    (subst (AllByRecursion (IsOwn g.T.Trust.plan g.T.Trust.run c.in-Some.task)) (sym of.3) (own_all g.T.Trust.plan g.T.Trust.run of.0 of.1 of.2 c.in-Some.task (alone_at g.T.Terms.trust g.F.Commands.gives g.F.Commands.may_fail g.T.Terms.sources g.S.Site.tells g.T.Terms.kept (IsSurePool g.B.Terms.fits) g.S.Site.files g.S.Site.may_leave g.S.Site.moment g.S.Site.images_since g.T.Trust.holds g.T.Trust.plan g.T.Trust.options g.T.Trust.run g.T.Trust.due c.args.desk.now c.args.held.now c.args.self.now of.0 of.1 of.2 of.3 c.requires.at) own))
+    let files : c.as_slice.result.now ≡ c.in-Ok.files = search rules in
+    subst (λ (xs : List FileNo). MayAsk g.T.Trust.holds g.F.Commands.gives g.F.Commands.may_fail g.L.Link.history (IsFair g.T.Trust.holds g.L.Link.tells g.L.Link.honest) g.T.Trust.plan g.T.Trust.run g.T.Trust.due c.open.new.self c.in-Some.task (keys_of c.in-Some.task.run xs)) (sym files)
+    (c.in-Ok.ensures.asks held (subst (MayOpen g.T.Trust.holds g.F.Commands.gives g.F.Commands.may_fail g.L.Link.history (IsFair g.T.Trust.holds g.L.Link.tells g.L.Link.honest) g.T.Trust.plan g.T.Trust.run g.T.Trust.due c.args.self.now) (sym ((suits_of c.args.desk.now.plan (records_of c.args.desk.now.moves) of.1 c.in-Some.task of.5).1 ∙ of.4)) (c.requires.opens held))
+    (subst (AllByRecursion (IsOwn g.T.Trust.plan g.T.Trust.run c.in-Some.task)) (sym of.3) (own_all g.T.Trust.plan g.T.Trust.run of.0 of.1 of.2 c.in-Some.task (alone_at g.T.Terms.trust g.F.Commands.gives g.F.Commands.may_fail g.T.Terms.sources g.S.Site.tells g.T.Terms.kept (IsSurePool g.B.Terms.fits) g.S.Site.files g.S.Site.may_leave g.S.Site.moment g.S.Site.images_since g.T.Trust.holds g.T.Trust.plan g.T.Trust.options g.T.Trust.run g.T.Trust.due c.args.desk.now c.args.held.now c.args.self.now of.0 of.1 of.2 of.3 c.requires.at) own)))
