@@ -1,10 +1,11 @@
 -- What a foreman has come to, step by step.
-use Rattle.std.proofs.Common.{◌≡◌, ◌≤◌, ℕ, ◌+◌, ◌-◌, Bool, true, false, List, [], ◌∷◌, ◌++◌, length, Some, None, Result, Ok, Err, inl, inr, refl, sym, ap, ◌∙◌, subst, append_assoc, append-nil, arith}
+use Rattle.std.proofs.Common.{◌≡◌, ◌≤◌, ℕ, ◌+◌, ◌-◌, Bool, true, false, List, [], ◌∷◌, ◌++◌, length, Option, Some, None, Result, Ok, Err, inl, inr, refl, sym, ap, ◌∙◌, subst, append_assoc, append-nil, arith}
 use Rattle.std.specs.Prelude.{◌||◌, slice_get, slice_set}
 use Rattle.std.proofs.lemmas.List.{length-append}
 use Rattle.flow_types.specs.declared.job.Failure.{Failure}
 use Rattle.flow_types.specs.declared.job.Job.{Job}
 use Rattle.flow_types.specs.declared.messages.Message.{Message}
+use Rattle.flow_types.specs.declared.numbers.LinkNo.{LinkNo}
 use Rattle.flow_types.specs.Serial.{Function}
 use Rattle.links.proofs.Honesties.{new_link_right, heard_as}
 use Rattle.links.specs.declared.passing.Got.{Got}
@@ -35,10 +36,13 @@ use Rattle.peer_run.specs.Works.{EarState, Way}
 use Rattle.peer_run.proofs.Going.{frames_len, frames_more}
 use Rattle.foreman_run.specs.declared.stop.Stop.{Stop}
 use Rattle.foreman_run.specs.declared.stop.Stop.TheVariants as stops
-use Rattle.foreman_run.specs.Ends.{FailsBy, IsFound, LeavesHall, MayStop, Stops}
-use Rattle.foreman_run.specs.Lowers.{AnswersBelow, AreHeld, AreHonest, Gains, IsHeld, Keeps, KeepsWith, LowerState, Parts, Passes, Went, over}
+use Rattle.foreman_run.specs.Ends.{FailsBy, IsFound, LeavesHall, MayStop, StopsAt, StopsOver}
+use Rattle.foreman_run.specs.Lowers.{AnswersBelow, AreHeld, AreHonest, Gains, HearsOn, IsHeld, Keeps, KeepsWith, LowerState, Parts, Passes, Went, from_link, over}
 use Rattle.foreman_run.specs.Met.{Met, above, below, lost, foreman_of, goes_wrong, has_left, heard_of, hello, led_by, sent_of, told_of}
+use Rattle.foreman_run.specs.Tied.{AreTied, Book, new_book, with_due, with_got, with_hall}
 use Rattle.foreman_run.specs.Works.{Works}
+use Rattle.foreman_run.proofs.Companies.{held_joined, honest_joined, kept_at}
+use Rattle.foreman_run.proofs.Tying.{every_parts, from_next, from_none, from_same, set_apart, tied_above, tied_back, tied_below, tied_first, tied_hall, tied_joined, tied_kept, tied_lost, tied_missing, tied_not, tied_refused, unmet_number}
 use Rattle.foreman_run.proofs.Honest.{answered_more, came_answered, step_may}
 
 -- why a foreman stops where a call of the link to its parent failed so
@@ -53,44 +57,42 @@ or_none false c e = e
 
 -- ---- links to workers, as more is to go down
 
-went_more : (sent more : List Down) (k : Rattle.flow_types.specs.declared.numbers.LinkNo.LinkNo) (m : Message) → Went sent k m → Went (sent ++ more) k m
+went_more : (sent more : List Down) (k : LinkNo) (m : Message) → Went sent k m → Went (sent ++ more) k m
 went_more sent more k m (inl is) = inl is
 went_more sent more k m (inr there) = inr (stands_left (over k m) sent more there)
 
-held_one_more : {L : Type 0} (tells : Type 0) (history : L → List Passed) (sent more : List Down) (l : LowerState L) → IsHeld tells history sent l → IsHeld tells history (sent ++ more) l
-held_one_more tells history sent more l is stays t =
+held_one_more : {L : Type 0} (tells : Type 0) (history : L → List Passed) (sent more : List Down) (heard : List Message) (l : LowerState L) → IsHeld tells history sent heard l → IsHeld tells history (sent ++ more) heard l
+held_one_more tells history sent more heard l is stays t =
     let p = is stays t in
     record {
       said = p.said;
       said_framed = p.said_framed;
       are_sent = p.are_sent;
       went = λ m there. went_more sent more l.link m (p.went m there);
-      heard = p.heard;
       came = p.came;
     }
 
-pub held_more : {L : Type 0} (tells : Type 0) (history : L → List Passed) (sent more : List Down) (lowers : List (LowerState L)) → AreHeld tells history sent lowers → AreHeld tells history (sent ++ more) lowers
-held_more tells history sent more lowers all = λ l there. held_one_more tells history sent more l (all l there)
+pub held_more : {L : Type 0} (tells : Type 0) (history : L → List Passed) (sent more told : List Down) (lowers : List (LowerState L)) → AreHeld tells history sent told lowers → AreHeld tells history (sent ++ more) told lowers
+held_more tells history sent more told lowers all = λ l there. held_one_more tells history sent more (from_link l.link.0 told) l (all l there)
 
 -- a link over which one message more was taken
-took_one : {L : Type 0} (history : L → List Passed) (sent : List Down) (old new : LowerState L) → new.link ≡ old.link → new.way ≡ old.way
-    → Advanced old.ear (Ok true) new.ear → Passes (history old.way) old.ear old.link sent → Passes (history new.way) new.ear new.link sent
-took_one history sent old new link way took p = record {
+took_one : {L : Type 0} (history : L → List Passed) (sent : List Down) (heard : List Message) (old new : LowerState L) → new.link ≡ old.link → new.way ≡ old.way
+    → Advanced old.ear (Ok true) new.ear → Passes (history old.way) old.ear old.link sent heard → Passes (history new.way) new.ear new.link sent (heard ++ shown new.ear.body ∷ [])
+took_one history sent heard old new link way took p = record {
   said = p.said;
   said_framed = p.said_framed;
   are_sent = ap (λ w. sent_in (history w)) way ∙ p.are_sent;
   went = λ m there. subst (λ k. Went sent k m) (sym link) (p.went m there);
-  heard = p.heard ++ shown new.ear.body ∷ [];
   came = record {
-    framed_all = framed_append p.heard (shown new.ear.body ∷ []) p.came.framed_all (took.0, tt);
-    are = ap (λ w. received_in (history w)) way ∙ p.came.are ∙ ap (λ r. frames_of p.heard ++ r) took.1 ∙ frames_more p.heard (shown new.ear.body) new.ear.rest;
+    framed_all = framed_append heard (shown new.ear.body ∷ []) p.came.framed_all (took.0, tt);
+    are = ap (λ w. received_in (history w)) way ∙ p.came.are ∙ ap (λ r. frames_of heard ++ r) took.1 ∙ frames_more heard (shown new.ear.body) new.ear.rest;
   };
 }
 
-module _ {L : Type 0} (gives : Function) (may_fail : Job → Failure → Type 0) (tells : Type 0) (trusted : Bool) (below_tells : Type 0) (history : L → List Passed) (honest : L → Type 0) (cap faults : ℕ) where
+module _ {L : Type 0} (gives : Function) (may_fail : Job → Failure → Type 0) (tells : Type 0) (trusted : Bool) (below_tells : Type 0) (history : L → List Passed) (honest : L → Type 0) (cap : ℕ) (book : Book L) where
   -- it has come to this
   abbrev pub At : Way → EarState → Foreman → List (LowerState L) → List Message → List Down → Bool → Type 0
-  At way ear core lowers owed due left = Works gives may_fail tells trusted below_tells history honest cap faults way ear core lowers owed due left
+  At way ear core lowers owed due left = Works gives may_fail tells trusted below_tells history honest cap book way ear core lowers owed due left
 
   -- what goes on, as it is found
   pub found_now : (way : Way) (ear : EarState) (core : Foreman) (lowers : List (LowerState L)) (owed : List Message) (due : List Down) (left : Bool) → (w : At way ear core lowers owed due left)
@@ -105,67 +107,74 @@ module _ {L : Type 0} (gives : Function) (may_fail : Job → Failure → Type 0)
 
   -- Memory was wanting.
   pub wants : (way : Way) (ear : EarState) (core : Foreman) (lowers : List (LowerState L)) (owed : List Message) (due : List Down) (left : Bool) → At way ear core lowers owed due left
-      → Stops gives may_fail tells trusted cap faults way (stops.Left halts.Memory)
-  wants way ear core lowers owed due left w = record { past = w.past; found = found_now way ear core lowers owed due left w; why = w.closed }
-
-  -- The hall failed.
-  pub hall_failed : (way : Way) (ear : EarState) (core : Foreman) (lowers : List (LowerState L)) → At way ear core lowers [] [] false → Stops gives may_fail tells trusted cap faults way stops.Hall
-  hall_failed way ear core lowers w = record { past = w.past; found = found_now way ear core lowers [] [] false w; why = (sym w.left_is, w.closed) }
+      → StopsAt gives may_fail tells trusted below_tells history cap book way lowers (stops.Left halts.Memory)
+  wants way ear core lowers owed due left w = record { stops = record { past = w.past; found = found_now way ear core lowers owed due left w; why = w.closed }; tied = w.tied }
 
   -- The hall failed, or memory was wanting there.
-  pub hosts_not : (T : Type 0) (way : Way) (ear : EarState) (core : Foreman) (lowers : List (LowerState L)) (stop : Stop) → (let r : Result T Stop = Err stop in LeavesHall r) → At way ear core lowers [] [] false
-      → Stops gives may_fail tells trusted cap faults way stop
-  hosts_not T way ear core lowers stops.Hall is w = hall_failed way ear core lowers w
-  hosts_not T way ear core lowers (stops.Left halts.Memory) is w = wants way ear core lowers [] [] false w
-  hosts_not T way ear core lowers (stops.Left halts.Bye) is w = absurd is
-  hosts_not T way ear core lowers (stops.Left halts.Closed) is w = absurd is
-  hosts_not T way ear core lowers (stops.Left halts.Link) is w = absurd is
-  hosts_not T way ear core lowers (stops.Left (halts.Bad at)) is w = absurd is
+  hall_why : (way : Way) (past : List Met) (stop : Stop) → (let r : Result Bool Stop = Err stop in LeavesHall r) → way.closed ≡ false → has_left past ≡ false → MayStop tells cap book.faults way past stop
+  hall_why way past stops.Hall is closed stays = (stays, closed)
+  hall_why way past (stops.Left halts.Memory) is closed stays = closed
+  hall_why way past (stops.Left halts.Bye) is closed stays = absurd is
+  hall_why way past (stops.Left halts.Closed) is closed stays = absurd is
+  hall_why way past (stops.Left halts.Link) is closed stays = absurd is
+  hall_why way past (stops.Left (halts.Bad at)) is closed stays = absurd is
 
   -- The work is over.
-  pub is_over : (way : Way) (ear : EarState) (core : Foreman) (lowers : List (LowerState L)) → At way ear core lowers [] [] true → Stops gives may_fail tells trusted cap faults way (stops.Left halts.Bye)
+  pub is_over : (way : Way) (ear : EarState) (core : Foreman) (lowers : List (LowerState L)) → At way ear core lowers [] [] true → StopsAt gives may_fail tells trusted below_tells history cap book way lowers (stops.Left halts.Bye)
   is_over way ear core lowers w = record {
-    past = w.past;
-    found = found_now way ear core lowers [] [] true w;
-    why = (sym w.left_is, w.closed, (λ t. w.sent t ∙ ap frames_of (sym (w.are_said ∙ append-nil w.said))));
+    stops = record {
+      past = w.past;
+      found = found_now way ear core lowers [] [] true w;
+      why = (sym w.left_is, w.closed, (λ t. w.sent t ∙ ap frames_of (sym (w.are_said ∙ append-nil w.said))));
+    };
+    tied = w.tied;
   }
 
   -- The grammar is left.
   pub is_broken : (way : Way) (ear : EarState) (core : Foreman) (lowers : List (LowerState L)) (at : ℕ) → at ≡ ear.fed - length ear.rest → IsBroken ear.rest → At way ear core lowers [] [] false
-      → Stops gives may_fail tells trusted cap faults way (stops.Left (halts.Bad at))
+      → StopsAt gives may_fail tells trusted below_tells history cap book way lowers (stops.Left (halts.Bad at))
   is_broken way ear core lowers at is broken w = record {
-    past = w.past;
-    found = found_now way ear core lowers [] [] false w;
-    why = (sym w.left_is, w.closed, omega (arith, is, w.fed_is), (λ t. (ear.rest, inl broken, record { framed_all = w.heard_framed; are = w.stream t })));
+    stops = record {
+      past = w.past;
+      found = found_now way ear core lowers [] [] false w;
+      why = (sym w.left_is, w.closed, omega (arith, is, w.fed_is), (λ t. (ear.rest, inl broken, record { framed_all = w.heard_framed; are = w.stream t })));
+    };
+    tied = w.tied;
   }
 
   -- A message comes that only goes up.
   pub is_amiss : (way : Way) (ear next : EarState) (core : Foreman) (lowers : List (LowerState L)) (at : ℕ) (m : Message) → at ≡ ear.fed - length ear.rest → Takes ear (Ok (Some m)) next → goes_up m ≡ true
-      → At way ear core lowers [] [] false → Stops gives may_fail tells trusted cap faults way (stops.Left (halts.Bad at))
+      → At way ear core lowers [] [] false → StopsAt gives may_fail tells trusted below_tells history cap book way lowers (stops.Left (halts.Bad at))
   is_amiss way ear next core lowers at m is took up w = record {
-    past = w.past;
-    found = found_now way ear core lowers [] [] false w;
-    why = (sym w.left_is, w.closed, omega (arith, is, w.fed_is), (λ t. (ear.rest, inr (m, next.rest, took.0, up, took.1), record { framed_all = w.heard_framed; are = w.stream t })));
+    stops = record {
+      past = w.past;
+      found = found_now way ear core lowers [] [] false w;
+      why = (sym w.left_is, w.closed, omega (arith, is, w.fed_is), (λ t. (ear.rest, inr (m, next.rest, took.0, up, took.1), record { framed_all = w.heard_framed; are = w.stream t })));
+    };
+    tied = w.tied;
   }
 
   -- ---- waiting for the parent
 
   -- The parent has closed the link.
   pub is_closed : (old new : Way) (ear next : EarState) (core : Foreman) (lowers : List (LowerState L)) → Takes ear (Ok None) next → (tells → new.history ≡ old.history) → new.closed ≡ true
-      → At old ear core lowers [] [] false → Stops gives may_fail tells trusted cap faults new (stops.Left halts.Closed)
+      → At old ear core lowers [] [] false → StopsAt gives may_fail tells trusted below_tells history cap book new lowers (stops.Left halts.Closed)
   is_closed old new ear next core lowers took same closed w = record {
-    past = w.past;
-    found = record {
-      in_order = w.in_order;
-      told_framed = w.told_framed;
-      came = λ t. (ear.rest, record { framed_all = w.heard_framed; are = ap received_in (same t) ∙ w.stream t });
-      sent = λ t. ([], append-nil (sent_in new.history) ∙ ap sent_in (same t) ∙ w.sent t ∙ ap frames_of (sym (w.are_said ∙ append-nil w.said)));
-      right = λ t trust. subst (IsHonestThroughout gives may_fail received_in sent_in) (sym (same t)) (w.right t trust).honest;
+    stops = record {
+      past = w.past;
+      found = record {
+        in_order = w.in_order;
+        told_framed = w.told_framed;
+        came = λ t. (ear.rest, record { framed_all = w.heard_framed; are = ap received_in (same t) ∙ w.stream t });
+        sent = λ t. ([], append-nil (sent_in new.history) ∙ ap sent_in (same t) ∙ w.sent t ∙ ap frames_of (sym (w.are_said ∙ append-nil w.said)));
+        right = λ t trust. subst (IsHonestThroughout gives may_fail received_in sent_in) (sym (same t)) (w.right t trust).honest;
+      };
+      why = (sym w.left_is, closed, (λ t. (ear.rest, took.0, record { framed_all = w.heard_framed; are = ap received_in (same t) ∙ w.stream t })));
     };
-    why = (sym w.left_is, closed, (λ t. (ear.rest, took.0, record { framed_all = w.heard_framed; are = ap received_in (same t) ∙ w.stream t })));
+    tied = w.tied;
   }
 
-  fails_why : (way : Way) (past : List Met) (stop : Stop) → FailsBy faults way stop → way.closed ≡ false → has_left past ≡ false → MayStop tells cap faults way past stop
+  fails_why : (way : Way) (past : List Met) (stop : Stop) → FailsBy book.faults way stop → way.closed ≡ false → has_left past ≡ false → MayStop tells cap book.faults way past stop
   fails_why way past (stops.Left halts.Link) lt closed stays = (stays, closed, lt)
   fails_why way past (stops.Left halts.Memory) lt closed stays = closed
   fails_why way past (stops.Left halts.Bye) lt closed stays = absurd lt
@@ -175,17 +184,20 @@ module _ {L : Type 0} (gives : Function) (may_fail : Job → Failure → Type 0)
 
   -- Waiting for bytes failed, or those that came couldn't be kept.
   pub hears_not : (old new : Way) (ear : EarState) (core : Foreman) (lowers : List (LowerState L)) (got : Result Got Fault) (stop : Stop) → (tells → Receives got old.history new.history)
-      → new.closed ≡ false → FailsBy faults new stop → At old ear core lowers [] [] false → Stops gives may_fail tells trusted cap faults new stop
+      → new.closed ≡ false → FailsBy book.faults new stop → At old ear core lowers [] [] false → StopsAt gives may_fail tells trusted below_tells history cap book new lowers stop
   hears_not old new ear core lowers got stop received closed fails w = record {
-    past = w.past;
-    found = record {
-      in_order = w.in_order;
-      told_framed = w.told_framed;
-      came = λ t. came_more got (received t) (w.stream t);
-      sent = λ t. ([], append-nil (sent_in new.history) ∙ sent_same got (received t) ∙ w.sent t ∙ ap frames_of (sym (w.are_said ∙ append-nil w.said)));
-      right = λ t trust. (heard_as gives may_fail old.history new.history w.said got (received t) (w.right t trust)).honest;
+    stops = record {
+      past = w.past;
+      found = record {
+        in_order = w.in_order;
+        told_framed = w.told_framed;
+        came = λ t. came_more got (received t) (w.stream t);
+        sent = λ t. ([], append-nil (sent_in new.history) ∙ sent_same got (received t) ∙ w.sent t ∙ ap frames_of (sym (w.are_said ∙ append-nil w.said)));
+        right = λ t trust. (heard_as gives may_fail old.history new.history w.said got (received t) (w.right t trust)).honest;
+      };
+      why = fails_why new w.past stop fails closed (sym w.left_is);
     };
-    why = fails_why new w.past stop fails closed (sym w.left_is);
+    tied = w.tied;
   }
     where
       came_more : (got : Result Got Fault) → Receives got old.history new.history → received_in old.history ≡ frames_of (heard_of w.past) ++ ear.rest → BeginsWith (received_in new.history) (heard_of w.past)
@@ -224,6 +236,7 @@ module _ {L : Type 0} (gives : Function) (may_fail : Job → Failure → Type 0)
     goes_down = w.goes_down;
     answered = w.answered;
     held = w.held;
+    tied = w.tied;
     all_honest = w.all_honest;
     closed = closed;
     later = omega (arith, w.later, later);
@@ -250,6 +263,7 @@ module _ {L : Type 0} (gives : Function) (may_fail : Job → Failure → Type 0)
     goes_down = w.goes_down;
     answered = w.answered;
     held = w.held;
+    tied = w.tied;
     all_honest = w.all_honest;
     closed = closed;
     later = omega (arith, w.later, later);
@@ -262,9 +276,10 @@ module _ {L : Type 0} (gives : Function) (may_fail : Job → Failure → Type 0)
       → AreFramed (heard_of (met ∷ w.past)) → Every (λ told. IsFramed told.message) (told_of (met ∷ w.past)) → next.fed ≡ length (frames_of (heard_of (met ∷ w.past))) + length next.rest
       → (tells → received_in way.history ≡ frames_of (heard_of (met ∷ w.past)) ++ next.rest)
       → (trusted ≡ true → Every (AnswersBelow gives may_fail (sent_of cap (met ∷ w.past))) (told_of (met ∷ w.past)))
-      → AreHeld below_tells history (sent_of cap (met ∷ w.past)) now → (trusted ≡ true → AreHonest honest now)
-      → At way next (led_by core met).foreman now (led_by core met).acts.up (led_by core met).acts.down (has_left (met ∷ w.past))
-  stepped way ear next core lowers now met w fine going heard told fed stream answered held all_honest = record {
+      → AreHeld below_tells history (sent_of cap (met ∷ w.past)) (told_of (met ∷ w.past)) now → (trusted ≡ true → AreHonest honest now)
+      → (then : Book L) → then.faults ≡ book.faults → AreTied below_tells history (met ∷ w.past) now then
+      → Works gives may_fail tells trusted below_tells history honest cap then way next (led_by core met).foreman now (led_by core met).acts.up (led_by core met).acts.down (has_left (met ∷ w.past))
+  stepped way ear next core lowers now met w fine going heard told fed stream answered held all_honest then same tied = record {
     past = met ∷ w.past;
     core_is = ap (λ c. (led_by c met).foreman) w.core_is;
     in_order = (w.in_order, sym w.left_is, fine);
@@ -284,9 +299,10 @@ module _ {L : Type 0} (gives : Function) (may_fail : Job → Failure → Type 0)
         (λ d there. stands_right d (sent_of cap w.past) (led_by (foreman_of cap w.past) met).acts.down there);
     answered = answered;
     held = held;
+    tied = tied;
     all_honest = all_honest;
     closed = w.closed;
-    later = w.later;
+    later = omega (arith, w.later, same);
   }
 
   -- what answered stays so at a step
@@ -304,17 +320,8 @@ module _ {L : Type 0} (gives : Function) (may_fail : Job → Failure → Type 0)
       (omega (arith, took.3, w.fed_is, ap length took.1, length-append (framed m) next.rest, frames_len (heard_of past) m))
       (λ t. w.stream t ∙ ap (λ (r : List ℕ). frames_of (heard_of past) ++ r) took.1 ∙ frames_more (heard_of past) m next.rest)
       (λ trust. stays_answered past (above m) (told_of past) (w.answered trust))
-      (held_more below_tells history (sent_of cap past) (led_by (foreman_of cap past) (above m)).acts.down lowers w.held) w.all_honest)
-
-  -- A link was lost.
-  pub lost_link : (way : Way) (ear : EarState) (core : Foreman) (lowers : List (LowerState L)) (k : Rattle.flow_types.specs.declared.numbers.LinkNo.LinkNo) → At way ear core lowers [] [] false
-      → At way ear (loses core k).foreman lowers (loses core k).acts.up (loses core k).acts.down false
-  lost_link way ear core lowers k w =
-      let past = w.past in
-      subst (At way ear (loses core k).foreman lowers (loses core k).acts.up (loses core k).acts.down) (sym w.left_is)
-      (stepped way ear ear core lowers lowers (lost k) w refl w.going w.heard_framed w.told_framed w.fed_is w.stream
-      (λ trust. stays_answered past (lost k) (told_of past) (w.answered trust))
-      (held_more below_tells history (sent_of cap past) (led_by (foreman_of cap past) (lost k)).acts.down lowers w.held) w.all_honest)
+      (held_more below_tells history (sent_of cap past) (led_by (foreman_of cap past) (above m)).acts.down (told_of past) lowers w.held) w.all_honest
+      book refl (tied_above below_tells history past m lowers book w.tied))
 
   -- A message came from below, over the link at this place.
   pub heard_down : (way : Way) (ear : EarState) (core : Foreman) (lowers : List (LowerState L)) (at : ℕ) (old new : LowerState L) → ((link : L) → honest link → below_tells × WasHonest gives may_fail (history link))
@@ -329,8 +336,9 @@ module _ {L : Type 0} (gives : Function) (may_fail : Job → Failure → Type 0)
       (stays_answered past met (told_of past) (w.answered trust))
       (every_one (AnswersBelow gives may_fail (sent_of cap (met ∷ past))) (over old.link m)
       (answered_more gives may_fail (sent_of cap past) more (over old.link m) (answers trust))))
-      (every_set (IsHeld below_tells history (sent_of cap (met ∷ past))) lowers at new held_new (held_more below_tells history (sent_of cap past) more lowers w.held))
-      (λ trust. every_set (λ l. honest l.way) lowers at new (subst honest (sym same) (w.all_honest trust old there)) (w.all_honest trust)))
+      held_now
+      (λ trust. every_set (λ l. honest l.way) lowers at new (subst honest (sym same) (w.all_honest trust old there)) (w.all_honest trust))
+      book refl (tied_below below_tells history past m lowers at old new book is link begins w.tied))
     where
       m : Message
       m = shown new.ear.body
@@ -347,19 +355,43 @@ module _ {L : Type 0} (gives : Function) (may_fail : Job → Failure → Type 0)
       there : Stands old lowers
       there = get_stands lowers at old is
 
-      passes : below_tells → Passes (history old.way) old.ear old.link (sent_of cap past)
+      heard : List Message
+      heard = from_link old.link.0 (told_of past)
+
+      passes : below_tells → Passes (history old.way) old.ear old.link (sent_of cap past) heard
       passes t = w.held old there stays t
 
       carried : (t : below_tells) → Carries (received_in (history old.way)) m
-      carried t = carries_next (received_in (history old.way)) (passes t).heard m new.ear.rest (passes t).came.framed_all took.0 ((passes t).came.are ∙ ap (λ (r : List ℕ). frames_of (passes t).heard ++ r) took.1)
+      carried t = carries_next (received_in (history old.way)) heard m new.ear.rest (passes t).came.framed_all took.0 ((passes t).came.are ∙ ap (λ (r : List ℕ). frames_of heard ++ r) took.1)
 
       answers : trusted ≡ true → AnswersBelow gives may_fail (sent_of cap past) (over old.link m)
       answers trust =
           let told = law old.way (w.all_honest trust old there) in
-          came_answered gives may_fail (history old.way) old.ear old.link (sent_of cap past) m (passes told.0) (honest_now gives may_fail (history old.way) told.1) (carried told.0)
+          came_answered gives may_fail (history old.way) old.ear old.link (sent_of cap past) heard m (passes told.0) (honest_now gives may_fail (history old.way) told.1) (carried told.0)
 
-      held_new : IsHeld below_tells history (sent_of cap (met ∷ past)) new
-      held_new = held_one_more below_tells history (sent_of cap past) more new (λ on t. took_one history (sent_of cap past) old new link same took (passes t))
+      took_now : (t : below_tells) → Passes (history new.way) new.ear new.link (sent_of cap past) (heard ++ m ∷ [])
+      took_now t = took_one history (sent_of cap past) heard old new link same took (passes t)
+
+      begins : below_tells → BeginsWith (received_in (history new.way)) (heard ++ m ∷ [])
+      begins t = (new.ear.rest, (took_now t).came)
+
+      now_from : from_link new.link.0 (told_of past ++ over old.link m ∷ []) ≡ heard ++ m ∷ []
+      now_from = from_next new.link.0 (told_of past) old.link m (ap (λ (n : LinkNo). n.0) (sym link)) ∙ ap (λ (n : LinkNo). from_link n.0 (told_of past) ++ m ∷ []) link
+
+      held_new : IsHeld below_tells history (sent_of cap (met ∷ past)) (from_link new.link.0 (told_of past ++ over old.link m ∷ [])) new
+      held_new = held_one_more below_tells history (sent_of cap past) more (from_link new.link.0 (told_of past ++ over old.link m ∷ [])) new
+          (λ on t. subst (Passes (history new.way) new.ear new.link (sent_of cap past)) (sym now_from) (took_now t))
+
+      -- the others are held as they were
+      other_held : (l : LowerState L) → (old.link.0 ≡ l.link.0 → ⊥) → IsHeld below_tells history (sent_of cap past) (from_link l.link.0 (told_of past)) l
+          → IsHeld below_tells history (sent_of cap (met ∷ past)) (from_link l.link.0 (told_of past ++ over old.link m ∷ [])) l
+      other_held l other is = held_one_more below_tells history (sent_of cap past) more (from_link l.link.0 (told_of past ++ over old.link m ∷ [])) l
+          (λ on t. subst (Passes (history l.way) l.ear l.link (sent_of cap past)) (sym (from_same l.link.0 (told_of past) old.link m other)) (is on t))
+
+      held_now : AreHeld below_tells history (sent_of cap (met ∷ past)) (told_of (met ∷ past)) (slice_set lowers at new)
+      held_now = set_apart old.link.0 (λ l. IsHeld below_tells history (sent_of cap past) (from_link l.link.0 (told_of past)) l)
+          (λ l. IsHeld below_tells history (sent_of cap (met ∷ past)) (from_link l.link.0 (told_of past ++ over old.link m ∷ [])) l)
+          lowers at old new is refl (omega (arith, w.tied.apart old.link.0)) other_held held_new w.held
 
   -- ---- what is owed is said
 
@@ -390,35 +422,40 @@ module _ {L : Type 0} (gives : Function) (may_fail : Job → Failure → Type 0)
     goes_down = w.goes_down;
     answered = w.answered;
     held = w.held;
+    tied = w.tied;
     all_honest = w.all_honest;
     closed = said.2 ∙ w.closed;
     later = omega (arith, w.later, said.3);
   }
 
   pub said_not : (old new : Way) (ear : EarState) (core : Foreman) (lowers : List (LowerState L)) (owed : List Message) (due : List Down) (fault : Fault) (stop : Stop)
-      → Said (let r : Result (Unit {0}) Fault = Err fault in r) owed old new → FailsBy faults new stop
-      → At old ear core lowers owed due false → Stops gives may_fail tells trusted cap faults new stop
+      → Said (let r : Result (Unit {0}) Fault = Err fault in r) owed old new → FailsBy book.faults new stop
+      → At old ear core lowers owed due false → StopsAt gives may_fail tells trusted below_tells history cap book new lowers stop
   said_not old new ear core lowers owed due fault stop said fails w = record {
-    past = w.past;
-    found = record {
-      in_order = w.in_order;
-      told_framed = w.told_framed;
-      came = λ t. (ear.rest, record { framed_all = w.heard_framed; are = (said.0 t).0 ∙ w.stream t });
-      sent = λ t. (
-        (said.0 t).1.0,
-        (said.0 t).1.1 ∙ ap (λ (b : List ℕ). b ++ frames_of owed) (w.sent t) ∙ sym (frames_append w.said owed) ∙ ap frames_of (sym w.are_said),
-      );
-      right = λ t trust. said.1 w.said t (w.right t trust) (w.may t trust);
+    stops = record {
+      past = w.past;
+      found = record {
+        in_order = w.in_order;
+        told_framed = w.told_framed;
+        came = λ t. (ear.rest, record { framed_all = w.heard_framed; are = (said.0 t).0 ∙ w.stream t });
+        sent = λ t. (
+          (said.0 t).1.0,
+          (said.0 t).1.1 ∙ ap (λ (b : List ℕ). b ++ frames_of owed) (w.sent t) ∙ sym (frames_append w.said owed) ∙ ap frames_of (sym w.are_said),
+        );
+        right = λ t trust. said.1 w.said t (w.right t trust) (w.may t trust);
+      };
+      why = fails_why new w.past stop fails (said.2 ∙ w.closed) (sym w.left_is);
     };
-    why = fails_why new w.past stop fails (said.2 ∙ w.closed) (sym w.left_is);
+    tied = w.tied;
   }
 
   -- ---- the links to the workers
 
   -- the same over other links
   with_lowers : (way : Way) (ear : EarState) (core : Foreman) (lowers now : List (LowerState L)) (due then : List Down) → (w : At way ear core lowers [] due false) → Every (λ d. Stands d (sent_of cap w.past)) then
-      → AreHeld below_tells history (sent_of cap w.past) now → (trusted ≡ true → AreHonest honest now) → At way ear core now [] then false
-  with_lowers way ear core lowers now due then w goes held all_honest = record {
+      → AreHeld below_tells history (sent_of cap w.past) (told_of w.past) now → (trusted ≡ true → AreHonest honest now) → (next : Book L) → next.faults ≡ book.faults → AreTied below_tells history w.past now next
+      → Works gives may_fail tells trusted below_tells history honest cap next way ear core now [] then false
+  with_lowers way ear core lowers now due then w goes held all_honest next same tied = record {
     past = w.past;
     core_is = w.core_is;
     in_order = w.in_order;
@@ -436,37 +473,73 @@ module _ {L : Type 0} (gives : Function) (may_fail : Job → Failure → Type 0)
     goes_down = goes;
     answered = w.answered;
     held = held;
+    tied = tied;
     all_honest = all_honest;
     closed = w.closed;
-    later = w.later;
+    later = omega (arith, w.later, same);
   }
 
   -- What was due went down.
   pub went_down : (way : Way) (ear : EarState) (core : Foreman) (lowers now : List (LowerState L)) (due : List Down) → KeepsWith below_tells history honest due lowers now
       → At way ear core lowers [] due false → At way ear core now [] [] false
   went_down way ear core lowers now due keeps w =
-      with_lowers way ear core lowers now due [] w (every_nil (λ d. Stands d (sent_of cap w.past))) (keeps.held (sent_of cap w.past) w.goes_down w.held) (λ trust. keeps.honestly (w.all_honest trust))
+      with_lowers way ear core lowers now due [] w (every_nil (λ d. Stands d (sent_of cap w.past))) (keeps.held (sent_of cap w.past) (told_of w.past) w.goes_down w.held) (λ trust. keeps.honestly (w.all_honest trust))
+      book refl (tied_kept below_tells history w.past lowers now book keeps.many keeps.under (keeps.begun (told_of w.past)) w.tied)
 
   pub still_kept : (way : Way) (ear : EarState) (core : Foreman) (lowers now : List (LowerState L)) → Keeps below_tells history honest lowers now → At way ear core lowers [] [] false → At way ear core now [] [] false
-  still_kept way ear core lowers now keeps w = with_lowers way ear core lowers now [] [] w w.goes_down (keeps.held (sent_of cap w.past) w.held) (λ trust. keeps.honestly (w.all_honest trust))
+  still_kept way ear core lowers now keeps w =
+      with_lowers way ear core lowers now [] [] w w.goes_down (keeps.held (sent_of cap w.past) (told_of w.past) w.held) (λ trust. keeps.honestly (w.all_honest trust))
+      book refl (tied_kept below_tells history w.past lowers now book keeps.many keeps.under (keeps.begun (told_of w.past)) w.tied)
 
-  pub parted : (way : Way) (ear : EarState) (core : Foreman) (lowers now : List (LowerState L)) → Parts below_tells history honest lowers now → At way ear core lowers [] [] false → At way ear core now [] [] false
-  parted way ear core lowers now parts w = with_lowers way ear core lowers now [] [] w w.goes_down (parts.held (sent_of cap w.past) w.held) (λ trust. parts.honestly (w.all_honest trust))
+  -- A link was taken out and handed back; its loss is to be met.
+  pub handed : (way : Way) (ear : EarState) (core : Foreman) (lowers now : List (LowerState L)) (out : LowerState L) (got : List (Option LinkNo × L)) → Parts out lowers now → got ≡ book.got ++ ((Some out.link, out.way) ∷ [])
+      → At way ear core lowers [] [] false → Works gives may_fail tells trusted below_tells history honest cap (with_due (with_got book got) (Some out.link)) way ear core now [] [] false
+  handed way ear core lowers now out got parts are w =
+      with_lowers way ear core lowers now [] [] w w.goes_down (every_parts (λ l. IsHeld below_tells history (sent_of cap w.past) (from_link l.link.0 (told_of w.past)) l) out lowers now parts w.held)
+      (λ trust. every_parts (λ l. honest l.way) out lowers now parts (w.all_honest trust))
+      (with_due (with_got book got) (Some out.link)) refl
+      (tied_back below_tells history w.past lowers now out out.way book got parts (λ t. ([], sym (append-nil (received_in (history out.way))))) are w.tied)
 
-  pub gained : {T : Type 0} (E : Type 0) (way : Way) (ear : EarState) (core : Foreman) (lowers now : List (LowerState L)) (is : Type 0) (x : T) → (let r : Result T E = Ok x in Gains below_tells history honest is lowers now r)
-      → (trusted ≡ true → is) → At way ear core lowers [] [] false → At way ear core now [] [] false
-  gained E way ear core lowers now is x gains trusts w =
-      with_lowers way ear core lowers now [] [] w w.goes_down (gains.0 (sent_of cap w.past) w.held) (λ trust. gains.1 (trusts trust) (w.all_honest trust))
+  -- A link was taken out, and there was no memory to hand it back.
+  pub handed_not : (way : Way) (ear : EarState) (core : Foreman) (lowers now : List (LowerState L)) (out : LowerState L) (got : List (Option LinkNo × L)) → Parts out lowers now → got ≡ book.got
+      → At way ear core lowers [] [] false → StopsAt gives may_fail tells trusted below_tells history cap (with_got book got) way now (stops.Left halts.Memory)
+  handed_not way ear core lowers now out got parts are w = record {
+    stops = record { past = w.past; found = found_now way ear core lowers [] [] false w; why = w.closed };
+    tied = tied_missing below_tells history w.past lowers now out book got parts are w.tied;
+  }
+
+  -- One has come, or none.
+  pub gained : (E : Type 0) (way : Way) (ear : EarState) (core : Foreman) (lowers now : List (LowerState L)) (is : Type 0) (came : Bool) (got : List (Option LinkNo × L)) (upto : ℕ)
+      → (let r : Result Bool E = Ok came in Gains history honest is book.upto upto book.got got lowers now r)
+      → (trusted ≡ true → is) → At way ear core lowers [] [] false → Works gives may_fail tells trusted below_tells history honest cap (with_hall book got upto) way ear core now [] [] false
+  gained E way ear core lowers now is true got upto gains trusts w =
+      with_lowers way ear core lowers now [] [] w w.goes_down
+      (held_joined below_tells history honest is book.upto (sent_of cap w.past) (told_of w.past) lowers now gains.2 (from_none gains.2.link.0 w.past (unmet_number below_tells history w.past lowers book w.tied gains.2.link.0 gains.2.next)) w.held)
+      (λ trust. honest_joined below_tells history honest is book.upto lowers now gains.2 (trusts trust) (w.all_honest trust))
+      (with_hall book got upto) refl
+      (tied_joined below_tells history honest is w.past lowers now book got upto gains.2 gains.0 gains.1 w.tied)
+  gained E way ear core lowers now is false got upto gains trusts w =
+      with_lowers way ear core lowers now [] [] w w.goes_down
+      (subst (AreHeld below_tells history (sent_of cap w.past) (told_of w.past)) (sym gains.2) w.held)
+      (λ trust. subst (AreHonest honest) (sym gains.2) (w.all_honest trust))
+      (with_hall book got upto) refl
+      (subst (λ (ls : List (LowerState L)). AreTied below_tells history w.past ls (with_hall book got upto)) (sym gains.2) (tied_hall below_tells history w.past lowers book got upto gains.0 gains.1 w.tied))
+
+  -- None has come, since the hall failed or memory was wanting.
+  pub gained_not : (way : Way) (ear : EarState) (core : Foreman) (lowers now : List (LowerState L)) (is : Type 0) (stop : Stop) (got : List (Option LinkNo × L)) (upto : ℕ)
+      → (let r : Result Bool Stop = Err stop in Gains history honest is book.upto upto book.got got lowers now r) → (let r : Result Bool Stop = Err stop in LeavesHall r)
+      → At way ear core lowers [] [] false → StopsAt gives may_fail tells trusted below_tells history cap (with_hall book got upto) way now stop
+  gained_not way ear core lowers now is stop got upto gains leaves w = record {
+    stops = record { past = w.past; found = found_now way ear core lowers [] [] false w; why = hall_why way w.past stop leaves w.closed (sym w.left_is) };
+    tied = subst (λ (ls : List (LowerState L)). AreTied below_tells history w.past ls (with_hall book got upto)) (sym gains.1) (tied_refused below_tells history w.past lowers book got upto gains.0 w.tied);
+  }
 
   -- The link at a place changed, and what holds of it stays so.
-  pub changed_at : (way : Way) (ear : EarState) (core : Foreman) (lowers : List (LowerState L)) (at : ℕ) (old new : LowerState L) → slice_get lowers at ≡ Some old
-      → ((sent : List Down) → IsHeld below_tells history sent old → IsHeld below_tells history sent new) → (honest old.way → honest new.way)
+  pub changed_at : (way : Way) (ear : EarState) (core : Foreman) (lowers : List (LowerState L)) (at : ℕ) (old new : LowerState L) → slice_get lowers at ≡ Some old → new.link ≡ old.link
+      → ((sent : List Down) (heard : List Message) → IsHeld below_tells history sent heard old → IsHeld below_tells history sent heard new) → (below_tells → HearsOn (history old.way) (history new.way)) → (honest old.way → honest new.way)
       → At way ear core lowers [] [] false → At way ear core (slice_set lowers at new) [] [] false
-  changed_at way ear core lowers at old new is held keeps w =
-      let there = get_stands lowers at old is in
-      with_lowers way ear core lowers (slice_set lowers at new) [] [] w w.goes_down
-      (every_set (IsHeld below_tells history (sent_of cap w.past)) lowers at new (held (sent_of cap w.past) (w.held old there)) w.held)
-      (λ trust. every_set (λ l. honest l.way) lowers at new (keeps (w.all_honest trust old there)) (w.all_honest trust))
+  changed_at way ear core lowers at old new is link held comes keeps w =
+      still_kept way ear core lowers (slice_set lowers at new) (kept_at below_tells history honest lowers at old new is link held comes keeps) w
 
   -- ---- its hello
 
@@ -474,9 +547,9 @@ module _ {L : Type 0} (gives : Function) (may_fail : Job → Failure → Type 0)
   hello_may down = ((λ attempt outcome wrong ran. absurd (let h : ⊥ = cc in h)), tt)
 
   -- A foreman begins over a link over which nothing has passed: its hello is owed.
-  pub begins : (way : Way) (ear : EarState) (core : Foreman) → core ≡ new_foreman cap → way.history ≡ [] → way.closed ≡ false → faults ≤ way.faults → ear ≡ record { rest = []; body = []; stop = None; fed = 0 }
-      → At way ear core [] (hello ∷ []) [] false
-  begins way ear core same none_passed stays count is =
+  pub begins : (way : Way) (ear : EarState) (core : Foreman) → core ≡ new_foreman cap → way.history ≡ [] → way.closed ≡ false → book.faults ≤ way.faults → ear ≡ record { rest = []; body = []; stop = None; fed = 0 }
+      → book.got ≡ book.first → book.upto ≡ 0 → book.due ≡ None → At way ear core [] (hello ∷ []) [] false
+  begins way ear core same none_passed stays count is got upto due =
       let rest : ear.rest ≡ [] = ap (λ (e : EarState). e.rest) is in
       let fed : ear.fed ≡ 0 = ap (λ (e : EarState). e.fed) is in
       record {
@@ -496,37 +569,77 @@ module _ {L : Type 0} (gives : Function) (may_fail : Job → Failure → Type 0)
         may = λ t trust. hello_may (received_in way.history);
         goes_down = every_nil (λ (d : Down). Stands d (sent_of cap []));
         answered = λ trust. every_nil (AnswersBelow gives may_fail []);
-        held = every_nil (IsHeld below_tells history []);
+        held = every_nil (λ (l : LowerState L). IsHeld below_tells history [] (from_link l.link.0 []) l);
+        tied = tied_first below_tells history book got upto due;
         all_honest = λ trust. every_nil (λ l. honest l.way);
         closed = stays;
         later = count;
       }
 
+-- ---- lost links
+
+module _ {L : Type 0} (gives : Function) (may_fail : Job → Failure → Type 0) (tells : Type 0) (trusted : Bool) (below_tells : Type 0) (history : L → List Passed) (honest : L → Type 0) (cap : ℕ) (book : Book L) (k : LinkNo) where
+  -- The link was lost that was handed back.
+  pub lost_link : (way : Way) (ear : EarState) (core : Foreman) (lowers : List (LowerState L)) → Works gives may_fail tells trusted below_tells history honest cap (with_due book (Some k)) way ear core lowers [] [] false
+      → Works gives may_fail tells trusted below_tells history honest cap (with_due book None) way ear (loses core k).foreman lowers (loses core k).acts.up (loses core k).acts.down false
+  lost_link way ear core lowers w =
+      let past = w.past in
+      let before : Book L = with_due book (Some k) in
+      let after : Book L = with_due book None in
+      subst (Works gives may_fail tells trusted below_tells history honest cap after way ear (loses core k).foreman lowers (loses core k).acts.up (loses core k).acts.down) (sym w.left_is)
+      (stepped gives may_fail tells trusted below_tells history honest cap before way ear ear core lowers lowers (lost k) w refl w.going w.heard_framed w.told_framed w.fed_is w.stream
+      (λ trust. stays_answered gives may_fail tells trusted below_tells history honest cap before past (lost k) (told_of past) (w.answered trust))
+      (held_more below_tells history (sent_of cap past) (led_by (foreman_of cap past) (lost k)).acts.down (told_of past) lowers w.held) w.all_honest
+      after refl (tied_lost below_tells history past k lowers book w.tied))
+
+  -- Memory was wanting for it.
+  pub lost_not : (way : Way) (ear : EarState) (core : Foreman) (lowers : List (LowerState L)) → Works gives may_fail tells trusted below_tells history honest cap (with_due book (Some k)) way ear core lowers [] [] false
+      → StopsAt gives may_fail tells trusted below_tells history cap (with_due book None) way lowers (stops.Left halts.Memory)
+  lost_not way ear core lowers w = record {
+    stops = record { past = w.past; found = found_now gives may_fail tells trusted below_tells history honest cap (with_due book (Some k)) way ear core lowers [] [] false w; why = w.closed };
+    tied = tied_not below_tells history w.past k lowers book w.tied;
+  }
+
 -- ---- a foreman that stops before it began
 
-module _ (gives : Function) (may_fail : Job → Failure → Type 0) (tells : Type 0) (trusted : Bool) (cap faults : ℕ) where
+module _ {L : Type 0} (gives : Function) (may_fail : Job → Failure → Type 0) (tells : Type 0) (trusted : Bool) (below_tells : Type 0) (history : L → List Passed) (cap : ℕ) where
   -- Nothing was said, and this is why it stops.
-  stops_early : (way : Way) (stop : Stop) → way.history ≡ [] → MayStop tells cap faults way [] stop → Stops gives may_fail tells trusted cap faults way stop
-  stops_early way stop none_passed why = record {
-    past = [];
-    found = record {
-      in_order = tt;
-      told_framed = every_nil (λ told. IsFramed told.message);
-      came = λ t. (received_in way.history, record { framed_all = tt; are = refl });
-      sent = λ t. (frames_of (hello ∷ []), ap (λ (h : List Passed). sent_in h ++ frames_of (hello ∷ [])) none_passed);
-      right = λ t trust. subst (IsHonestThroughout gives may_fail received_in sent_in) (sym none_passed) (new_link_right gives may_fail).honest;
+  stops_early : (way : Way) (stop : Stop) (book : Book L) → way.history ≡ [] → MayStop tells cap book.faults way [] stop → book.got ≡ book.first → book.upto ≡ 0 → book.due ≡ None
+      → StopsAt gives may_fail tells trusted below_tells history cap book way [] stop
+  stops_early way stop book none_passed why got upto due = record {
+    stops = record {
+      past = [];
+      found = record {
+        in_order = tt;
+        told_framed = every_nil (λ told. IsFramed told.message);
+        came = λ t. (received_in way.history, record { framed_all = tt; are = refl });
+        sent = λ t. (frames_of (hello ∷ []), ap (λ (h : List Passed). sent_in h ++ frames_of (hello ∷ [])) none_passed);
+        right = λ t trust. subst (IsHonestThroughout gives may_fail received_in sent_in) (sym none_passed) (new_link_right gives may_fail).honest;
+      };
+      why = why;
     };
-    why = why;
+    tied = tied_first below_tells history book got upto due;
+  }
+
+  over_early : (way : Way) (stop : Stop) (first got : List (Option LinkNo × L)) (given given_now : ℕ) → way.history ≡ [] → MayStop tells cap 0 way [] stop → got ≡ first → given_now ≡ given
+      → StopsOver gives may_fail tells trusted below_tells history cap (new_book first) got given given_now way [] stop
+  over_early way stop first got given given_now none_passed why same count = record {
+    upto = 0;
+    counted = omega (arith, count);
+    stops_at = stops_early way stop (with_hall (new_book first) got 0) none_passed why same refl refl;
   }
 
   -- Memory was wanting before it said its hello.
-  pub wants_early : (way : Way) → way.history ≡ [] → way.closed ≡ false → Stops gives may_fail tells trusted cap faults way (stops.Left halts.Memory)
-  wants_early way none_passed open_still = stops_early way (stops.Left halts.Memory) none_passed open_still
+  pub wants_early : (way : Way) (first got : List (Option LinkNo × L)) (given given_now : ℕ) → way.history ≡ [] → way.closed ≡ false → got ≡ first → given_now ≡ given
+      → StopsOver gives may_fail tells trusted below_tells history cap (new_book first) got given given_now way [] (stops.Left halts.Memory)
+  wants_early way first got given given_now none_passed open_still same count = over_early way (stops.Left halts.Memory) first got given given_now none_passed open_still same count
 
   -- The hall failed before it said its hello.
-  pub hall_early : (way : Way) → way.history ≡ [] → way.closed ≡ false → Stops gives may_fail tells trusted cap faults way stops.Hall
-  hall_early way none_passed open_still = stops_early way stops.Hall none_passed (refl, open_still)
+  pub hall_early : (way : Way) (first got : List (Option LinkNo × L)) (given given_now : ℕ) → way.history ≡ [] → way.closed ≡ false → got ≡ first → given_now ≡ given
+      → StopsOver gives may_fail tells trusted below_tells history cap (new_book first) got given given_now way [] stops.Hall
+  hall_early way first got given given_now none_passed open_still same count = over_early way stops.Hall first got given given_now none_passed (refl, open_still) same count
 
   -- Memory was wanting once the work was over.
-  pub wants_late : (way : Way) → Stops gives may_fail tells trusted cap faults way (stops.Left halts.Bye) → Stops gives may_fail tells trusted cap faults way (stops.Left halts.Memory)
-  wants_late way s = record { past = s.past; found = s.found; why = s.why.1 }
+  pub wants_late : (way : Way) (book : Book L) (lowers : List (LowerState L)) → StopsAt gives may_fail tells trusted below_tells history cap book way lowers (stops.Left halts.Bye)
+      → StopsAt gives may_fail tells trusted below_tells history cap book way lowers (stops.Left halts.Memory)
+  wants_late way book lowers s = record { stops = record { past = s.stops.past; found = s.stops.found; why = s.stops.why.1 }; tied = s.tied }

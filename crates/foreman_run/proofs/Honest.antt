@@ -129,9 +129,9 @@ module _ (gives : Function) (may_fail : Job → Failure → Type 0) where
   put_went sent k key content (inr there) = there
 
   -- A message that came over an honest link is answered there.
-  pub came_answered : (history : List Passed) (ear : EarState) (k : LinkNo) (sent : List Down) (m : Message) → Passes history ear k sent
+  pub came_answered : (history : List Passed) (ear : EarState) (k : LinkNo) (sent : List Down) (heard : List Message) (m : Message) → Passes history ear k sent heard
       → IsHonestSoFar gives may_fail (sent_in history) (received_in history) → Carries (received_in history) m → AnswersBelow gives may_fail sent (over k m)
-  came_answered history ear k sent m passes honest carried number outcome is ran =
+  came_answered history ear k sent heard m passes honest carried number outcome is ran =
       let a : Answers gives may_fail (sent_in history) number outcome = honest number outcome (subst (Carries (received_in history)) is carried) ran in
       let went : (x : Message) → Carries (sent_in history) x → Went sent k x =
       λ x c. passes.went x (stands_of x passes.said ((rows_carry_their_own passes.said x passes.said_framed).0 (subst (λ b. Carries b x) passes.are_sent c))) in

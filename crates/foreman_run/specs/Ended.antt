@@ -3,7 +3,9 @@ use Rattle.std.specs.Prelude.{◌≡◌, ◌<◌, ◌*◌, ℕ, false, List, Opt
 use Rattle.command_words.specs.declared.options.ForemanOptions.{ForemanOptions}
 use Rattle.flow_types.specs.declared.job.Failure.{Failure}
 use Rattle.flow_types.specs.declared.job.Job.{Job}
+use Rattle.flow_types.specs.declared.numbers.LinkNo.{LinkNo}
 use Rattle.flow_types.specs.Serial.{Function}
+use Rattle.links.specs.declared.passing.Passed.{Passed}
 use Rattle.links.specs.Honesty.{IsHonestThroughout}
 use Rattle.links.specs.Passings.{received_in, sent_in}
 use Rattle.peer_run.specs.declared.cause.PeerCause.{PeerCause}
@@ -14,6 +16,7 @@ use Rattle.foreman_run.specs.declared.stop.Stop.{Stop}
 use Rattle.foreman_run.specs.declared.stop.Stop.TheVariants.{Left, Hall}
 use Rattle.foreman_run.specs.Ends.{Stops}
 use Rattle.foreman_run.specs.Hosts.{Hosts}
+use Rattle.foreman_run.specs.Tied.{CameOver}
 
 -- the bytes that a foreman keeps at most, by these words
 abbrev pub cap_by : ForemanOptions → ℕ
@@ -40,25 +43,33 @@ abbrev pub RoseBy : ℕ → ℕ → Stop → Type 0
 RoseBy before now (Left halt) = Unit {0}
 RoseBy before now Hall = before < now
 
--- How a foreman has left the link to its parent: it stopped so, and where the hall's links are honest
--- this link is, seen from the foreman's end.
-pub record HasStopped (gives : Function) (may_fail : Job → Failure → Type 0) (tells honest : Type 0)
-    (cap : ℕ) (way : Way) (before now : ℕ) (cause : PeerCause) : Type 0 where
+-- How a foreman has left the link to its parent: it stopped so, what it met of its workers came over
+-- the links that were handed back, and where the hall's links are honest this link is, seen from the
+-- foreman's end.
+pub record HasStopped {L : Type 0} (gives : Function) (may_fail : Job → Failure → Type 0)
+    (tells honest below_tells : Type 0) (history : L → List Passed) (cap : ℕ) (way : Way)
+    (before now : ℕ) (got got_now : List (Option LinkNo × L)) (given given_now : ℕ)
+    (cause : PeerCause) : Type 0 where
   pub stop : Stop
   pub cause_is : cause ≡ cause_by way.faults before now stop
   pub rose : RoseBy before now stop
   pub stops : Stops gives may_fail tells false cap 0 way stop
+  pub from_links : CameOver below_tells history got got_now given given_now stops.past
   pub right : tells → honest → IsHonestThroughout gives may_fail received_in sent_in way.history
 
 -- Why a foreman ends before its line is printed: without a link as above, and with one it has left it
 -- for this cause.
-abbrev pub EndsBy : {L : Type 0} → Function → (Job → Failure → Type 0) → Type 0 → Type 0 → (L → Way)
-    → Option ForemanOptions → ℕ → ℕ → ℕ → ℕ → Option L → PeerCause → Type 0
-EndsBy gives may_fail tells honest way options dialled dials before now None cause =
+abbrev pub EndsBy : {U L : Type 0} → Function → (Job → Failure → Type 0) → Type 0 → Type 0 → Type 0
+    → (L → List Passed) → (U → Way) → Option ForemanOptions → ℕ → ℕ → ℕ → ℕ
+    → List (Option LinkNo × L) → List (Option LinkNo × L) → ℕ → ℕ → Option U → PeerCause → Type 0
+EndsBy gives may_fail tells honest below_tells history way options dialled dials before now got
+    got_now given given_now None cause =
     NoLink options dialled dials cause
-EndsBy gives may_fail tells honest way options dialled dials before now (Some link) cause =
+EndsBy gives may_fail tells honest below_tells history way options dialled dials before now got
+    got_now given given_now (Some link) cause =
     (chosen : ForemanOptions) × (options ≡ Some chosen)
-    × HasStopped gives may_fail tells honest (cap_by chosen) (way link) before now cause
+    × HasStopped gives may_fail tells honest below_tells history (cap_by chosen) (way link) before
+    now got got_now given given_now cause
 
 -- Each link that the hall gave was handed back once; where the cause isn't Bye some may have been lost
 -- instead since memory was wanting.

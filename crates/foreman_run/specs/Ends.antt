@@ -1,5 +1,5 @@
 -- How a foreman leaves its link to its parent.
-use Rattle.std.specs.Prelude.{◌≡◌, ◌<◌, ℕ, Bool, true, false, List, ◌++◌, length, Result, Ok, Err}
+use Rattle.std.specs.Prelude.{◌≡◌, ◌<◌, ℕ, Bool, true, false, List, ◌++◌, ◌+◌, length, Option, Result, Ok, Err}
 use Rattle.flow_types.specs.declared.job.Failure.{Failure}
 use Rattle.flow_types.specs.declared.job.Job.{Job}
 use Rattle.flow_types.specs.Serial.{Function}
@@ -13,6 +13,10 @@ use Rattle.peer_run.specs.Ends.{IsAmiss}
 use Rattle.peer_run.specs.Works.{Way}
 use Rattle.foreman_run.specs.declared.stop.Stop.{Stop}
 use Rattle.foreman_run.specs.declared.stop.Stop.TheVariants.{Left, Hall}
+use Rattle.flow_types.specs.declared.numbers.LinkNo.{LinkNo}
+use Rattle.links.specs.declared.passing.Passed.{Passed}
+use Rattle.foreman_run.specs.Lowers.{LowerState}
+use Rattle.foreman_run.specs.Tied.{AreTied, Book, with_hall}
 use Rattle.foreman_run.specs.Met.{Met, AreInOrder, has_left, heard_of, said_of, told_of}
 
 -- How a foreman with such a cache is found once nothing more passes over the link to its parent: what
@@ -49,6 +53,23 @@ pub record Stops (gives : Function) (may_fail : Job → Failure → Type 0) (tel
   pub past : List Met
   pub found : IsFound gives may_fail tells trusted cap way past
   pub why : MayStop tells cap faults way past stop
+
+-- The same, and what it met of its workers came over the links that are held or were handed back.
+pub record StopsAt {L : Type 0} (gives : Function) (may_fail : Job → Failure → Type 0)
+    (tells : Type 0) (trusted : Bool) (below_tells : Type 0) (history : L → List Passed) (cap : ℕ)
+    (book : Book L) (way : Way) (lowers : List (LowerState L)) (stop : Stop) : Type 0 where
+  pub stops : Stops gives may_fail tells trusted cap book.faults way stop
+  pub tied : AreTied below_tells history stops.past lowers book
+
+-- It stopped so, once so many links had a number, which are those that the hall gave.
+pub record StopsOver {L : Type 0} (gives : Function) (may_fail : Job → Failure → Type 0)
+    (tells : Type 0) (trusted : Bool) (below_tells : Type 0) (history : L → List Passed) (cap : ℕ)
+    (book : Book L) (got : List (Option LinkNo × L)) (given given_now : ℕ) (way : Way)
+    (lowers : List (LowerState L)) (stop : Stop) : Type 0 where
+  pub upto : ℕ
+  pub counted : upto + given ≡ given_now
+  pub stops_at : StopsAt gives may_fail tells trusted below_tells history cap
+      (with_hall book got upto) way lowers stop
 
 -- A foreman goes on, or has stopped.
 abbrev pub Goes : {T : Type 0} → Result T Stop → (T → Type 0) → (Stop → Type 0) → Type 0

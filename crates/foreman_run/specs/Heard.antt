@@ -1,6 +1,7 @@
 -- What a foreman hears of a worker.
 use Rattle.std.specs.Prelude.{◌≡◌, true, false, List, Option, Some, None, Result, Ok, Err}
 use Rattle.flow_types.specs.declared.lists.Memory.{Memory}
+use Rattle.flow_types.specs.declared.messages.Message.{Message}
 use Rattle.foreman_core.specs.declared.acts.Down.{Down}
 use Rattle.foreman_core.specs.declared.acts.ForemanActs.{ForemanActs}
 use Rattle.foreman_core.specs.Foremen.{Foreman}
@@ -20,5 +21,6 @@ Hears tells history f f_now old new (Ok (Some acts)) =
     × (f_now ≡ (hears_down f old.link (shown new.ear.body)).foreman)
 Hears tells history f f_now old new (Ok None) =
     (f_now ≡ f)
-    × ((sent : List Down) → IsHeld tells history sent old → IsHeld tells history sent new)
+    × ((sent : List Down) (heard : List Message) → IsHeld tells history sent heard old
+    → IsHeld tells history sent heard new)
 Hears tells history f f_now old new (Err why) = f_now ≡ f

@@ -1,5 +1,6 @@
 pub mod Met
 pub mod Lowers
+pub mod Tied
 pub mod Works
 pub mod Ends
 pub mod Ended

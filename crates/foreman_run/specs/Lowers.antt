@@ -1,5 +1,5 @@
 -- A foreman's links to its workers.
-use Rattle.std.specs.Prelude.{◌≡◌, ◌⊎◌, ◌+◌, ℕ, Bool, false, List, length}
+use Rattle.std.specs.Prelude.{◌≡◌, ◌==◌, ◌⊎◌, ◌+◌, ◌++◌, ◌∷◌, [], ℕ, Bool, true, false, if◌then◌else◌, List, Option, None, length}
 use Rattle.flow_types.specs.declared.job.Failure.{Failure}
 use Rattle.flow_types.specs.declared.job.Job.{Job}
 use Rattle.flow_types.specs.declared.job.Outcome.{Outcome}
@@ -17,9 +17,10 @@ use Rattle.foreman_core.specs.Members.{Stands, Every}
 use Rattle.links.specs.declared.passing.Passed.{Passed}
 use Rattle.links.specs.Honesty.{HasRun, key_of, task_job}
 use Rattle.links.specs.Passings.{received_in, sent_in}
-use Rattle.message_forms.specs.Streams.{AreFramed, IsStream, frames_of}
+use Rattle.message_forms.specs.Streams.{AreFramed, BeginsWith, IsStream, frames_of}
 use Rattle.outside.specs.Jobs.{IsHonest}
 use Rattle.peer_run.specs.Works.{EarState}
+use Rattle.foreman_run.specs.Met.{one_if}
 
 -- a link to a worker: its number, what came over it and no message took, and whether it is to be left
 pub record LowerState (L : Type 0) : Type 0 where
@@ -44,24 +45,48 @@ probe = messages.Unlink no_key
 abbrev pub Went : List Down → LinkNo → Message → Type 0
 Went sent k m = (m ≡ probe) ⊎ Stands (over k m) sent
 
--- What passed over a link of this number, by all that was to go down: what was sent are the frames of
--- probes and of messages that were to go down there, and what came are frames of messages and the
--- bytes left.
-pub record Passes (history : List Passed) (ear : EarState) (k : LinkNo) (sent : List Down) : Type 0 where
+-- What passed over a link of this number, by all that was to go down and the messages that were heard
+-- there: what was sent are the frames of probes and of messages that were to go down there, and what
+-- came are the frames of what was heard and the bytes left.
+pub record Passes (history : List Passed) (ear : EarState) (k : LinkNo) (sent : List Down)
+    (heard : List Message) : Type 0 where
   pub said : List Message
   pub said_framed : AreFramed said
   pub are_sent : sent_in history ≡ frames_of said
   pub went : Every (Went sent k) said
-  pub heard : List Message
   pub came : IsStream (received_in history) heard ear.rest
 
 -- It is so of a link that tells and isn't to be left.
-abbrev pub IsHeld : {L : Type 0} → Type 0 → (L → List Passed) → List Down → LowerState L → Type 0
-IsHeld tells history sent l = (l.gone ≡ false) → tells → Passes (history l.way) l.ear l.link sent
+abbrev pub IsHeld : {L : Type 0} → Type 0 → (L → List Passed) → List Down → List Message
+    → LowerState L → Type 0
+IsHeld tells history sent heard l =
+    (l.gone ≡ false) → tells → Passes (history l.way) l.ear l.link sent heard
 
--- It is so of each.
-abbrev pub AreHeld : {L : Type 0} → Type 0 → (L → List Passed) → List Down → List (LowerState L) → Type 0
-AreHeld tells history sent lowers = Every (IsHeld tells history sent) lowers
+-- those of these messages from below that came over the link of this number
+abbrev pub from_link : ℕ → List Down → List Message
+from_link k [] = []
+from_link k (d ∷ told) =
+    if d.link.0 == k then d.message ∷ from_link k told else from_link k told
+
+-- It is so of each, by all messages from below.
+abbrev pub AreHeld : {L : Type 0} → Type 0 → (L → List Passed) → List Down → List Down
+    → List (LowerState L) → Type 0
+AreHeld tells history sent told lowers =
+    Every (λ l. IsHeld tells history sent (from_link l.link.0 told) l) lowers
+
+-- More was received, or nothing.
+abbrev pub HearsOn : List Passed → List Passed → Type 0
+HearsOn old new = (more : List ℕ) × (received_in new ≡ received_in old ++ more)
+
+-- What came over each link begins with the frames of the messages from below that came under its number.
+abbrev pub AreBegun : {L : Type 0} → Type 0 → (L → List Passed) → List Down → List (LowerState L) → Type 0
+AreBegun tells history told lowers =
+    tells → Every (λ l. BeginsWith (received_in (history l.way)) (from_link l.link.0 told)) lowers
+
+-- how many of the links have this number
+abbrev pub held_under : {L : Type 0} → ℕ → List (LowerState L) → ℕ
+held_under k [] = 0
+held_under k (l ∷ lowers) = one_if l.link.0 k + held_under k lowers
 
 -- Each is honest.
 abbrev pub AreHonest : {L : Type 0} → (L → Type 0) → List (LowerState L) → Type 0
@@ -71,32 +96,69 @@ AreHonest honest lowers = Every (λ l. honest l.way) lowers
 -- ones stay so.
 pub record Keeps {L : Type 0} (tells : Type 0) (history : L → List Passed) (honest : L → Type 0)
     (old new : List (LowerState L)) : Type 0 where
-  pub held : (sent : List Down) → AreHeld tells history sent old → AreHeld tells history sent new
+  pub held : (sent told : List Down) → AreHeld tells history sent told old
+      → AreHeld tells history sent told new
+  pub begun : (told : List Down) → AreBegun tells history told old → AreBegun tells history told new
   pub honestly : AreHonest honest old → AreHonest honest new
   pub many : length new ≡ length old
+  pub under : (k : ℕ) → held_under k new ≡ held_under k old
 
 -- The same, where messages may go down that are among these.
 pub record KeepsWith {L : Type 0} (tells : Type 0) (history : L → List Passed) (honest : L → Type 0)
     (down : List Down) (old new : List (LowerState L)) : Type 0 where
-  pub held : (sent : List Down) → Every (λ d. Stands d sent) down
-      → AreHeld tells history sent old → AreHeld tells history sent new
+  pub held : (sent told : List Down) → Every (λ d. Stands d sent) down
+      → AreHeld tells history sent told old → AreHeld tells history sent told new
+  pub begun : (told : List Down) → AreBegun tells history told old → AreBegun tells history told new
   pub honestly : AreHonest honest old → AreHonest honest new
   pub many : length new ≡ length old
+  pub under : (k : ℕ) → held_under k new ≡ held_under k old
 
--- One of the links is taken out; what holds of the others stays so.
-pub record Parts {L : Type 0} (tells : Type 0) (history : L → List Passed) (honest : L → Type 0)
-    (old new : List (LowerState L)) : Type 0 where
-  pub held : (sent : List Down) → AreHeld tells history sent old → AreHeld tells history sent new
-  pub honestly : AreHonest honest old → AreHonest honest new
-  pub fewer : length old ≡ length new + 1
+-- This one of the links is taken out, which is to be left.
+pub record Parts {L : Type 0} (out : LowerState L) (old new : List (LowerState L)) : Type 0 where
+  pub earlier : List (LowerState L)
+  pub later : List (LowerState L)
+  pub among : old ≡ earlier ++ (out ∷ later)
+  pub others : new ≡ earlier ++ later
 
--- One comes, over which nothing has passed, and which is honest where that is so; or memory was wanting.
-abbrev pub Gains : {L T E : Type 0} → Type 0 → (L → List Passed) → (L → Type 0) → Type 0 → List (LowerState L)
-    → List (LowerState L) → Result T E → Type 0
-Gains tells history honest is old new (Ok x) =
-    ((sent : List Down) → AreHeld tells history sent old → AreHeld tells history sent new)
-    × (is → AreHonest honest old → AreHonest honest new)
-Gains tells history honest is old new (Err why) = Unit {0}
+-- the link of a worker that has just come
+abbrev pub new_lower : {L : Type 0} → LinkNo → L → LowerState L
+new_lower link way = record {
+  link = link;
+  way = way;
+  ear = record { rest = []; body = []; stop = None; fed = 0 };
+  gone = false;
+}
+
+-- One has come behind the others, under the next number, over which nothing has passed, and which is
+-- honest where that is so.
+pub record Joins {L : Type 0} (history : L → List Passed) (honest : L → Type 0) (is : Type 0)
+    (number : ℕ) (old new : List (LowerState L)) : Type 0 where
+  pub link : LinkNo
+  pub way : L
+  pub next : link.0 ≡ number + 1
+  pub nothing : history way ≡ []
+  pub honestly : is → honest way
+  pub among : new ≡ old ++ (new_lower link way ∷ [])
+
+-- None was given; or one was given for which there was no memory, and it was handed back under the
+-- next number, or lost.
+pub data Misses {L : Type 0} (history : L → List Passed) (number now : ℕ)
+    (got got_now : List (Option LinkNo × L)) : Type 0 where
+  none : now ≡ number → got_now ≡ got → Misses history number now got got_now
+  back : (link : LinkNo) → (way : L) → link.0 ≡ number + 1 → history way ≡ [] → now ≡ number + 1
+      → got_now ≡ got ++ ((Some link, way) ∷ []) → Misses history number now got got_now
+  lost : now ≡ number + 1 → got_now ≡ got → Misses history number now got got_now
+
+-- One has come, as above, or none; where it failed they are the same.
+abbrev pub Gains : {L E : Type 0} → (L → List Passed) → (L → Type 0) → Type 0 → ℕ → ℕ
+    → List (Option LinkNo × L) → List (Option LinkNo × L) → List (LowerState L)
+    → List (LowerState L) → Result Bool E → Type 0
+Gains history honest is number now got got_now old new (Ok true) =
+    (now ≡ number + 1) × (got_now ≡ got) × Joins history honest is number old new
+Gains history honest is number now got got_now old new (Ok false) =
+    (now ≡ number) × (got_now ≡ got) × (new ≡ old)
+Gains history honest is number now got got_now old new (Err why) =
+    Misses history number now got got_now × (new ≡ old)
 
 -- A task of this number went down there, and contents under its keys, and its job may end so.
 pub record IsAnswered (gives : Function) (may_fail : Job → Failure → Type 0) (sent : List Down)

@@ -1,5 +1,5 @@
 -- What a foreman meets: messages from above and from below, and lost links. The newest stands first.
-use Rattle.std.specs.Prelude.{◌≡◌, ℕ, Bool, false, List, [], ◌∷◌, ◌++◌, ◌||◌}
+use Rattle.std.specs.Prelude.{◌≡◌, ◌==◌, ◌+◌, ℕ, Bool, false, if◌then◌else◌, List, [], ◌∷◌, ◌++◌, ◌||◌}
 use Rattle.flow_types.specs.declared.messages.Message.{Message}
 use Rattle.flow_types.specs.declared.messages.Message.TheVariants as messages
 use Rattle.flow_types.specs.declared.numbers.Amounts.{Amounts}
@@ -80,3 +80,28 @@ abbrev pub AreInOrder : List Met → Type 0
 AreInOrder [] = Unit {0}
 AreInOrder (met ∷ past) =
     AreInOrder past × (has_left past ≡ false) × (goes_wrong met ≡ false)
+
+-- whether two numbers are the same, as a number
+abbrev pub one_if : ℕ → ℕ → ℕ
+one_if a b = if a == b then 1 else 0
+
+-- how often something came over the link of this number, or it was lost
+abbrev pub met_under : ℕ → List Met → ℕ
+met_under k [] = 0
+met_under k (above m ∷ past) = met_under k past
+met_under k (below link m ∷ past) = one_if link.0 k + met_under k past
+met_under k (lost link ∷ past) = one_if link.0 k + met_under k past
+
+-- how often the link of this number was lost
+abbrev pub lost_under : ℕ → List Met → ℕ
+lost_under k [] = 0
+lost_under k (above m ∷ past) = lost_under k past
+lost_under k (below link m ∷ past) = lost_under k past
+lost_under k (lost link ∷ past) = one_if link.0 k + lost_under k past
+
+-- Nothing is met of a link once it was lost; so it is lost once at most.
+abbrev pub AreOnce : List Met → Type 0
+AreOnce [] = Unit {0}
+AreOnce (above m ∷ past) = AreOnce past
+AreOnce (below link m ∷ past) = AreOnce past × (lost_under link.0 past ≡ 0)
+AreOnce (lost link ∷ past) = AreOnce past × (lost_under link.0 past ≡ 0)

@@ -24,8 +24,6 @@ const MOST_LINKS: usize = 40;
 #[derive(Drop)]
 pub(crate) struct Company<F: Commands, L: Link<F>> {
     pub(crate) lowers: Vec<Lower<F, L>>,
-    // How many links had a number.
-    pub(crate) numbered: u32,
 }
 
 impl<F: Commands, L: Link<F>> Model for Company<F, L> {
@@ -44,7 +42,6 @@ impl<F: Commands, L: Link<F>> Company<F, L> {
     {
         Company {
             lowers: Vec::new(alloc),
-            numbered: 0,
         }
     }
 
@@ -56,13 +53,15 @@ impl<F: Commands, L: Link<F>> Company<F, L> {
             .count()
     }
 
-    /// The number of the next link. While as many are there as may be, and once each number was given,
-    /// there is none.
-    pub fn next(&self) -> Option<LinkNo> {
+    /// The number of the next link, where so many had one. While as many are there as may be, and once
+    /// each number was given, there is none.
+    pub fn next(&self, numbered: u32) -> Option<LinkNo>
+        ensures { IfSome result (λ link. link.0 ≡ numbered + 1) }
+    {
         if self.lowers.len() >= MOST_LINKS || self.workers() >= MOST_WORKERS {
             return None;
         }
-        let number = self.numbered.checked_add(1)?;
+        let number = numbered.checked_add(1)?;
         Some(LinkNo(number))
     }
 
@@ -71,7 +70,6 @@ impl<F: Commands, L: Link<F>> Company<F, L> {
         ensures ok { OnOk result (self.new ≡ self.old ++ lower ∷ []) }
         ensures back { IfErr result (λ back. (back ≡ lower) × (self.new ≡ self.old)) }
     {
-        self.numbered = lower.link().0;
         match self.lowers.push(lower) {
             Ok(()) => Ok(()),
             Err(failed) => Err(failed.value),
@@ -80,7 +78,7 @@ impl<F: Commands, L: Link<F>> Company<F, L> {
 
     /// Takes the worker that came last out, if there is one.
     pub fn pop(&mut self) -> Option<Lower<F, L>>
-        ensures some { IfSome result (λ _. length self.old ≡ length self.new + 1) }
+        ensures some { IfSome result (λ out. self.old ≡ self.new ++ out ∷ []) }
         ensures none { IfNone result (self.old ≡ []) }
     {
         self.lowers.pop()
@@ -178,7 +176,7 @@ impl<F: Commands, L: Link<F>> Company<F, L> {
 
     /// Takes out a link that is to be left, if there is one.
     pub fn take_gone(&mut self) -> Option<Lower<F, L>>
-        ensures some { IfSome result (λ _. Parts L.tells L.history L.honest self.old self.new) }
+        ensures some { IfSome result (λ out. Parts out self.old self.new) }
         ensures none { IfNone result (self.new ≡ self.old) }
     {
         let at = self.place_gone()?;

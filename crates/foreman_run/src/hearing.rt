@@ -3,8 +3,9 @@ ghost use Rattle.std.specs.Prelude.{◌≡◌, [], Bool, ℕ, List, false, true,
 ghost use Rattle.foreman_core.specs.declared.acts.Down.{Down as DownValue};
 ghost use Rattle.foreman_core.specs.Foremen.{Foreman};
 ghost use Rattle.peer_run.specs.Works.{EarState, way_of};
-ghost use Rattle.foreman_run.specs.Ends.{Goes, LeavesParent, Stops};
+ghost use Rattle.foreman_run.specs.Ends.{Goes, LeavesParent, StopsAt};
 ghost use Rattle.foreman_run.specs.Heard.{Hears};
+ghost use Rattle.foreman_run.specs.Tied.{Book};
 ghost use Rattle.foreman_run.specs.Works.{IsAtWork, Works};
 
 use crate::company::Company;
@@ -53,14 +54,13 @@ pub(crate) fn hear_at<F: Commands, U: Link<F>, L: Link<F>>(
     requires works { (ear : EarState)
         × IsAtWork F.gives F.may_fail U.tells L.tells L.history L.honest
         (way_of U.history U.is_closed U.count link.old) ear core.old company.old }
-    ensures goes { (trusted : Bool) (cap faults : ℕ) (ear : EarState)
-        → Works F.gives F.may_fail U.tells trusted L.tells L.history L.honest cap faults
+    ensures goes { (trusted : Bool) (cap : ℕ) (book : Book L) (ear : EarState)
+        → Works F.gives F.may_fail U.tells trusted L.tells L.history L.honest cap book
         (way_of U.history U.is_closed U.count link.old) ear core.old company.old [] [] false
-        → Goes result (λ _. Works F.gives F.may_fail U.tells trusted L.tells L.history L.honest
-        cap faults (way_of U.history U.is_closed U.count link.new) ear core.new company.new
-        [] [] false)
-        (Stops F.gives F.may_fail U.tells trusted cap faults
-        (way_of U.history U.is_closed U.count link.new)) }
+        → Goes result (λ _. Works F.gives F.may_fail U.tells trusted L.tells L.history L.honest cap
+        book (way_of U.history U.is_closed U.count link.new) ear core.new company.new [] [] false)
+        (StopsAt F.gives F.may_fail U.tells trusted L.tells L.history cap book
+        (way_of U.history U.is_closed U.count link.new) company.new) }
     ensures left { LeavesParent result }
     ensures many { length company.new ≡ length company.old }
 {

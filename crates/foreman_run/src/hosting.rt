@@ -1,11 +1,14 @@
 //! Where a foreman's workers come and go.
-ghost use Rattle.std.specs.Prelude.{◌≡◌, ◌+◌, [], Bool, ℕ, false, length, IfErr};
+ghost use Rattle.std.specs.Prelude.{◌≡◌, ◌+◌, [], Bool, ℕ, List, None, Some, false, length, IfErr};
 ghost use Rattle.links.specs.Halls.{IsFresh};
 ghost use Rattle.peer_run.specs.Works.{EarState, way_of};
-ghost use Rattle.foreman_run.specs.Ends.{Goes, LeavesHall, LeavesParent, Stops};
+ghost use Rattle.foreman_run.specs.Ends.{Goes, LeavesHall, LeavesParent, StopsAt};
 ghost use Rattle.foreman_run.specs.Hosts.{HostsBy, HostsWhole};
 ghost use Rattle.foreman_run.specs.Lowers.{Gains};
-ghost use Rattle.foreman_run.specs.Works.{IsAtWork, Works};
+ghost use Rattle.foreman_run.specs.Met.{Met};
+ghost use Rattle.foreman_run.specs.Tied.{AreTied, Book, HandsBack, LetsGoOne, MayHandBack};
+ghost use Rattle.foreman_run.specs.Tied.{with_due, with_got};
+ghost use Rattle.foreman_run.specs.Works.{IsAtHall, IsAtWork, Works};
 
 use crate::company::Company;
 use crate::lower::Lower;
@@ -28,6 +31,8 @@ fn hand_back<F: Commands, H: Hall<F>>(
     ensures hosts { HostsBy (H.count hall.old) (H.count hall.new) (H.got hall.old)
         (H.got hall.new) (H.given hall.old) (H.given hall.new) 1 0 result }
     ensures memory { IfErr result (λ stop. stop ≡ Stop.Left Halt.Memory) }
+    ensures back { HandsBack link way (H.got hall.old) (H.got hall.new) result }
+    ensures given { H.given hall.new ≡ H.given hall.old }
     ensures listens { H.listens hall.old → H.listens hall.new }
     ensures honest { H.honest hall.old → H.honest hall.new }
 {
@@ -42,6 +47,8 @@ fn refuse<F: Commands, H: Hall<F>>(alloc: Global, hall: &mut H, link: LinkNo, wa
     ensures memory { result ≡ Stop.Left Halt.Memory }
     ensures hosts { (whole : Bool) × HostsWhole (H.count hall.old) (H.count hall.new)
         (H.got hall.old) (H.got hall.new) (H.given hall.old) (H.given hall.new) 1 0 whole }
+    ensures back { MayHandBack link way (H.got hall.old) (H.got hall.new) }
+    ensures given { H.given hall.new ≡ H.given hall.old }
     ensures listens { H.listens hall.old → H.listens hall.new }
     ensures honest { H.honest hall.old → H.honest hall.new }
 {
@@ -54,12 +61,15 @@ fn let_in<F: Commands, H: Hall<F>>(
     alloc: Global,
     company: &mut Company<F, H::Way>,
     hall: &mut H,
+    numbered: &mut u32,
     link: LinkNo,
     way: H::Way,
 ) -> Result<bool, Stop>
     requires fresh { IsFresh H.Way.history H.Way.count H.Way.idle_count H.Way.is_closed way }
-    ensures gains { Gains H.Way.tells H.Way.history H.Way.honest (H.Way.honest way) company.old
-        company.new result }
+    requires next { link.0 ≡ numbered.old + 1 }
+    ensures gains { Gains H.Way.history H.Way.honest (H.Way.honest way) numbered.old numbered.new
+        (H.got hall.old) (H.got hall.new) company.old company.new result }
+    ensures counted { (numbered.new ≡ numbered.old + 1) × (H.given hall.new ≡ H.given hall.old) }
     ensures hosts { HostsBy (H.count hall.old) (H.count hall.new) (H.got hall.old)
         (H.got hall.new) (H.given hall.old) (H.given hall.new) (1 + length company.old)
         (length company.new) result }
@@ -67,6 +77,7 @@ fn let_in<F: Commands, H: Hall<F>>(
     ensures listens { H.listens hall.old → H.listens hall.new }
     ensures honest { H.honest hall.old → H.honest hall.new }
 {
+    *numbered = link.0;
     let lower = match Lower::new(alloc, link, way) {
         Ok(lower) => lower,
         Err(way) => return Err(refuse::<F, H>(alloc, hall, link, way)),
@@ -82,11 +93,14 @@ fn wait<F: Commands, H: Hall<F>>(
     alloc: Global,
     company: &mut Company<F, H::Way>,
     hall: &mut H,
+    numbered: &mut u32,
     link: LinkNo,
 ) -> Result<bool, Stop>
     requires listens { H.listens hall.old }
-    ensures gains { Gains H.Way.tells H.Way.history H.Way.honest (H.honest hall.old) company.old
-        company.new result }
+    requires next { link.0 ≡ numbered.old + 1 }
+    ensures gains { Gains H.Way.history H.Way.honest (H.honest hall.old) numbered.old numbered.new
+        (H.got hall.old) (H.got hall.new) company.old company.new result }
+    ensures counted { numbered.new + H.given hall.old ≡ numbered.old + H.given hall.new }
     ensures hosts { HostsBy (H.count hall.old) (H.count hall.new) (H.got hall.old)
         (H.got hall.new) (H.given hall.old) (H.given hall.new) (length company.old)
         (length company.new) result }
@@ -95,24 +109,26 @@ fn wait<F: Commands, H: Hall<F>>(
     ensures honest { H.honest hall.old → H.honest hall.new }
 {
     match hall.wait(alloc) {
-        Ok(Came::Link(way)) => let_in::<F, H>(alloc, company, hall, link, way),
+        Ok(Came::Link(way)) => let_in::<F, H>(alloc, company, hall, numbered, link, way),
         Ok(Came::Idle) => Ok(false),
         Err(Fault::Failed) => Err(Stop::Hall),
         Err(Fault::Memory) => Err(Stop::Left(Halt::Memory)),
     }
 }
 
-/// Lets in who has come, and at a turn asks in any case, and answers whether anybody came. While as
-/// many are there as may be nobody is asked for.
+/// Lets in who has come, and at a turn asks in any case, and answers whether anybody came. So many had
+/// a number. While as many are there as may be nobody is asked for.
 pub(crate) fn meet<F: Commands, H: Hall<F>>(
     alloc: Global,
     company: &mut Company<F, H::Way>,
     hall: &mut H,
+    numbered: &mut u32,
     turn: bool,
 ) -> Result<bool, Stop>
     requires listens { H.listens hall.old }
-    ensures gains { Gains H.Way.tells H.Way.history H.Way.honest (H.honest hall.old) company.old
-        company.new result }
+    ensures gains { Gains H.Way.history H.Way.honest (H.honest hall.old) numbered.old numbered.new
+        (H.got hall.old) (H.got hall.new) company.old company.new result }
+    ensures counted { numbered.new + H.given hall.old ≡ numbered.old + H.given hall.new }
     ensures hosts { HostsBy (H.count hall.old) (H.count hall.new) (H.got hall.old)
         (H.got hall.new) (H.given hall.old) (H.given hall.new) (length company.old)
         (length company.new) result }
@@ -120,13 +136,13 @@ pub(crate) fn meet<F: Commands, H: Hall<F>>(
     ensures listens { H.listens hall.new }
     ensures honest { H.honest hall.old → H.honest hall.new }
 {
-    let Some(link) = company.next() else {
+    let Some(link) = company.next(*numbered) else {
         return Ok(false);
     };
     if !hall.ready() && !turn {
         return Ok(false);
     }
-    wait::<F, H>(alloc, company, hall, link)
+    wait::<F, H>(alloc, company, hall, numbered, link)
 }
 
 /// The link of this number was lost.
@@ -140,14 +156,14 @@ fn lose<F: Commands, U: Link<F>, L: Link<F>>(
     requires works { (ear : EarState)
         × IsAtWork F.gives F.may_fail U.tells L.tells L.history L.honest
         (way_of U.history U.is_closed U.count parent.old) ear core.old company.old }
-    ensures goes { (trusted : Bool) (cap faults : ℕ) (ear : EarState)
-        → Works F.gives F.may_fail U.tells trusted L.tells L.history L.honest cap faults
-        (way_of U.history U.is_closed U.count parent.old) ear core.old company.old [] [] false
-        → Goes result (λ _. Works F.gives F.may_fail U.tells trusted L.tells L.history L.honest
-        cap faults (way_of U.history U.is_closed U.count parent.new) ear core.new company.new
-        [] [] false)
-        (Stops F.gives F.may_fail U.tells trusted cap faults
-        (way_of U.history U.is_closed U.count parent.new)) }
+    ensures goes { (trusted : Bool) (cap : ℕ) (book : Book L) (ear : EarState)
+        → Works F.gives F.may_fail U.tells trusted L.tells L.history L.honest cap
+        (with_due book (Some link)) (way_of U.history U.is_closed U.count parent.old) ear core.old
+        company.old [] [] false → Goes result
+        (λ _. Works F.gives F.may_fail U.tells trusted L.tells L.history L.honest cap
+        (with_due book None) (way_of U.history U.is_closed U.count parent.new) ear core.new
+        company.new [] [] false) (StopsAt F.gives F.may_fail U.tells trusted L.tells L.history cap
+        (with_due book None) (way_of U.history U.is_closed U.count parent.new) company.new) }
     ensures left { LeavesParent result }
     ensures many { length company.new ≡ length company.old }
 {
@@ -168,20 +184,23 @@ pub(crate) fn lose_next<F: Commands, U: Link<F>, H: Hall<F>>(
     company: &mut Company<F, H::Way>,
     hall: &mut H,
 ) -> Result<bool, Stop>
-    requires works { (ear : EarState)
-        × IsAtWork F.gives F.may_fail U.tells H.Way.tells H.Way.history H.Way.honest
-        (way_of U.history U.is_closed U.count parent.old) ear core.old company.old }
-    ensures goes { (trusted : Bool) (cap faults : ℕ) (ear : EarState)
-        → Works F.gives F.may_fail U.tells trusted H.Way.tells H.Way.history H.Way.honest cap faults
-        (way_of U.history U.is_closed U.count parent.old) ear core.old company.old [] [] false
-        → Goes result (λ _. Works F.gives F.may_fail U.tells trusted H.Way.tells H.Way.history
-        H.Way.honest cap faults (way_of U.history U.is_closed U.count parent.new) ear core.new
-        company.new [] [] false)
-        (Stops F.gives F.may_fail U.tells trusted cap faults
-        (way_of U.history U.is_closed U.count parent.new)) }
+    requires works { (ear : EarState) × (upto : ℕ)
+        × IsAtHall F.gives F.may_fail U.tells H.Way.tells H.Way.history H.Way.honest
+        (H.got hall.old) upto (way_of U.history U.is_closed U.count parent.old) ear core.old
+        company.old }
+    ensures goes { (trusted : Bool) (cap : ℕ) (book : Book H.Way) (ear : EarState)
+        → Works F.gives F.may_fail U.tells trusted H.Way.tells H.Way.history H.Way.honest cap
+        (with_got book (H.got hall.old)) (way_of U.history U.is_closed U.count parent.old) ear
+        core.old company.old [] [] false → Goes result
+        (λ _. Works F.gives F.may_fail U.tells trusted H.Way.tells H.Way.history H.Way.honest cap
+        (with_got book (H.got hall.new)) (way_of U.history U.is_closed U.count parent.new) ear
+        core.new company.new [] [] false) (StopsAt F.gives F.may_fail U.tells trusted H.Way.tells
+        H.Way.history cap (with_got book (H.got hall.new))
+        (way_of U.history U.is_closed U.count parent.new) company.new) }
     ensures hosts { HostsBy (H.count hall.old) (H.count hall.new) (H.got hall.old)
         (H.got hall.new) (H.given hall.old) (H.given hall.new) (length company.old)
         (length company.new) result }
+    ensures given { H.given hall.new ≡ H.given hall.old }
     ensures listens { H.listens hall.old → H.listens hall.new }
     ensures honest { H.honest hall.old → H.honest hall.new }
 {
@@ -205,6 +224,8 @@ fn farewell<F: Commands, H: Hall<F>>(
 ) -> bool
     ensures hosts { HostsWhole (H.count hall.old) (H.count hall.new) (H.got hall.old)
         (H.got hall.new) (H.given hall.old) (H.given hall.new) 1 0 result }
+    ensures lets_go { LetsGoOne H.Way.tells H.Way.history lower (H.got hall.old) (H.got hall.new) }
+    ensures given { H.given hall.new ≡ H.given hall.old }
 {
     let mut lower = lower;
     if is_over {
@@ -223,6 +244,10 @@ pub(crate) fn dismiss<F: Commands, H: Hall<F>>(
 ) -> bool
     ensures hosts { HostsWhole (H.count hall.old) (H.count hall.new) (H.got hall.old)
         (H.got hall.new) (H.given hall.old) (H.given hall.new) (length company) 0 result }
+    ensures ties { (past : List Met) (book : Book H.Way)
+        → AreTied H.Way.tells H.Way.history past company (with_got book (H.got hall.old))
+        → AreTied H.Way.tells H.Way.history past [] (with_got book (H.got hall.new)) }
+    ensures given { H.given hall.new ≡ H.given hall.old }
 {
     let mut company = company;
     let mut whole = true;

@@ -1,10 +1,11 @@
 //! A link to a worker.
-ghost use Rattle.std.specs.Prelude.{◌≡◌, [], false, true, List, None, IfOk, IfErr, Ok};
+ghost use Rattle.std.specs.Prelude.{◌≡◌, false, true, List, IfOk, IfErr, Ok};
+ghost use Rattle.flow_types.specs.declared.messages.Message.{Message as Said};
 ghost use Rattle.foreman_core.specs.declared.acts.Down.{Down as DownValue};
 ghost use Rattle.peer_run.specs.Ends.{Advanced};
 ghost use Rattle.peer_run.specs.Says.{CanBeTold};
 ghost use Rattle.wq_messages.specs.Views.{HasMessage, shown};
-ghost use Rattle.foreman_run.specs.Lowers.{IsHeld, Went, probe};
+ghost use Rattle.foreman_run.specs.Lowers.{HearsOn, IsHeld, Went, new_lower, probe};
 
 use crate::care::Care;
 use crate::voice::send;
@@ -55,12 +56,7 @@ impl<F: Commands, L: Link<F>> Model for Lower<F, L> {
 impl<F: Commands, L: Link<F>> Lower<F, L> {
     /// A link over which nothing has passed. Where memory is wanting it comes back.
     pub fn new(alloc: Global, link: LinkNo, way: L) -> Result<Lower<F, L>, L>
-        ensures ok { IfOk result (λ lower. lower ≡ record {
-          link = link;
-          way = way;
-          ear = record { rest = []; body = []; stop = None; fed = 0 };
-          gone = false;
-        }) }
+        ensures ok { IfOk result (λ lower. lower ≡ new_lower link way) }
         ensures back { IfErr result (λ back. back ≡ way) }
     {
         match Ear::new(alloc) {
@@ -113,8 +109,10 @@ impl<F: Commands, L: Link<F>> Lower<F, L> {
     pub fn send(&mut self, alloc: Global, message: Message)
         requires told { CanBeTold message }
         ensures link { self.new.link ≡ self.old.link }
-        ensures held { (sent : List DownValue) → Went sent self.old.link message
-            → IsHeld L.tells L.history sent self.old → IsHeld L.tells L.history sent self.new }
+        ensures held { (sent : List DownValue) (heard : List Said) → Went sent self.old.link message
+            → IsHeld L.tells L.history sent heard self.old
+            → IsHeld L.tells L.history sent heard self.new }
+        ensures comes { L.tells → HearsOn (L.history self.old.way) (L.history self.new.way) }
         ensures honest { L.honest self.old.way → L.honest self.new.way }
     {
         if self.gone {
@@ -131,8 +129,10 @@ impl<F: Commands, L: Link<F>> Lower<F, L> {
     /// whether there was anything. Where it closes or fails it is to be left.
     pub fn listen(&mut self, alloc: Global, turn: bool) -> bool
         ensures link { self.new.link ≡ self.old.link }
-        ensures held { (sent : List DownValue)
-            → IsHeld L.tells L.history sent self.old → IsHeld L.tells L.history sent self.new }
+        ensures held { (sent : List DownValue) (heard : List Said)
+            → IsHeld L.tells L.history sent heard self.old
+            → IsHeld L.tells L.history sent heard self.new }
+        ensures comes { L.tells → HearsOn (L.history self.old.way) (L.history self.new.way) }
         ensures honest { L.honest self.old.way → L.honest self.new.way }
     {
         if self.gone || (!self.way.ready() && !turn) {
@@ -157,8 +157,10 @@ impl<F: Commands, L: Link<F>> Lower<F, L> {
     // Sends on what waits. Where it has waited too long the link is to be left.
     fn push_on(&mut self)
         ensures link { self.new.link ≡ self.old.link }
-        ensures held { (sent : List DownValue)
-            → IsHeld L.tells L.history sent self.old → IsHeld L.tells L.history sent self.new }
+        ensures held { (sent : List DownValue) (heard : List Said)
+            → IsHeld L.tells L.history sent heard self.old
+            → IsHeld L.tells L.history sent heard self.new }
+        ensures comes { L.tells → HearsOn (L.history self.old.way) (L.history self.new.way) }
         ensures honest { L.honest self.old.way → L.honest self.new.way }
     {
         if self.way.flush(MOST_STUCK_SECONDS).is_err() {
@@ -169,8 +171,10 @@ impl<F: Commands, L: Link<F>> Lower<F, L> {
     // Sees whether a worker is still there to which nothing went for long.
     fn see(&mut self, alloc: Global)
         ensures link { self.new.link ≡ self.old.link }
-        ensures held { (sent : List DownValue)
-            → IsHeld L.tells L.history sent self.old → IsHeld L.tells L.history sent self.new }
+        ensures held { (sent : List DownValue) (heard : List Said)
+            → IsHeld L.tells L.history sent heard self.old
+            → IsHeld L.tells L.history sent heard self.new }
+        ensures comes { L.tells → HearsOn (L.history self.old.way) (L.history self.new.way) }
         ensures honest { L.honest self.old.way → L.honest self.new.way }
     {
         if self.care.pass_second() && self.way.behind() == 0 {
@@ -182,8 +186,10 @@ impl<F: Commands, L: Link<F>> Lower<F, L> {
     /// whether the link is to be left.
     pub fn check(&mut self, alloc: Global)
         ensures link { self.new.link ≡ self.old.link }
-        ensures held { (sent : List DownValue)
-            → IsHeld L.tells L.history sent self.old → IsHeld L.tells L.history sent self.new }
+        ensures held { (sent : List DownValue) (heard : List Said)
+            → IsHeld L.tells L.history sent heard self.old
+            → IsHeld L.tells L.history sent heard self.new }
+        ensures comes { L.tells → HearsOn (L.history self.old.way) (L.history self.new.way) }
         ensures honest { L.honest self.old.way → L.honest self.new.way }
     {
         if self.care.is_late(self.way.idles()) {
@@ -201,8 +207,9 @@ impl<F: Commands, L: Link<F>> Lower<F, L> {
         ensures way { self.new.way ≡ self.old.way }
         ensures taken { result ≡ true → (self.old.gone ≡ false) × (self.new.gone ≡ false)
             × Advanced self.old.ear (Ok true) self.new.ear }
-        ensures held { result ≡ false → (sent : List DownValue)
-            → IsHeld L.tells L.history sent self.old → IsHeld L.tells L.history sent self.new }
+        ensures held { result ≡ false → (sent : List DownValue) (heard : List Said)
+            → IsHeld L.tells L.history sent heard self.old
+            → IsHeld L.tells L.history sent heard self.new }
     {
         if self.gone {
             return false;

@@ -4,10 +4,11 @@ ghost use Rattle.foreman_core.specs.Foremen.{Foreman};
 ghost use Rattle.peer_run.specs.Ends.{Takes};
 ghost use Rattle.peer_run.specs.Says.{CanBeTold, Each};
 ghost use Rattle.peer_run.specs.Works.{EarState, way_of};
-ghost use Rattle.foreman_run.specs.Ends.{Goes, LeavesParent, Stops};
+ghost use Rattle.foreman_run.specs.Ends.{Goes, LeavesParent, StopsAt};
 ghost use Rattle.foreman_run.specs.Looks.{is_over};
 ghost use Rattle.foreman_run.specs.Lowers.{LowerState};
 ghost use Rattle.foreman_run.specs.Says.{CanGoDown};
+ghost use Rattle.foreman_run.specs.Tied.{Book};
 ghost use Rattle.foreman_run.specs.Works.{IsAtWork, Works};
 
 use crate::company::Company;
@@ -37,14 +38,13 @@ pub(crate) fn perform<F: Commands, U: Link<F>, L: Link<F>>(
 ) -> Result<(), Stop>
     requires up { Each CanBeTold acts.up }
     requires down { CanGoDown acts.down }
-    ensures goes { (trusted : Bool) (cap faults : ℕ) (ear : EarState) (core : Foreman)
-        → Works F.gives F.may_fail U.tells trusted L.tells L.history L.honest cap faults
-        (way_of U.history U.is_closed U.count link.old) ear core company.old
-        acts.up acts.down false
-        → Goes result (λ _. Works F.gives F.may_fail U.tells trusted L.tells L.history L.honest
-        cap faults (way_of U.history U.is_closed U.count link.new) ear core company.new [] [] false)
-        (Stops F.gives F.may_fail U.tells trusted cap faults
-        (way_of U.history U.is_closed U.count link.new)) }
+    ensures goes { (trusted : Bool) (cap : ℕ) (book : Book L) (ear : EarState) (core : Foreman)
+        → Works F.gives F.may_fail U.tells trusted L.tells L.history L.honest cap book
+        (way_of U.history U.is_closed U.count link.old) ear core company.old acts.up acts.down
+        false → Goes result (λ _. Works F.gives F.may_fail U.tells trusted L.tells L.history
+        L.honest cap book (way_of U.history U.is_closed U.count link.new) ear core company.new []
+        [] false) (StopsAt F.gives F.may_fail U.tells trusted L.tells L.history cap book
+        (way_of U.history U.is_closed U.count link.new) company.new) }
     ensures left { LeavesParent result }
     ensures many { length company.new ≡ length company.old }
 {
@@ -75,14 +75,14 @@ fn obey<F: Commands, U: Link<F>, L: Link<F>>(
     requires works { (ear : EarState) × (next : EarState) × Takes ear (Ok (Some message)) next
         × IsAtWork F.gives F.may_fail U.tells L.tells L.history L.honest
         (way_of U.history U.is_closed U.count link.old) ear core.old company.old }
-    ensures goes { (trusted : Bool) (cap faults : ℕ) (ear next : EarState)
+    ensures goes { (trusted : Bool) (cap : ℕ) (book : Book L) (ear next : EarState)
         → at ≡ ear.fed - length ear.rest → Takes ear (Ok (Some message)) next
-        → Works F.gives F.may_fail U.tells trusted L.tells L.history L.honest cap faults
+        → Works F.gives F.may_fail U.tells trusted L.tells L.history L.honest cap book
         (way_of U.history U.is_closed U.count link.old) ear core.old company.old [] [] false
-        → Goes result (Works F.gives F.may_fail U.tells trusted L.tells L.history L.honest
-        cap faults (way_of U.history U.is_closed U.count link.new) next core.new company.new [] [])
-        (Stops F.gives F.may_fail U.tells trusted cap faults
-        (way_of U.history U.is_closed U.count link.new)) }
+        → Goes result (Works F.gives F.may_fail U.tells trusted L.tells L.history L.honest cap book
+        (way_of U.history U.is_closed U.count link.new) next core.new company.new [] [])
+        (StopsAt F.gives F.may_fail U.tells trusted L.tells L.history cap book
+        (way_of U.history U.is_closed U.count link.new) company.new) }
     ensures left { LeavesParent result }
     ensures many { length company.new ≡ length company.old }
 {
@@ -105,14 +105,13 @@ pub(crate) fn push_on<F: Commands, U: Link<F>, L: Link<F>>(
     link: &mut U,
     turn: bool,
 ) -> Result<(), Stop>
-    ensures goes { (trusted : Bool) (cap faults : ℕ) (ear : EarState) (core : Foreman)
-        (lowers : List (LowerState L))
-        → Works F.gives F.may_fail U.tells trusted L.tells L.history L.honest cap faults
-        (way_of U.history U.is_closed U.count link.old) ear core lowers [] [] false
-        → Goes result (λ _. Works F.gives F.may_fail U.tells trusted L.tells L.history L.honest
-        cap faults (way_of U.history U.is_closed U.count link.new) ear core lowers [] [] false)
-        (Stops F.gives F.may_fail U.tells trusted cap faults
-        (way_of U.history U.is_closed U.count link.new)) }
+    ensures goes { (trusted : Bool) (cap : ℕ) (book : Book L) (ear : EarState) (core : Foreman)
+        (lowers : List (LowerState L)) → Works F.gives F.may_fail U.tells trusted L.tells L.history
+        L.honest cap book (way_of U.history U.is_closed U.count link.old) ear core lowers [] []
+        false → Goes result (λ _. Works F.gives F.may_fail U.tells trusted L.tells L.history
+        L.honest cap book (way_of U.history U.is_closed U.count link.new) ear core lowers [] []
+        false) (StopsAt F.gives F.may_fail U.tells trusted L.tells L.history cap book
+        (way_of U.history U.is_closed U.count link.new) lowers) }
     ensures left { LeavesParent result }
 {
     if !turn {
@@ -133,14 +132,14 @@ fn listen<F: Commands, U: Link<F>, L: Link<F>>(
     turn: bool,
 ) -> Result<bool, Stop>
     requires { ear.old.stop ≡ None }
-    ensures goes { (trusted : Bool) (cap faults : ℕ) (before : EarState) (core : Foreman)
+    ensures goes { (trusted : Bool) (cap : ℕ) (book : Book L) (before : EarState) (core : Foreman)
         (lowers : List (LowerState L)) → Takes before (Ok None) ear.old
-        → Works F.gives F.may_fail U.tells trusted L.tells L.history L.honest cap faults
+        → Works F.gives F.may_fail U.tells trusted L.tells L.history L.honest cap book
         (way_of U.history U.is_closed U.count link.old) before core lowers [] [] false
-        → Goes result (λ _. Works F.gives F.may_fail U.tells trusted L.tells L.history L.honest
-        cap faults (way_of U.history U.is_closed U.count link.new) ear.new core lowers [] [] false)
-        (Stops F.gives F.may_fail U.tells trusted cap faults
-        (way_of U.history U.is_closed U.count link.new)) }
+        → Goes result (λ _. Works F.gives F.may_fail U.tells trusted L.tells L.history L.honest cap
+        book (way_of U.history U.is_closed U.count link.new) ear.new core lowers [] [] false)
+        (StopsAt F.gives F.may_fail U.tells trusted L.tells L.history cap book
+        (way_of U.history U.is_closed U.count link.new) lowers) }
     ensures left { LeavesParent result }
 {
     if !link.ready() && !turn {
@@ -169,14 +168,13 @@ fn attend<F: Commands, U: Link<F>, L: Link<F>>(
 ) -> Result<Look, Stop>
     requires works { IsAtWork F.gives F.may_fail U.tells L.tells L.history L.honest
         (way_of U.history U.is_closed U.count link.old) ear.old core.old company.old }
-    ensures goes { (trusted : Bool) (cap faults : ℕ)
-        → Works F.gives F.may_fail U.tells trusted L.tells L.history L.honest cap faults
+    ensures goes { (trusted : Bool) (cap : ℕ) (book : Book L)
+        → Works F.gives F.may_fail U.tells trusted L.tells L.history L.honest cap book
         (way_of U.history U.is_closed U.count link.old) ear.old core.old company.old [] [] false
         → Goes result (λ look. Works F.gives F.may_fail U.tells trusted L.tells L.history L.honest
-        cap faults (way_of U.history U.is_closed U.count link.new) ear.new core.new company.new
-        [] [] (is_over look))
-        (Stops F.gives F.may_fail U.tells trusted cap faults
-        (way_of U.history U.is_closed U.count link.new)) }
+        cap book (way_of U.history U.is_closed U.count link.new) ear.new core.new company.new [] []
+        (is_over look)) (StopsAt F.gives F.may_fail U.tells trusted L.tells L.history cap book
+        (way_of U.history U.is_closed U.count link.new) company.new) }
     ensures left { LeavesParent result }
     ensures many { length company.new ≡ length company.old }
 {
@@ -207,14 +205,13 @@ pub(crate) fn attend_some<F: Commands, U: Link<F>, L: Link<F>>(
 ) -> Result<Look, Stop>
     requires works { IsAtWork F.gives F.may_fail U.tells L.tells L.history L.honest
         (way_of U.history U.is_closed U.count link.old) ear.old core.old company.old }
-    ensures goes { (trusted : Bool) (cap faults : ℕ)
-        → Works F.gives F.may_fail U.tells trusted L.tells L.history L.honest cap faults
+    ensures goes { (trusted : Bool) (cap : ℕ) (book : Book L)
+        → Works F.gives F.may_fail U.tells trusted L.tells L.history L.honest cap book
         (way_of U.history U.is_closed U.count link.old) ear.old core.old company.old [] [] false
         → Goes result (λ look. Works F.gives F.may_fail U.tells trusted L.tells L.history L.honest
-        cap faults (way_of U.history U.is_closed U.count link.new) ear.new core.new company.new
-        [] [] (is_over look))
-        (Stops F.gives F.may_fail U.tells trusted cap faults
-        (way_of U.history U.is_closed U.count link.new)) }
+        cap book (way_of U.history U.is_closed U.count link.new) ear.new core.new company.new [] []
+        (is_over look)) (StopsAt F.gives F.may_fail U.tells trusted L.tells L.history cap book
+        (way_of U.history U.is_closed U.count link.new) company.new) }
     ensures left { LeavesParent result }
     ensures many { length company.new ≡ length company.old }
 {

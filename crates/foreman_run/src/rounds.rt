@@ -1,10 +1,11 @@
 //! A foreman's rounds: it looks at the link to its parent, at each worker's link, and at who has come.
-ghost use Rattle.std.specs.Prelude.{◌≡◌, [], Bool, ℕ, false, true, length};
+ghost use Rattle.std.specs.Prelude.{◌≡◌, ◌+◌, [], Bool, ℕ, false, true, length};
 ghost use Rattle.peer_run.specs.Works.{EarState, way_of};
-ghost use Rattle.foreman_run.specs.Ends.{Goes, LeavesParent, Stops};
+ghost use Rattle.foreman_run.specs.Ends.{Goes, LeavesParent, StopsAt, StopsOver};
 ghost use Rattle.foreman_run.specs.Hosts.{HostsBy, HostsTill};
 ghost use Rattle.foreman_run.specs.Looks.{is_over};
-ghost use Rattle.foreman_run.specs.Works.{IsAtWork, Works};
+ghost use Rattle.foreman_run.specs.Tied.{Book, with_got, with_hall};
+ghost use Rattle.foreman_run.specs.Works.{IsAtHall, IsAtWork, Works};
 
 use crate::company::Company;
 use crate::hearing::hear_at;
@@ -81,14 +82,13 @@ fn hear_some<F: Commands, U: Link<F>, L: Link<F>>(
     requires works { (ear : EarState)
         × IsAtWork F.gives F.may_fail U.tells L.tells L.history L.honest
         (way_of U.history U.is_closed U.count parent.old) ear core.old company.old }
-    ensures goes { (trusted : Bool) (cap faults : ℕ) (ear : EarState)
-        → Works F.gives F.may_fail U.tells trusted L.tells L.history L.honest cap faults
+    ensures goes { (trusted : Bool) (cap : ℕ) (book : Book L) (ear : EarState)
+        → Works F.gives F.may_fail U.tells trusted L.tells L.history L.honest cap book
         (way_of U.history U.is_closed U.count parent.old) ear core.old company.old [] [] false
-        → Goes result (λ _. Works F.gives F.may_fail U.tells trusted L.tells L.history L.honest
-        cap faults (way_of U.history U.is_closed U.count parent.new) ear core.new company.new
-        [] [] false)
-        (Stops F.gives F.may_fail U.tells trusted cap faults
-        (way_of U.history U.is_closed U.count parent.new)) }
+        → Goes result (λ _. Works F.gives F.may_fail U.tells trusted L.tells L.history L.honest cap
+        book (way_of U.history U.is_closed U.count parent.new) ear core.new company.new [] []
+        false) (StopsAt F.gives F.may_fail U.tells trusted L.tells L.history cap book
+        (way_of U.history U.is_closed U.count parent.new) company.new) }
     ensures left { LeavesParent result }
     ensures many { length company.new ≡ length company.old }
 {
@@ -115,14 +115,13 @@ fn hear_all<F: Commands, U: Link<F>, L: Link<F>>(
     requires works { (ear : EarState)
         × IsAtWork F.gives F.may_fail U.tells L.tells L.history L.honest
         (way_of U.history U.is_closed U.count parent.old) ear core.old company.old }
-    ensures goes { (trusted : Bool) (cap faults : ℕ) (ear : EarState)
-        → Works F.gives F.may_fail U.tells trusted L.tells L.history L.honest cap faults
+    ensures goes { (trusted : Bool) (cap : ℕ) (book : Book L) (ear : EarState)
+        → Works F.gives F.may_fail U.tells trusted L.tells L.history L.honest cap book
         (way_of U.history U.is_closed U.count parent.old) ear core.old company.old [] [] false
-        → Goes result (λ _. Works F.gives F.may_fail U.tells trusted L.tells L.history L.honest
-        cap faults (way_of U.history U.is_closed U.count parent.new) ear core.new company.new
-        [] [] false)
-        (Stops F.gives F.may_fail U.tells trusted cap faults
-        (way_of U.history U.is_closed U.count parent.new)) }
+        → Goes result (λ _. Works F.gives F.may_fail U.tells trusted L.tells L.history L.honest cap
+        book (way_of U.history U.is_closed U.count parent.new) ear core.new company.new [] []
+        false) (StopsAt F.gives F.may_fail U.tells trusted L.tells L.history cap book
+        (way_of U.history U.is_closed U.count parent.new) company.new) }
     ensures left { LeavesParent result }
     ensures many { length company.new ≡ length company.old }
 {
@@ -147,20 +146,23 @@ fn lose_all<F: Commands, U: Link<F>, H: Hall<F>>(
     company: &mut Company<F, H::Way>,
     hall: &mut H,
 ) -> Result<bool, Stop>
-    requires works { (ear : EarState)
-        × IsAtWork F.gives F.may_fail U.tells H.Way.tells H.Way.history H.Way.honest
-        (way_of U.history U.is_closed U.count parent.old) ear core.old company.old }
-    ensures goes { (trusted : Bool) (cap faults : ℕ) (ear : EarState)
-        → Works F.gives F.may_fail U.tells trusted H.Way.tells H.Way.history H.Way.honest cap faults
-        (way_of U.history U.is_closed U.count parent.old) ear core.old company.old [] [] false
-        → Goes result (λ _. Works F.gives F.may_fail U.tells trusted H.Way.tells H.Way.history
-        H.Way.honest cap faults (way_of U.history U.is_closed U.count parent.new) ear core.new
-        company.new [] [] false)
-        (Stops F.gives F.may_fail U.tells trusted cap faults
-        (way_of U.history U.is_closed U.count parent.new)) }
+    requires works { (ear : EarState) × (upto : ℕ)
+        × IsAtHall F.gives F.may_fail U.tells H.Way.tells H.Way.history H.Way.honest
+        (H.got hall.old) upto (way_of U.history U.is_closed U.count parent.old) ear core.old
+        company.old }
+    ensures goes { (trusted : Bool) (cap : ℕ) (book : Book H.Way) (ear : EarState)
+        → Works F.gives F.may_fail U.tells trusted H.Way.tells H.Way.history H.Way.honest cap
+        (with_got book (H.got hall.old)) (way_of U.history U.is_closed U.count parent.old) ear
+        core.old company.old [] [] false → Goes result
+        (λ _. Works F.gives F.may_fail U.tells trusted H.Way.tells H.Way.history H.Way.honest cap
+        (with_got book (H.got hall.new)) (way_of U.history U.is_closed U.count parent.new) ear
+        core.new company.new [] [] false) (StopsAt F.gives F.may_fail U.tells trusted H.Way.tells
+        H.Way.history cap (with_got book (H.got hall.new))
+        (way_of U.history U.is_closed U.count parent.new) company.new) }
     ensures hosts { HostsBy (H.count hall.old) (H.count hall.new) (H.got hall.old)
         (H.got hall.new) (H.given hall.old) (H.given hall.new) (length company.old)
         (length company.new) result }
+    ensures given { H.given hall.new ≡ H.given hall.old }
     ensures listens { H.listens hall.old → H.listens hall.new }
     ensures honest { H.honest hall.old → H.honest hall.new }
 {
@@ -184,20 +186,23 @@ fn tend<F: Commands, U: Link<F>, H: Hall<F>>(
     hall: &mut H,
     turn: bool,
 ) -> Result<bool, Stop>
-    requires works { (ear : EarState)
-        × IsAtWork F.gives F.may_fail U.tells H.Way.tells H.Way.history H.Way.honest
-        (way_of U.history U.is_closed U.count parent.old) ear core.old company.old }
-    ensures goes { (trusted : Bool) (cap faults : ℕ) (ear : EarState)
-        → Works F.gives F.may_fail U.tells trusted H.Way.tells H.Way.history H.Way.honest cap faults
-        (way_of U.history U.is_closed U.count parent.old) ear core.old company.old [] [] false
-        → Goes result (λ _. Works F.gives F.may_fail U.tells trusted H.Way.tells H.Way.history
-        H.Way.honest cap faults (way_of U.history U.is_closed U.count parent.new) ear core.new
-        company.new [] [] false)
-        (Stops F.gives F.may_fail U.tells trusted cap faults
-        (way_of U.history U.is_closed U.count parent.new)) }
+    requires works { (ear : EarState) × (upto : ℕ)
+        × IsAtHall F.gives F.may_fail U.tells H.Way.tells H.Way.history H.Way.honest
+        (H.got hall.old) upto (way_of U.history U.is_closed U.count parent.old) ear core.old
+        company.old }
+    ensures goes { (trusted : Bool) (cap : ℕ) (book : Book H.Way) (ear : EarState)
+        → Works F.gives F.may_fail U.tells trusted H.Way.tells H.Way.history H.Way.honest cap
+        (with_got book (H.got hall.old)) (way_of U.history U.is_closed U.count parent.old) ear
+        core.old company.old [] [] false → Goes result
+        (λ _. Works F.gives F.may_fail U.tells trusted H.Way.tells H.Way.history H.Way.honest cap
+        (with_got book (H.got hall.new)) (way_of U.history U.is_closed U.count parent.new) ear
+        core.new company.new [] [] false) (StopsAt F.gives F.may_fail U.tells trusted H.Way.tells
+        H.Way.history cap (with_got book (H.got hall.new))
+        (way_of U.history U.is_closed U.count parent.new) company.new) }
     ensures hosts { HostsBy (H.count hall.old) (H.count hall.new) (H.got hall.old)
         (H.got hall.new) (H.given hall.old) (H.given hall.new) (length company.old)
         (length company.new) result }
+    ensures given { H.given hall.new ≡ H.given hall.old }
     ensures listens { H.listens hall.old → H.listens hall.new }
     ensures honest { H.honest hall.old → H.honest hall.new }
 {
@@ -218,24 +223,28 @@ fn host<F: Commands, U: Link<F>, H: Hall<F>>(
     core: &mut ForemanCore,
     company: &mut Company<F, H::Way>,
     hall: &mut H,
+    numbered: &mut u32,
     turn: bool,
 ) -> Result<bool, Stop>
-    requires works { (ear : EarState)
-        × IsAtWork F.gives F.may_fail U.tells H.Way.tells H.Way.history H.Way.honest
+    requires works { (ear : EarState) × IsAtHall F.gives F.may_fail U.tells H.Way.tells
+        H.Way.history H.Way.honest (H.got hall.old) numbered.old
         (way_of U.history U.is_closed U.count parent.old) ear core.old company.old }
     requires listens { H.listens hall.old }
-    ensures goes { (trusted : Bool) (cap faults : ℕ) (ear : EarState)
+    ensures goes { (trusted : Bool) (cap : ℕ) (book : Book H.Way) (ear : EarState)
         → (trusted ≡ true → H.honest hall.old)
-        → Works F.gives F.may_fail U.tells trusted H.Way.tells H.Way.history H.Way.honest cap faults
+        → Works F.gives F.may_fail U.tells trusted H.Way.tells H.Way.history H.Way.honest cap
+        (with_hall book (H.got hall.old) numbered.old)
         (way_of U.history U.is_closed U.count parent.old) ear core.old company.old [] [] false
         → Goes result (λ _. Works F.gives F.may_fail U.tells trusted H.Way.tells H.Way.history
-        H.Way.honest cap faults (way_of U.history U.is_closed U.count parent.new) ear core.new
-        company.new [] [] false)
-        (Stops F.gives F.may_fail U.tells trusted cap faults
-        (way_of U.history U.is_closed U.count parent.new)) }
+        H.Way.honest cap (with_hall book (H.got hall.new) numbered.new)
+        (way_of U.history U.is_closed U.count parent.new) ear core.new company.new [] [] false)
+        (StopsAt F.gives F.may_fail U.tells trusted H.Way.tells H.Way.history cap
+        (with_hall book (H.got hall.new) numbered.new)
+        (way_of U.history U.is_closed U.count parent.new) company.new) }
     ensures hosts { HostsBy (H.count hall.old) (H.count hall.new) (H.got hall.old)
         (H.got hall.new) (H.given hall.old) (H.given hall.new) (length company.old)
         (length company.new) result }
+    ensures counted { numbered.new + H.given hall.old ≡ numbered.old + H.given hall.new }
     ensures listens { H.listens hall.new }
     ensures honest { H.honest hall.old → H.honest hall.new }
 {
@@ -243,7 +252,7 @@ fn host<F: Commands, U: Link<F>, H: Hall<F>>(
         Ok(did) => did,
         Err(stop) => return Err(stop),
     };
-    match meet::<F, H>(alloc, company, hall, turn) {
+    match meet::<F, H>(alloc, company, hall, numbered, turn) {
         Ok(came) => Ok(did || came),
         Err(stop) => Err(stop),
     }
@@ -258,23 +267,28 @@ fn round<F: Commands, U: Link<F>, H: Hall<F>>(
     core: &mut ForemanCore,
     company: &mut Company<F, H::Way>,
     hall: &mut H,
+    numbered: &mut u32,
     pace: &mut Pace,
 ) -> Result<bool, Stop>
-    requires works { IsAtWork F.gives F.may_fail U.tells H.Way.tells H.Way.history H.Way.honest
-        (way_of U.history U.is_closed U.count parent.old) ear.old core.old company.old }
+    requires works { IsAtHall F.gives F.may_fail U.tells H.Way.tells H.Way.history H.Way.honest
+        (H.got hall.old) numbered.old (way_of U.history U.is_closed U.count parent.old) ear.old
+        core.old company.old }
     requires listens { H.listens hall.old }
-    ensures goes { (trusted : Bool) (cap faults : ℕ)
+    ensures goes { (trusted : Bool) (cap : ℕ) (book : Book H.Way)
         → (trusted ≡ true → H.honest hall.old)
-        → Works F.gives F.may_fail U.tells trusted H.Way.tells H.Way.history H.Way.honest cap faults
+        → Works F.gives F.may_fail U.tells trusted H.Way.tells H.Way.history H.Way.honest cap
+        (with_hall book (H.got hall.old) numbered.old)
         (way_of U.history U.is_closed U.count parent.old) ear.old core.old company.old [] [] false
         → Goes result (Works F.gives F.may_fail U.tells trusted H.Way.tells H.Way.history
-        H.Way.honest cap faults (way_of U.history U.is_closed U.count parent.new) ear.new core.new
-        company.new [] [])
-        (Stops F.gives F.may_fail U.tells trusted cap faults
-        (way_of U.history U.is_closed U.count parent.new)) }
+        H.Way.honest cap (with_hall book (H.got hall.new) numbered.new)
+        (way_of U.history U.is_closed U.count parent.new) ear.new core.new company.new [] [])
+        (StopsAt F.gives F.may_fail U.tells trusted H.Way.tells H.Way.history cap
+        (with_hall book (H.got hall.new) numbered.new)
+        (way_of U.history U.is_closed U.count parent.new) company.new) }
     ensures hosts { HostsBy (H.count hall.old) (H.count hall.new) (H.got hall.old)
         (H.got hall.new) (H.given hall.old) (H.given hall.new) (length company.old)
         (length company.new) result }
+    ensures counted { numbered.new + H.given hall.old ≡ numbered.old + H.given hall.new }
     ensures listens { H.listens hall.new }
     ensures honest { H.honest hall.old → H.honest hall.new }
 {
@@ -292,7 +306,7 @@ fn round<F: Commands, U: Link<F>, H: Hall<F>>(
         Look::Bytes => true,
         Look::Nothing => false,
     };
-    match host(alloc, parent, core, company, hall, turn) {
+    match host(alloc, parent, core, company, hall, numbered, turn) {
         Ok(did) => {
             pace.note(busy || did);
             Ok(false)
@@ -311,22 +325,35 @@ pub(crate) fn serve<W: Wait, F: Commands, U: Link<F>, H: Hall<F>>(
     company: &mut Company<F, H::Way>,
     hall: &mut H,
 ) -> Stop
-    requires works { IsAtWork F.gives F.may_fail U.tells H.Way.tells H.Way.history H.Way.honest
-        (way_of U.history U.is_closed U.count parent.old) ear.old core.old company.old }
+    requires works { IsAtHall F.gives F.may_fail U.tells H.Way.tells H.Way.history H.Way.honest
+        (H.got hall.old) 0 (way_of U.history U.is_closed U.count parent.old) ear.old core.old
+        company.old }
     requires listens { H.listens hall.old }
-    ensures stops { (trusted : Bool) (cap faults : ℕ)
+    ensures stops { (trusted : Bool) (cap : ℕ) (book : Book H.Way)
         → (trusted ≡ true → H.honest hall.old)
-        → Works F.gives F.may_fail U.tells trusted H.Way.tells H.Way.history H.Way.honest cap faults
-        (way_of U.history U.is_closed U.count parent.old) ear.old core.old company.old [] [] false
-        → Stops F.gives F.may_fail U.tells trusted cap faults
-        (way_of U.history U.is_closed U.count parent.new) result }
+        → Works F.gives F.may_fail U.tells trusted H.Way.tells H.Way.history H.Way.honest cap
+        (with_hall book (H.got hall.old) 0) (way_of U.history U.is_closed U.count parent.old)
+        ear.old core.old company.old [] [] false
+        → StopsOver F.gives F.may_fail U.tells trusted H.Way.tells H.Way.history cap book
+        (H.got hall.new) (H.given hall.old) (H.given hall.new)
+        (way_of U.history U.is_closed U.count parent.new) company.new result }
     ensures hosts { HostsTill (H.count hall.old) (H.count hall.new) (H.got hall.old)
         (H.got hall.new) (H.given hall.old) (H.given hall.new) (length company.old)
         (length company.new) result }
 {
     let mut pace = Pace::new();
+    let mut numbered = 0;
     for _ in rt.forever() {
-        match round(alloc, parent, ear, core, company, hall, &mut pace) {
+        match round(
+            alloc,
+            parent,
+            ear,
+            core,
+            company,
+            hall,
+            &mut numbered,
+            &mut pace,
+        ) {
             Ok(true) => return Stop::Left(Halt::Bye),
             Ok(false) => pace.pass(hall.rest(pace.rest())),
             Err(stop) => return stop,

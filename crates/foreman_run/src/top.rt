@@ -7,10 +7,11 @@ ghost use Rattle.peer_run.specs.Causes.{foreman_line_of, status_of};
 ghost use Rattle.peer_run.specs.Ended.{IsPrinted};
 ghost use Rattle.peer_run.specs.Works.{way_of};
 ghost use Rattle.foreman_run.specs.Ended.{AreHandedBack, EndsBy, cause_by};
-ghost use Rattle.foreman_run.specs.Ends.{Stops, stop_by};
+ghost use Rattle.foreman_run.specs.Ends.{StopsOver, stop_by};
 ghost use Rattle.foreman_run.specs.Hosts.{LetsGo};
 ghost use Rattle.foreman_run.specs.Met.{hello};
-ghost use Rattle.foreman_run.specs.Works.{IsAtWork, Works};
+ghost use Rattle.foreman_run.specs.Tied.{Book, new_book, with_hall};
+ghost use Rattle.foreman_run.specs.Works.{IsAtHall, Works};
 
 use crate::company::Company;
 use crate::hosting::dismiss;
@@ -78,15 +79,16 @@ fn serve_all<W: Threads + Wait + Sync, F: Commands, U: Link<F>, H: Hall<F>>(
     core: &mut ForemanCore,
     hall: &mut H,
 ) -> Stop
-    requires works { IsAtWork F.gives F.may_fail U.tells H.Way.tells H.Way.history H.Way.honest
-        (way_of U.history U.is_closed U.count parent.old) ear.old core.old [] }
+    requires works { IsAtHall F.gives F.may_fail U.tells H.Way.tells H.Way.history H.Way.honest
+        (H.got hall.old) 0 (way_of U.history U.is_closed U.count parent.old) ear.old core.old [] }
     requires listens { H.listens hall.old }
-    ensures stops { (trusted : Bool) (cap faults : ℕ)
+    ensures stops { (trusted : Bool) (cap : ℕ) (book : Book H.Way)
         → (trusted ≡ true → H.honest hall.old)
-        → Works F.gives F.may_fail U.tells trusted H.Way.tells H.Way.history H.Way.honest cap faults
-        (way_of U.history U.is_closed U.count parent.old) ear.old core.old [] [] [] false
-        → Stops F.gives F.may_fail U.tells trusted cap faults
-        (way_of U.history U.is_closed U.count parent.new) result }
+        → Works F.gives F.may_fail U.tells trusted H.Way.tells H.Way.history H.Way.honest cap
+        (with_hall book (H.got hall.old) 0) (way_of U.history U.is_closed U.count parent.old)
+        ear.old core.old [] [] [] false → StopsOver F.gives F.may_fail U.tells trusted H.Way.tells
+        H.Way.history cap book (H.got hall.new) (H.given hall.old) (H.given hall.new)
+        (way_of U.history U.is_closed U.count parent.new) [] result }
     ensures hosts { LetsGo (H.count hall.old) (H.count hall.new) (H.got hall.old)
         (H.got hall.new) (H.given hall.old) (H.given hall.new) result }
 {
@@ -108,8 +110,9 @@ fn work<W: Threads + Wait + Sync, F: Commands, U: Link<F>, H: Hall<F>>(
 ) -> Stop
     requires fresh { IsFresh U.history U.count U.idle_count U.is_closed parent.old }
     ensures stops { (trusted : Bool) → (trusted ≡ true → H.honest hall.old)
-        → Stops F.gives F.may_fail U.tells trusted cap 0
-        (way_of U.history U.is_closed U.count parent.new) result }
+        → StopsOver F.gives F.may_fail U.tells trusted H.Way.tells H.Way.history cap
+        (new_book (H.got hall.old)) (H.got hall.new) (H.given hall.old) (H.given hall.new)
+        (way_of U.history U.is_closed U.count parent.new) [] result }
     ensures hosts { LetsGo (H.count hall.old) (H.count hall.new) (H.got hall.old)
         (H.got hall.new) (H.given hall.old) (H.given hall.new) result }
 {
@@ -149,10 +152,11 @@ fn work_for<F: Commands, W: Threads + Wait + Sync, D: Dial<F>, H: Hall<F>>(
     dial: &mut D,
     hall: &mut H,
 ) -> Ending<D::Way>
-    ensures ended { EndsBy F.gives F.may_fail D.Way.tells (H.honest hall.old)
-        (way_of D.Way.history D.Way.is_closed D.Way.count)
+    ensures ended { EndsBy F.gives F.may_fail D.Way.tells (H.honest hall.old) H.Way.tells
+        H.Way.history (way_of D.Way.history D.Way.is_closed D.Way.count)
         (foreman_options_of (map string_bytes words.now)) (D.count dial.old) (D.count dial.new)
-        (H.count hall.old) (H.count hall.new) result.link result.cause }
+        (H.count hall.old) (H.count hall.new) (H.got hall.old) (H.got hall.new) (H.given hall.old)
+        (H.given hall.new) result.link result.cause }
     ensures back { AreHandedBack (H.count hall.old) (H.count hall.new) (H.got hall.old)
         (H.got hall.new) (H.given hall.old) (H.given hall.new) result.cause }
 {
@@ -194,11 +198,11 @@ pub fn foreman_top<F: Commands, W: Threads + Wait + Sync, D: Dial<F>, H: Hall<F>
 ) -> PeerEnded<D::Way>
     ensures status { result.status ≡ status_of result.cause }
     ensures ended { (cause : Cause) × EndsBy F.gives F.may_fail D.Way.tells (H.honest hall.old)
-        (way_of D.Way.history D.Way.is_closed D.Way.count)
+        H.Way.tells H.Way.history (way_of D.Way.history D.Way.is_closed D.Way.count)
         (foreman_options_of (map string_bytes words.now)) (D.count dial.old) (D.count dial.new)
-        (H.count hall.old) (H.count hall.new) result.link cause
-        × AreHandedBack (H.count hall.old) (H.count hall.new) (H.got hall.old) (H.got hall.new)
-        (H.given hall.old) (H.given hall.new) cause
+        (H.count hall.old) (H.count hall.new) (H.got hall.old) (H.got hall.new) (H.given hall.old)
+        (H.given hall.new) result.link cause × AreHandedBack (H.count hall.old) (H.count hall.new)
+        (H.got hall.old) (H.got hall.new) (H.given hall.old) (H.given hall.new) cause
         × IsPrinted O.tells (O.count out.old) (O.count out.new) (O.bytes out.old) (O.bytes out.new)
         (foreman_line_of cause) cause result.cause }
 {

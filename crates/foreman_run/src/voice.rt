@@ -39,6 +39,7 @@ fn send_frame<F: Commands, L: Link<F>>(
     requires short { length (spelling message.now) ≤ most_body }
     ensures sent { L.tells
         → OnOk result (Adds (framed message.now) (L.history way.old) (L.history way.new)) }
+    ensures same { L.tells → received_in (L.history way.new) ≡ received_in (L.history way.old) }
     ensures fits { OnOk result (IsFramed message.now) }
     ensures honest { L.honest way.old → L.honest way.new }
 {
@@ -73,6 +74,7 @@ fn send_put<F: Commands, L: Link<F>>(
     requires short { 17 + length content ≤ most_body }
     ensures sent { L.tells → OnOk result
         (Adds (framed (messages.Put key content)) (L.history way.old) (L.history way.new)) }
+    ensures same { L.tells → received_in (L.history way.new) ≡ received_in (L.history way.old) }
     ensures fits { OnOk result (IsFramed (messages.Put key content)) }
     ensures honest { L.honest way.old → L.honest way.new }
 {
@@ -93,6 +95,7 @@ pub(crate) fn send<F: Commands, L: Link<F>>(
     requires short { length (spelling message) ≤ most_body }
     ensures sent { L.tells
         → OnOk result (Adds (framed message) (L.history way.old) (L.history way.new)) }
+    ensures same { L.tells → received_in (L.history way.new) ≡ received_in (L.history way.old) }
     ensures fits { OnOk result (IsFramed message) }
     ensures honest { L.honest way.old → L.honest way.new }
 {

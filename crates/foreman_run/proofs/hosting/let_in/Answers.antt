@@ -1,15 +1,30 @@
-use Rattle.std.proofs.Common.{rules, ◌≡◌, ◌∙◌, ◌++◌, ◌∷◌, [], Bool, true, false, List, None, Result, Ok, sym, ap, subst}
-use Rattle.foreman_run.specs.declared.stop.Stop.{Stop}
-use Rattle.foreman_run.specs.Lowers.{Gains, LowerState}
-use Rattle.foreman_run.proofs.Companies.{one_gained}
+use Rattle.std.proofs.Common.{rules, ◌≡◌, ◌++◌, ◌∷◌, [], refl, subst}
+use Rattle.foreman_run.specs.Lowers.{new_lower}
+use Rattle.foreman_run.specs.Tied.{MayHandBack}
+use Rattle.foreman_run.proofs.Companies.{joined}
+use Rattle.foreman_run.proofs.Tying.{misses_by}
 use Rattle.foreman_run.proofs.hosting.let_in.Goals as goal
 
 pub returns-in-Ok-add-clause-gains : goal.returns-in-Ok-add-clause-gains
 returns-in-Ok-add-clause-gains g c =
-    let old : List (LowerState g.row.H-Way.Denot) = c.args.company.now in
-    let fresh : LowerState g.row.H-Way.Denot = record { link = c.args.link; way = c.args.way; ear = record { rest = []; body = []; stop = None; fed = 0 }; gone = false } in
-    let is : c.in-Ok.lower ≡ fresh = search rules in
+    let old = c.args.company.now in
+    let is : c.in-Ok.lower ≡ new_lower c.args.link c.args.way = search rules in
     let more : c.add.new.self ≡ old ++ c.in-Ok.lower ∷ [] = search rules in
-    subst (λ (xs : List (LowerState g.row.H-Way.Denot)). let r : Result Bool Stop = Ok true in Gains g.H.Way.Link.tells g.H.Way.Link.history g.H.Way.Link.honest (g.H.Way.Link.honest c.args.way) old xs r)
-    (sym (more ∙ ap (λ (l : LowerState g.row.H-Way.Denot). old ++ l ∷ []) is))
-    (one_gained g.H.Way.Link.tells g.H.Way.Link.history g.H.Way.Link.honest Stop old c.args.link c.args.way true c.requires.fresh.nothing_passed)
+    (c.requires.next, refl, joined g.H.Way.Link.tells g.H.Way.Link.history g.H.Way.Link.honest (g.H.Way.Link.honest c.args.way) c.args.numbered.now old c.add.new.self c.args.link c.args.way c.in-Ok.lower c.requires.next c.requires.fresh.nothing_passed (λ is. is) is more)
+
+pub returns-in-Err-clause-gains : goal.returns-in-Err-clause-gains
+returns-in-Err-clause-gains g c =
+    let same : c.in-Err.way ≡ c.args.way = search rules in (
+      misses_by g.H.Way.Link.history c.args.numbered.now c.args.link.0 c.args.link c.args.way (g.H.Hall.got c.args.hall.now) (g.H.Hall.got c.refuse.new.hall) c.requires.next c.requires.next c.requires.fresh.nothing_passed
+          (subst (λ w. MayHandBack c.args.link w (g.H.Hall.got c.args.hall.now) (g.H.Hall.got c.refuse.new.hall)) same c.refuse.ensures.back),
+      refl,
+    )
+
+pub returns-in-Err-add-clause-gains : goal.returns-in-Err-add-clause-gains
+returns-in-Err-add-clause-gains g c =
+    let same : c.into_way.result ≡ c.args.way = search rules in
+    let kept : c.add.new.self ≡ c.args.company.now = search rules in (
+      misses_by g.H.Way.Link.history c.args.numbered.now c.args.link.0 c.args.link c.args.way (g.H.Hall.got c.args.hall.now) (g.H.Hall.got c.refuse-in-Err-add.new.hall) c.requires.next c.requires.next c.requires.fresh.nothing_passed
+          (subst (λ w. MayHandBack c.args.link w (g.H.Hall.got c.args.hall.now) (g.H.Hall.got c.refuse-in-Err-add.new.hall)) same c.refuse-in-Err-add.ensures.back),
+      kept,
+    )

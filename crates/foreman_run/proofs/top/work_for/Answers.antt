@@ -16,6 +16,6 @@ returns-clause-ended g c =
     let is : c.cause_by-cause.result ≡ cause_by (g.D.Way.Link.count c.work-stop.new.parent) (g.H.Hall.count c.args.hall.now) (g.H.Hall.count c.work-stop.new.hall) c.work-stop.result = search rules in (
       c.in-Ok.options,
       c.in-Ok.ensures.ok,
-      has_stopped g.F.Commands.gives g.F.Commands.may_fail g.D.Way.Link.tells (g.H.Hall.honest c.args.hall.now) (cap_by c.in-Ok.options) way (g.H.Hall.count c.args.hall.now) (g.H.Hall.count c.work-stop.new.hall)
+      has_stopped g.F.Commands.gives g.F.Commands.may_fail g.D.Way.Link.tells (g.H.Hall.honest c.args.hall.now) g.H.Way.Link.tells g.H.Way.Link.history (cap_by c.in-Ok.options) way (g.H.Hall.count c.args.hall.now) (g.H.Hall.count c.work-stop.new.hall)
           (g.H.Hall.got c.args.hall.now) (g.H.Hall.got c.work-stop.new.hall) (g.H.Hall.given c.args.hall.now) (g.H.Hall.given c.work-stop.new.hall) c.work-stop.result c.cause_by-cause.result is c.work-stop.ensures.hosts c.work-stop.ensures.stops,
     )

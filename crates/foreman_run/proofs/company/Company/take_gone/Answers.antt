@@ -1,8 +1,8 @@
-use Rattle.std.proofs.Common.{rules, ◌≡◌, ◌<◌, length, sym, subst, arith}
+use Rattle.std.proofs.Common.{rules, ◌≡◌, ◌<◌, ◌∙◌, Some, length, sym, ap, subst, get_or}
 use Rattle.std.specs.Prelude.{remove}
-use Rattle.std.proofs.lemmas.List.Edits.{length-remove}
-use Rattle.foreman_run.specs.Lowers.{Parts}
-use Rattle.foreman_run.proofs.Companies.{taken_out}
+use Rattle.std.proofs.lemmas.Option.{slice_get-get_or}
+use Rattle.foreman_run.specs.Lowers.{LowerState, Parts}
+use Rattle.foreman_run.proofs.Tying.{split_there}
 use Rattle.foreman_run.proofs.company.Company.take_gone.Goals as goal
 
 pub returns-clause-some : goal.returns-clause-some
@@ -11,5 +11,5 @@ returns-clause-some g c =
     let at = c.in_ok-at.at in
     let lt : at < length old = search rules in
     let now : c.remove.new.self.items ≡ remove old at = search rules in
-    subst (Parts g.L.Link.tells g.L.Link.history g.L.Link.honest old) (sym now)
-    (taken_out g.L.Link.tells g.L.Link.history g.L.Link.honest old at (omega (arith, length-remove old at lt)))
+    let value : c.remove.result ≡ get_or old at c.remove.result = search rules in
+    subst (Parts c.remove.result old) (sym now) (split_there old at c.remove.result (slice_get-get_or old at c.remove.result lt ∙ ap (λ (l : LowerState _). Some l) (sym value)))
