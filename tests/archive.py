@@ -322,12 +322,52 @@ def pipes(shelf):
     shelf.give()
 
 
+def huge(shelf):
+    """Under the entry's name stands a file that is longer than any memory, most of it a hole."""
+    job = spelled(f"echo 0 >> {shelf.marks}; cat in > out".encode(), [], [(b"in", b"abc")], [(b"out", 67_108_864)])
+    with open(f"{shelf.shelf}/{entry(job, [b'abc'])[0]}", "wb") as it:
+        it.write(b"\1")
+        it.truncate(1 << 40)
+    shelf.give()
+
+
+def archive_fills():
+    """The archive's disk fills up amid an entry. What was begun is no entry, but takes what room there is; with more room both jobs are kept."""
+    if os.geteuid():
+        print("skipped an archive whose disk fills up: no disk can be mounted", flush=True)
+        return
+    sizes = [20_000, 200_000, 30_000]
+    rules = [(f"head -c {size} /dev/zero > o{at}", ["s"], [f"o{at}"]) for at, size in enumerate(sizes)]
+    made = {f"o{at}": bytes(size) for at, size in enumerate(sizes)}
+    shelf = Shelf({"s": "abc\n"})
+    try:
+        shelf.put_flow(rules)
+        mounted(shelf.shelf, 131_072)
+        words, wrong = ("results", "-j", "1", "flow"), []
+        for ran in ([0, 1, 2], [1, 2]):
+            wrong += shelf.call(0, complete(3), words) + shelf.wrong(made) + shelf.wrong_logs(0)
+            found = shelf.ran()
+            wrong += [] if found == ran else [f"these ran: {found}, not {ran}"]
+            wrong += shelf.clean(3)
+        subprocess.run(["mount", "-o", "remount,size=1048576", shelf.shelf], capture_output=True, check=True)
+        for ran in ([1, 2], []):
+            wrong += shelf.call(0, complete(3), words) + shelf.wrong(made)
+            found = shelf.ran()
+            wrong += [] if found == ran else [f"with room these ran: {found}, not {ran}"]
+            wrong += shelf.clean(3)
+        say("an archive whose disk fills up amid an entry", wrong)
+    finally:
+        subprocess.run(["umount", "-l", shelf.shelf], capture_output=True, check=False)
+        shelf.close()
+
+
 def archive_sick():
     if USER or os.geteuid():
         sick("an archive that may not be written", locked)
         sick("an archive of another owner", lambda shelf: (os.chown(shelf.shelf, 0, 0), os.chmod(shelf.shelf, 0o755)) if USER else locked(shelf))
     sick("an archive that is a file", no_folder)
     sick("a pipe under an entry's name", pipes)
+    sick("a file of 1 TiB under an entry's name", huge, ran=1)
     if os.geteuid() == 0:
         sick("an archive on a full disk", full, lambda shelf: subprocess.run(["umount", "-l", shelf.shelf], capture_output=True, check=False))
     else:
@@ -461,5 +501,5 @@ def archive_away():
         shelf.close()
 
 
-GROUPS = [archive_first, archive_format, archive_changes, archive_failures, archive_words, archive_kills, archive_damage, archive_sick, archive_meets,
+GROUPS = [archive_first, archive_format, archive_changes, archive_failures, archive_words, archive_kills, archive_damage, archive_sick, archive_fills, archive_meets,
           archive_large, archive_prunes, archive_shapes, archive_away]
