@@ -1,0 +1,5 @@
+pub mod Positions
+pub mod Times
+pub mod Staging
+pub mod Sizes
+pub mod Rising

@@ -1,0 +1,16 @@
+use Rattle.std.proofs.Common.{List, sym, ap, subst}
+use Rattle.task_book.specs.declared.task.Held.{Held}
+use Rattle.task_book.specs.Kept.{Kept}
+use Rattle.task_book.specs.Stages.{EndsWith, RunsOn}
+use Rattle.task_book.proofs.Staging.{place_ended_ends, place_ended_runs}
+use Rattle.task_book.proofs.book.Book.end.Goals as goal
+
+pub returns-clause-runs : goal.returns-clause-runs
+returns-clause-runs c =
+    let held = c.args.self.now.held in
+    subst (λ (new : List Held). RunsOn held new) (sym (ap (λ (k : Kept). k.held) c.stage.ensures.held)) (place_ended_runs held c.args.id c.args.attempt c.args.outcome)
+
+pub returns-clause-ends : goal.returns-clause-ends
+returns-clause-ends c =
+    let held = c.args.self.now.held in
+    subst (λ (new : List Held). EndsWith held new c.args.attempt c.args.outcome) (sym (ap (λ (k : Kept). k.held) c.stage.ensures.held)) (place_ended_ends held c.args.id c.args.attempt c.args.outcome)

@@ -1,0 +1,5 @@
+pub mod Submissions
+pub mod Kept
+pub mod Stages
+pub mod Lines
+pub mod Books
