@@ -1,0 +1,4 @@
+pub mod Reading
+pub mod Entry
+pub mod Premises
+pub mod Made
