@@ -1,6 +1,6 @@
 -- What a foreman has come to, step by step.
 use Rattle.std.proofs.Common.{◌≡◌, ◌≤◌, ℕ, ◌+◌, ◌-◌, Bool, true, false, List, [], ◌∷◌, ◌++◌, length, Option, Some, None, Result, Ok, Err, inl, inr, refl, sym, ap, ◌∙◌, subst, append_assoc, append-nil, arith}
-use Rattle.std.specs.Prelude.{◌||◌, slice_get, slice_set}
+use Rattle.std.specs.Prelude.{◌||◌, ◌⊎◌, nat_lt, is_some, slice_get, slice_set}
 use Rattle.std.proofs.lemmas.List.{length-append}
 use Rattle.flow_types.specs.declared.job.Failure.{Failure}
 use Rattle.flow_types.specs.declared.job.Job.{Job}
@@ -15,7 +15,10 @@ use Rattle.links.specs.Honesty.{IsHonestThroughout}
 use Rattle.links.specs.Passings.{Receives, received_in, sent_in}
 use Rattle.links.specs.Peers.{IsRightLink, MaySay}
 use Rattle.message_forms.proofs.Parses.{carries_next, frames_append, framed_append}
-use Rattle.message_forms.specs.Streams.{AreFramed, BeginsWith, Carries, IsBroken, IsFramed, framed, frames_of}
+use Rattle.message_forms.specs.Streams.{AreFramed, BeginsWith, Carries, IsBroken, IsFramed, IsStream, framed, frames_of}
+use Rattle.links.specs.Ill.{IsHello}
+use Rattle.flow_types.specs.declared.messages.Message.TheVariants as messages
+use Rattle.wq_messages.specs.Heads.{head_of}
 use Rattle.outside.specs.Causes.{HasCause}
 use Rattle.outside.specs.declared.fault.Fault.{Fault}
 use Rattle.outside.specs.declared.fault.Fault.TheVariants as outside
@@ -24,7 +27,7 @@ use Rattle.peers.specs.Serves.{WasHonest}
 use Rattle.worker_core.specs.Workers.{goes_up}
 use Rattle.wq_messages.specs.Views.{shown}
 use Rattle.foreman_core.specs.declared.acts.Down.{Down}
-use Rattle.foreman_core.specs.Foremen.{Foreman, new_foreman}
+use Rattle.foreman_core.specs.Foremen.{Foreman, most_links, new_foreman}
 use Rattle.foreman_core.specs.Members.{Every, Stands}
 use Rattle.foreman_core.specs.Steps.{hears_down, hears_up, loses}
 use Rattle.foreman_core.proofs.Members.{every_append, every_nil, every_one, every_set, get_stands, stands_left, stands_right}
@@ -37,12 +40,18 @@ use Rattle.peer_run.proofs.Going.{frames_len, frames_more}
 use Rattle.foreman_run.specs.declared.stop.Stop.{Stop}
 use Rattle.foreman_run.specs.declared.stop.Stop.TheVariants as stops
 use Rattle.foreman_run.specs.Ends.{FailsBy, IsFound, LeavesHall, MayStop, StopsAt, StopsOver}
-use Rattle.foreman_run.specs.Lowers.{AnswersBelow, AreHeld, AreHonest, Gains, HearsOn, IsHeld, Keeps, KeepsWith, LowerState, Parts, Passes, Went, from_link, over}
-use Rattle.foreman_run.specs.Met.{Met, above, below, lost, foreman_of, goes_wrong, has_left, heard_of, hello, led_by, sent_of, told_of}
-use Rattle.foreman_run.specs.Tied.{AreTied, Book, new_book, with_due, with_got, with_hall}
+use Rattle.foreman_run.specs.Lost.{IsHelloFirst, Seen, refused_by}
+use Rattle.foreman_run.specs.Lost as loss
+use Rattle.foreman_run.specs.Lowers.{AnswersBelow, AreHeld, AreHonest, Gains, HearsOn, IsHeld, IsLost, Keeps, KeepsWith, LowerState, Parts, Passes, Went, from_link, over}
+use Rattle.foreman_run.specs.Met.{Met, Roll, above, below, lost, foreman_of, goes_wrong, has_left, heard_of, hello, led_by, one_if, roll_of, sent_of, there_under, told_of}
+use Rattle.foreman_run.specs.Tied.{AreTied, Book, MayHandBack, new_book, with_due, with_got, with_hall}
+use Rattle.foreman_run.specs.Workers.{IsJoined}
 use Rattle.foreman_run.specs.Works.{Works}
+use Rattle.foreman_run.proofs.Losses.{full_now, lost_more, misspoken_more}
+use Rattle.foreman_run.proofs.Lowering.{came_next, gone_held, refused_next, still_held}
+use Rattle.foreman_run.proofs.Workers.{Decides, IsLedDown, Misspeaks, down_workers, hello_there, lost_workers, up_workers}
 use Rattle.foreman_run.proofs.Companies.{held_joined, honest_joined, kept_at}
-use Rattle.foreman_run.proofs.Tying.{every_parts, from_next, from_none, from_same, set_apart, tied_above, tied_back, tied_below, tied_first, tied_hall, tied_joined, tied_kept, tied_lost, tied_missing, tied_not, tied_refused, unmet_number}
+use Rattle.foreman_run.proofs.Tying.{every_parts, held_stands, one_is, stands_parts, from_next, from_none, from_same, set_apart, tied_above, tied_back, tied_below, tied_first, tied_hall, tied_joined, tied_kept, tied_lost, tied_missing, tied_not, tied_refused, unmet_number}
 use Rattle.foreman_run.proofs.Honest.{answered_more, came_answered, step_may}
 
 -- why a foreman stops where a call of the link to its parent failed so
@@ -61,38 +70,50 @@ went_more : (sent more : List Down) (k : LinkNo) (m : Message) → Went sent k m
 went_more sent more k m (inl is) = inl is
 went_more sent more k m (inr there) = inr (stands_left (over k m) sent more there)
 
-held_one_more : {L : Type 0} (tells : Type 0) (history : L → List Passed) (sent more : List Down) (heard : List Message) (l : LowerState L) → IsHeld tells history sent heard l → IsHeld tells history (sent ++ more) heard l
-held_one_more tells history sent more heard l is stays t =
-    let p = is stays t in
-    record {
-      said = p.said;
-      said_framed = p.said_framed;
-      are_sent = p.are_sent;
-      went = λ m there. went_more sent more l.link m (p.went m there);
-      came = p.came;
-    }
+-- A link on which nothing was met holds after a step that leaves its worker there.
+held_step : {L : Type 0} (tells : Type 0) (seen : L → Seen) (cap : ℕ) (met : Met) (past : List Met) (heard : List Message) (l : LowerState L)
+    → (1 ≤ there_under l.link.0 (foreman_of cap past).links → 1 ≤ there_under l.link.0 (foreman_of cap (met ∷ past)).links)
+    → IsHeld tells seen (roll_of cap past) heard l → IsHeld tells seen (roll_of cap (met ∷ past)) heard l
+held_step tells seen cap met past heard l stay is = record {
+  placed = λ stays. placed_step (is.placed stays);
+  passes = λ stays t.
+      let p = is.passes stays t in
+      record {
+        said = p.said;
+        said_framed = p.said_framed;
+        are_sent = p.are_sent;
+        went = λ m there. went_more (sent_of cap past) (led_by (foreman_of cap past) met).acts.down l.link m (p.went m there);
+        came = p.came;
+        unheard = p.unheard;
+        early = p.early;
+        refused = p.refused;
+      };
+  lost = λ gone starved t. lost_more cap met past l.link (seen l.way) (is.lost gone starved t);
+}
+  where
+    placed_step : (heard ≡ []) ⊎ (1 ≤ there_under l.link.0 (foreman_of cap past).links) → (heard ≡ []) ⊎ (1 ≤ there_under l.link.0 (foreman_of cap (met ∷ past)).links)
+    placed_step (inl none) = inl none
+    placed_step (inr there) = inr (stay there)
 
-pub held_more : {L : Type 0} (tells : Type 0) (history : L → List Passed) (sent more told : List Down) (lowers : List (LowerState L)) → AreHeld tells history sent told lowers → AreHeld tells history (sent ++ more) told lowers
-held_more tells history sent more told lowers all = λ l there. held_one_more tells history sent more (from_link l.link.0 told) l (all l there)
-
--- a link over which one message more was taken
-took_one : {L : Type 0} (history : L → List Passed) (sent : List Down) (heard : List Message) (old new : LowerState L) → new.link ≡ old.link → new.way ≡ old.way
-    → Advanced old.ear (Ok true) new.ear → Passes (history old.way) old.ear old.link sent heard → Passes (history new.way) new.ear new.link sent (heard ++ shown new.ear.body ∷ [])
-took_one history sent heard old new link way took p = record {
+-- a link over which one message more was taken, which is a step
+took_one : {L : Type 0} (seen : L → Seen) (roll now : Roll) (heard : List Message) (old new : LowerState L) → new.link ≡ old.link → new.way ≡ old.way → Advanced old.ear (Ok true) new.ear → new.care.greeted ≡ true
+    → new.care.refused ≤ refused_by old.care.refused (head_of (shown new.ear.body))
+    → ((m : Message) → Went roll.down old.link m → Went now.down old.link m) → Passes (seen old.way).history old.ear old.care old.link roll heard → Passes (seen new.way).history new.ear new.care new.link now (heard ++ shown new.ear.body ∷ [])
+took_one seen roll now heard old new link way took greeted refused more p = record {
   said = p.said;
   said_framed = p.said_framed;
-  are_sent = ap (λ w. sent_in (history w)) way ∙ p.are_sent;
-  went = λ m there. subst (λ k. Went sent k m) (sym link) (p.went m there);
-  came = record {
-    framed_all = framed_append heard (shown new.ear.body ∷ []) p.came.framed_all (took.0, tt);
-    are = ap (λ w. received_in (history w)) way ∙ p.came.are ∙ ap (λ r. frames_of heard ++ r) took.1 ∙ frames_more heard (shown new.ear.body) new.ear.rest;
-  };
+  are_sent = ap (λ w. sent_in (seen w).history) way ∙ p.are_sent;
+  went = λ m here. subst (λ k. Went now.down k m) (sym link) (more m (p.went m here));
+  came = subst (λ w. IsStream (received_in (seen w).history) (heard ++ shown new.ear.body ∷ []) new.ear.rest) (sym way) (came_next (received_in (seen old.way).history) heard (shown new.ear.body) old.ear new.ear took refl p.came);
+  unheard = λ g. absurd (let wrong : ⊥ = cc (sym greeted ∙ g) in wrong);
+  early = λ g. absurd (let wrong : ⊥ = cc (sym greeted ∙ g) in wrong);
+  refused = refused_next old.care.refused new.care.refused heard (shown new.ear.body) p.refused refused;
 }
 
-module _ {L : Type 0} (gives : Function) (may_fail : Job → Failure → Type 0) (tells : Type 0) (trusted : Bool) (below_tells : Type 0) (history : L → List Passed) (honest : L → Type 0) (cap : ℕ) (book : Book L) where
+module _ {L : Type 0} (gives : Function) (may_fail : Job → Failure → Type 0) (tells : Type 0) (trusted : Bool) (below_tells : Type 0) (seen : L → Seen) (honest : L → Type 0) (cap : ℕ) (book : Book L) where
   -- it has come to this
   abbrev pub At : Way → EarState → Foreman → List (LowerState L) → List Message → List Down → Bool → Type 0
-  At way ear core lowers owed due left = Works gives may_fail tells trusted below_tells history honest cap book way ear core lowers owed due left
+  At way ear core lowers owed due left = Works gives may_fail tells trusted below_tells seen honest cap book way ear core lowers owed due left
 
   -- what goes on, as it is found
   pub found_now : (way : Way) (ear : EarState) (core : Foreman) (lowers : List (LowerState L)) (owed : List Message) (due : List Down) (left : Bool) → (w : At way ear core lowers owed due left)
@@ -107,7 +128,7 @@ module _ {L : Type 0} (gives : Function) (may_fail : Job → Failure → Type 0)
 
   -- Memory was wanting.
   pub wants : (way : Way) (ear : EarState) (core : Foreman) (lowers : List (LowerState L)) (owed : List Message) (due : List Down) (left : Bool) → At way ear core lowers owed due left
-      → StopsAt gives may_fail tells trusted below_tells history cap book way lowers (stops.Left halts.Memory)
+      → StopsAt gives may_fail tells trusted below_tells seen cap book way lowers (stops.Left halts.Memory)
   wants way ear core lowers owed due left w = record { stops = record { past = w.past; found = found_now way ear core lowers owed due left w; why = w.closed }; tied = w.tied }
 
   -- The hall failed, or memory was wanting there.
@@ -120,7 +141,7 @@ module _ {L : Type 0} (gives : Function) (may_fail : Job → Failure → Type 0)
   hall_why way past (stops.Left (halts.Bad at)) is closed stays = absurd is
 
   -- The work is over.
-  pub is_over : (way : Way) (ear : EarState) (core : Foreman) (lowers : List (LowerState L)) → At way ear core lowers [] [] true → StopsAt gives may_fail tells trusted below_tells history cap book way lowers (stops.Left halts.Bye)
+  pub is_over : (way : Way) (ear : EarState) (core : Foreman) (lowers : List (LowerState L)) → At way ear core lowers [] [] true → StopsAt gives may_fail tells trusted below_tells seen cap book way lowers (stops.Left halts.Bye)
   is_over way ear core lowers w = record {
     stops = record {
       past = w.past;
@@ -132,7 +153,7 @@ module _ {L : Type 0} (gives : Function) (may_fail : Job → Failure → Type 0)
 
   -- The grammar is left.
   pub is_broken : (way : Way) (ear : EarState) (core : Foreman) (lowers : List (LowerState L)) (at : ℕ) → at ≡ ear.fed - length ear.rest → IsBroken ear.rest → At way ear core lowers [] [] false
-      → StopsAt gives may_fail tells trusted below_tells history cap book way lowers (stops.Left (halts.Bad at))
+      → StopsAt gives may_fail tells trusted below_tells seen cap book way lowers (stops.Left (halts.Bad at))
   is_broken way ear core lowers at is broken w = record {
     stops = record {
       past = w.past;
@@ -144,7 +165,7 @@ module _ {L : Type 0} (gives : Function) (may_fail : Job → Failure → Type 0)
 
   -- A message comes that only goes up.
   pub is_amiss : (way : Way) (ear next : EarState) (core : Foreman) (lowers : List (LowerState L)) (at : ℕ) (m : Message) → at ≡ ear.fed - length ear.rest → Takes ear (Ok (Some m)) next → goes_up m ≡ true
-      → At way ear core lowers [] [] false → StopsAt gives may_fail tells trusted below_tells history cap book way lowers (stops.Left (halts.Bad at))
+      → At way ear core lowers [] [] false → StopsAt gives may_fail tells trusted below_tells seen cap book way lowers (stops.Left (halts.Bad at))
   is_amiss way ear next core lowers at m is took up w = record {
     stops = record {
       past = w.past;
@@ -158,7 +179,7 @@ module _ {L : Type 0} (gives : Function) (may_fail : Job → Failure → Type 0)
 
   -- The parent has closed the link.
   pub is_closed : (old new : Way) (ear next : EarState) (core : Foreman) (lowers : List (LowerState L)) → Takes ear (Ok None) next → (tells → new.history ≡ old.history) → new.closed ≡ true
-      → At old ear core lowers [] [] false → StopsAt gives may_fail tells trusted below_tells history cap book new lowers (stops.Left halts.Closed)
+      → At old ear core lowers [] [] false → StopsAt gives may_fail tells trusted below_tells seen cap book new lowers (stops.Left halts.Closed)
   is_closed old new ear next core lowers took same closed w = record {
     stops = record {
       past = w.past;
@@ -184,7 +205,7 @@ module _ {L : Type 0} (gives : Function) (may_fail : Job → Failure → Type 0)
 
   -- Waiting for bytes failed, or those that came couldn't be kept.
   pub hears_not : (old new : Way) (ear : EarState) (core : Foreman) (lowers : List (LowerState L)) (got : Result Got Fault) (stop : Stop) → (tells → Receives got old.history new.history)
-      → new.closed ≡ false → FailsBy book.faults new stop → At old ear core lowers [] [] false → StopsAt gives may_fail tells trusted below_tells history cap book new lowers stop
+      → new.closed ≡ false → FailsBy book.faults new stop → At old ear core lowers [] [] false → StopsAt gives may_fail tells trusted below_tells seen cap book new lowers stop
   hears_not old new ear core lowers got stop received closed fails w = record {
     stops = record {
       past = w.past;
@@ -235,6 +256,7 @@ module _ {L : Type 0} (gives : Function) (may_fail : Job → Failure → Type 0)
     may = λ t trust. tt;
     goes_down = w.goes_down;
     answered = w.answered;
+    joined = w.joined;
     held = w.held;
     tied = w.tied;
     all_honest = w.all_honest;
@@ -262,6 +284,7 @@ module _ {L : Type 0} (gives : Function) (may_fail : Job → Failure → Type 0)
     may = λ t trust. tt;
     goes_down = w.goes_down;
     answered = w.answered;
+    joined = w.joined;
     held = w.held;
     tied = w.tied;
     all_honest = w.all_honest;
@@ -276,10 +299,11 @@ module _ {L : Type 0} (gives : Function) (may_fail : Job → Failure → Type 0)
       → AreFramed (heard_of (met ∷ w.past)) → Every (λ told. IsFramed told.message) (told_of (met ∷ w.past)) → next.fed ≡ length (frames_of (heard_of (met ∷ w.past))) + length next.rest
       → (tells → received_in way.history ≡ frames_of (heard_of (met ∷ w.past)) ++ next.rest)
       → (trusted ≡ true → Every (AnswersBelow gives may_fail (sent_of cap (met ∷ w.past))) (told_of (met ∷ w.past)))
-      → AreHeld below_tells history (sent_of cap (met ∷ w.past)) (told_of (met ∷ w.past)) now → (trusted ≡ true → AreHonest honest now)
-      → (then : Book L) → then.faults ≡ book.faults → AreTied below_tells history (met ∷ w.past) now then
-      → Works gives may_fail tells trusted below_tells history honest cap then way next (led_by core met).foreman now (led_by core met).acts.up (led_by core met).acts.down (has_left (met ∷ w.past))
-  stepped way ear next core lowers now met w fine going heard told fed stream answered held all_honest then same tied = record {
+      → Every (IsJoined (sent_of cap (met ∷ w.past)) (told_of (met ∷ w.past))) (foreman_of cap (met ∷ w.past)).links
+      → AreHeld below_tells seen (roll_of cap (met ∷ w.past)) (told_of (met ∷ w.past)) now → (trusted ≡ true → AreHonest honest now)
+      → (then : Book L) → then.faults ≡ book.faults → AreTied below_tells seen cap (met ∷ w.past) now then
+      → Works gives may_fail tells trusted below_tells seen honest cap then way next (led_by core met).foreman now (led_by core met).acts.up (led_by core met).acts.down (has_left (met ∷ w.past))
+  stepped way ear next core lowers now met w fine going heard told fed stream answered joined held all_honest then same tied = record {
     past = met ∷ w.past;
     core_is = ap (λ c. (led_by c met).foreman) w.core_is;
     in_order = (w.in_order, sym w.left_is, fine);
@@ -298,6 +322,7 @@ module _ {L : Type 0} (gives : Function) (may_fail : Job → Failure → Type 0)
     goes_down = subst (λ c. Every (λ d. Stands d (sent_of cap (met ∷ w.past))) (led_by c met).acts.down) (sym w.core_is)
         (λ d there. stands_right d (sent_of cap w.past) (led_by (foreman_of cap w.past) met).acts.down there);
     answered = answered;
+    joined = joined;
     held = held;
     tied = tied;
     all_honest = all_honest;
@@ -320,14 +345,18 @@ module _ {L : Type 0} (gives : Function) (may_fail : Job → Failure → Type 0)
       (omega (arith, took.3, w.fed_is, ap length took.1, length-append (framed m) next.rest, frames_len (heard_of past) m))
       (λ t. w.stream t ∙ ap (λ (r : List ℕ). frames_of (heard_of past) ++ r) took.1 ∙ frames_more (heard_of past) m next.rest)
       (λ trust. stays_answered past (above m) (told_of past) (w.answered trust))
-      (held_more below_tells history (sent_of cap past) (led_by (foreman_of cap past) (above m)).acts.down (told_of past) lowers w.held) w.all_honest
-      book refl (tied_above below_tells history past m lowers book w.tied))
+      (up_workers (sent_of cap past) (told_of past) (foreman_of cap past) m w.joined).0
+      (λ l there. held_step below_tells seen cap (above m) past (from_link l.link.0 (told_of past)) l
+      (λ le. subst (λ n. 1 ≤ n) (sym ((up_workers (sent_of cap past) (told_of past) (foreman_of cap past) m w.joined).1 l.link.0)) le) (w.held l there)) w.all_honest
+      book refl (tied_above below_tells seen cap past m lowers book w.tied))
 
   -- A message came from below, over the link at this place.
-  pub heard_down : (way : Way) (ear : EarState) (core : Foreman) (lowers : List (LowerState L)) (at : ℕ) (old new : LowerState L) → ((link : L) → honest link → below_tells × WasHonest gives may_fail (history link))
-      → slice_get lowers at ≡ Some old → new.link ≡ old.link → new.way ≡ old.way → old.gone ≡ false → Advanced old.ear (Ok true) new.ear → At way ear core lowers [] [] false
+  pub heard_down : (way : Way) (ear : EarState) (core : Foreman) (lowers : List (LowerState L)) (at : ℕ) (old new : LowerState L) → ((link : L) → honest link → below_tells × WasHonest gives may_fail (seen link).history)
+      → slice_get lowers at ≡ Some old → new.link ≡ old.link → new.way ≡ old.way → old.gone ≡ false → Advanced old.ear (Ok true) new.ear
+      → (let led = hears_down core old.link (shown new.ear.body) in new.gone ≡ is_some led.acts.leave) → new.care.greeted ≡ true
+      → new.care.refused ≤ refused_by old.care.refused (head_of (shown new.ear.body)) → At way ear core lowers [] [] false
       → (let led = hears_down core old.link (shown new.ear.body) in At way ear led.foreman (slice_set lowers at new) led.acts.up led.acts.down false)
-  heard_down way ear core lowers at old new law is link same stays took w =
+  heard_down way ear core lowers at old new law is link same stays took leaves greeted refused w =
       subst (At way ear (hears_down core old.link m).foreman (slice_set lowers at new) (hears_down core old.link m).acts.up (hears_down core old.link m).acts.down) (sym w.left_is)
       (stepped way ear ear core lowers (slice_set lowers at new) met w refl w.going w.heard_framed
       (every_append (λ told. IsFramed told.message) (told_of past) (over old.link m ∷ []) w.told_framed (every_one (λ told. IsFramed told.message) (over old.link m) took.0))
@@ -336,9 +365,10 @@ module _ {L : Type 0} (gives : Function) (may_fail : Job → Failure → Type 0)
       (stays_answered past met (told_of past) (w.answered trust))
       (every_one (AnswersBelow gives may_fail (sent_of cap (met ∷ past))) (over old.link m)
       (answered_more gives may_fail (sent_of cap past) more (over old.link m) (answers trust))))
+      step.workers
       held_now
       (λ trust. every_set (λ l. honest l.way) lowers at new (subst honest (sym same) (w.all_honest trust old there)) (w.all_honest trust))
-      book refl (tied_below below_tells history past m lowers at old new book is link begins w.tied))
+      book refl (tied_below below_tells seen cap past m lowers at old new book is link begins greets w.tied))
     where
       m : Message
       m = shown new.ear.body
@@ -349,8 +379,11 @@ module _ {L : Type 0} (gives : Function) (may_fail : Job → Failure → Type 0)
       met : Met
       met = below old.link m
 
+      before : Foreman
+      before = foreman_of cap past
+
       more : List Down
-      more = (led_by (foreman_of cap past) met).acts.down
+      more = (led_by before met).acts.down
 
       there : Stands old lowers
       there = get_stands lowers at old is
@@ -358,39 +391,74 @@ module _ {L : Type 0} (gives : Function) (may_fail : Job → Failure → Type 0)
       heard : List Message
       heard = from_link old.link.0 (told_of past)
 
-      passes : below_tells → Passes (history old.way) old.ear old.link (sent_of cap past) heard
-      passes t = w.held old there stays t
+      held : IsHeld below_tells seen (roll_of cap past) heard old
+      held = w.held old there
 
-      carried : (t : below_tells) → Carries (received_in (history old.way)) m
-      carried t = carries_next (received_in (history old.way)) heard m new.ear.rest (passes t).came.framed_all took.0 ((passes t).came.are ∙ ap (λ (r : List ℕ). frames_of heard ++ r) took.1)
+      passes : below_tells → Passes (seen old.way).history old.ear old.care old.link (roll_of cap past) heard
+      passes t = held.passes stays t
+
+      carried : (t : below_tells) → Carries (received_in (seen old.way).history) m
+      carried t = carries_next (received_in (seen old.way).history) heard m new.ear.rest (passes t).came.framed_all took.0 ((passes t).came.are ∙ ap (λ (r : List ℕ). frames_of heard ++ r) took.1)
 
       answers : trusted ≡ true → AnswersBelow gives may_fail (sent_of cap past) (over old.link m)
       answers trust =
           let told = law old.way (w.all_honest trust old there) in
-          came_answered gives may_fail (history old.way) old.ear old.link (sent_of cap past) heard m (passes told.0) (honest_now gives may_fail (history old.way) told.1) (carried told.0)
+          came_answered gives may_fail (seen old.way).history old.ear old.care old.link (roll_of cap past) heard m (passes told.0) (honest_now gives may_fail (seen old.way).history told.1) (carried told.0)
 
-      took_now : (t : below_tells) → Passes (history new.way) new.ear new.link (sent_of cap past) (heard ++ m ∷ [])
-      took_now t = took_one history (sent_of cap past) heard old new link same took (passes t)
+      -- nothing was heard while no worker is there
+      fresh : there_under old.link.0 before.links ≡ 0 → heard ≡ []
+      fresh none = by (held.placed stays)
+        where
+          by : (heard ≡ []) ⊎ (1 ≤ there_under old.link.0 before.links) → heard ≡ []
+          by (inl nothing) = nothing
+          by (inr some) = absurd (let wrong : ⊥ = omega (arith, none, some) in wrong)
 
-      begins : below_tells → BeginsWith (received_in (history new.way)) (heard ++ m ∷ [])
+      step : IsLedDown (sent_of cap past) (told_of past) before old.link m (hears_down before old.link m)
+      step = down_workers (sent_of cap past) (told_of past) before old.link w.joined m fresh
+
+      greets : (heard ≡ []) ⊎ IsHelloFirst heard
+      greets = by (held.placed stays)
+        where
+          by : (heard ≡ []) ⊎ (1 ≤ there_under old.link.0 before.links) → (heard ≡ []) ⊎ IsHelloFirst heard
+          by (inl nothing) = inl nothing
+          by (inr some) = inr (hello_there (sent_of cap past) (told_of past) old.link.0 before.links some w.joined)
+
+      took_now : (t : below_tells) → Passes (seen new.way).history new.ear new.care new.link (roll_of cap (met ∷ past)) (heard ++ m ∷ [])
+      took_now t = took_one seen (roll_of cap past) (roll_of cap (met ∷ past)) heard old new link same took greeted refused (λ x went. went_more (sent_of cap past) more old.link x went) (passes t)
+
+      begins : below_tells → BeginsWith (received_in (seen new.way).history) (heard ++ m ∷ [])
       begins t = (new.ear.rest, (took_now t).came)
 
       now_from : from_link new.link.0 (told_of past ++ over old.link m ∷ []) ≡ heard ++ m ∷ []
       now_from = from_next new.link.0 (told_of past) old.link m (ap (λ (n : LinkNo). n.0) (sym link)) ∙ ap (λ (n : LinkNo). from_link n.0 (told_of past) ++ m ∷ []) link
 
-      held_new : IsHeld below_tells history (sent_of cap (met ∷ past)) (from_link new.link.0 (told_of past ++ over old.link m ∷ [])) new
-      held_new = held_one_more below_tells history (sent_of cap past) more (from_link new.link.0 (told_of past ++ over old.link m ∷ [])) new
-          (λ on t. subst (Passes (history new.way) new.ear new.link (sent_of cap past)) (sym now_from) (took_now t))
+      leaves_now : new.gone ≡ is_some (hears_down before old.link m).acts.leave
+      leaves_now = subst (λ (f : Foreman). new.gone ≡ is_some (hears_down f old.link m).acts.leave) w.core_is leaves
+
+      -- a link that the step leaves is lost for a cause
+      cause : (t : below_tells) → Misspeaks (sent_of cap past) old.link heard m ⊎ (IsHello m × (nat_lt (length before.links) most_links ≡ false)) → IsLost (roll_of cap (met ∷ past)) old.link (seen new.way)
+      cause t (inl wrong) = loss.misspoken (misspoken_more (λ x. Stands (over old.link (messages.Task x)) (sent_of cap past)) (λ x. Stands (over old.link (messages.Task x)) (sent_of cap (met ∷ past))) _
+          (λ x here. stands_left (over old.link (messages.Task x)) (sent_of cap past) more here) (wrong (received_in (seen new.way).history) (begins t)))
+      cause t (inr full) = loss.crowded (full_now cap past old.link m full.0 full.1)
+
+      decided : (leave : Option LinkNo) → new.gone ≡ is_some leave → Decides (sent_of cap past) before old.link heard m (hears_down before old.link m).foreman.links leave
+          → IsHeld below_tells seen (roll_of cap (met ∷ past)) (heard ++ m ∷ []) new
+      decided None stays_now there_now = still_held below_tells seen (roll_of cap (met ∷ past)) (heard ++ m ∷ []) new stays_now (inr (subst (λ (n : LinkNo). 1 ≤ there_under n.0 (foreman_of cap (met ∷ past)).links) (sym link) there_now)) took_now
+      decided (Some j) goes why = gone_held below_tells seen (roll_of cap (met ∷ past)) (heard ++ m ∷ []) new goes (λ fed t. subst (λ (n : LinkNo). IsLost (roll_of cap (met ∷ past)) n (seen new.way)) (sym link) (cause t why))
+
+      held_new : IsHeld below_tells seen (roll_of cap (met ∷ past)) (from_link new.link.0 (told_of past ++ over old.link m ∷ [])) new
+      held_new = subst (λ (ms : List Message). IsHeld below_tells seen (roll_of cap (met ∷ past)) ms new) (sym now_from) (decided (hears_down before old.link m).acts.leave leaves_now step.decides)
 
       -- the others are held as they were
-      other_held : (l : LowerState L) → (old.link.0 ≡ l.link.0 → ⊥) → IsHeld below_tells history (sent_of cap past) (from_link l.link.0 (told_of past)) l
-          → IsHeld below_tells history (sent_of cap (met ∷ past)) (from_link l.link.0 (told_of past ++ over old.link m ∷ [])) l
-      other_held l other is = held_one_more below_tells history (sent_of cap past) more (from_link l.link.0 (told_of past ++ over old.link m ∷ [])) l
-          (λ on t. subst (Passes (history l.way) l.ear l.link (sent_of cap past)) (sym (from_same l.link.0 (told_of past) old.link m other)) (is on t))
+      other_held : (l : LowerState L) → (old.link.0 ≡ l.link.0 → ⊥) → IsHeld below_tells seen (roll_of cap past) (from_link l.link.0 (told_of past)) l
+          → IsHeld below_tells seen (roll_of cap (met ∷ past)) (from_link l.link.0 (told_of past ++ over old.link m ∷ [])) l
+      other_held l other was =
+          subst (λ (ms : List Message). IsHeld below_tells seen (roll_of cap (met ∷ past)) ms l) (sym (from_same l.link.0 (told_of past) old.link m other))
+          (held_step below_tells seen cap met past (from_link l.link.0 (told_of past)) l (λ le. subst (λ n. 1 ≤ n) (sym (step.rest l.link.0 other)) le) was)
 
-      held_now : AreHeld below_tells history (sent_of cap (met ∷ past)) (told_of (met ∷ past)) (slice_set lowers at new)
-      held_now = set_apart old.link.0 (λ l. IsHeld below_tells history (sent_of cap past) (from_link l.link.0 (told_of past)) l)
-          (λ l. IsHeld below_tells history (sent_of cap (met ∷ past)) (from_link l.link.0 (told_of past ++ over old.link m ∷ [])) l)
+      held_now : AreHeld below_tells seen (roll_of cap (met ∷ past)) (told_of (met ∷ past)) (slice_set lowers at new)
+      held_now = set_apart old.link.0 (λ l. IsHeld below_tells seen (roll_of cap past) (from_link l.link.0 (told_of past)) l)
+          (λ l. IsHeld below_tells seen (roll_of cap (met ∷ past)) (from_link l.link.0 (told_of past ++ over old.link m ∷ [])) l)
           lowers at old new is refl (omega (arith, w.tied.apart old.link.0)) other_held held_new w.held
 
   -- ---- what is owed is said
@@ -421,6 +489,7 @@ module _ {L : Type 0} (gives : Function) (may_fail : Job → Failure → Type 0)
     may = λ t trust. tt;
     goes_down = w.goes_down;
     answered = w.answered;
+    joined = w.joined;
     held = w.held;
     tied = w.tied;
     all_honest = w.all_honest;
@@ -430,7 +499,7 @@ module _ {L : Type 0} (gives : Function) (may_fail : Job → Failure → Type 0)
 
   pub said_not : (old new : Way) (ear : EarState) (core : Foreman) (lowers : List (LowerState L)) (owed : List Message) (due : List Down) (fault : Fault) (stop : Stop)
       → Said (let r : Result (Unit {0}) Fault = Err fault in r) owed old new → FailsBy book.faults new stop
-      → At old ear core lowers owed due false → StopsAt gives may_fail tells trusted below_tells history cap book new lowers stop
+      → At old ear core lowers owed due false → StopsAt gives may_fail tells trusted below_tells seen cap book new lowers stop
   said_not old new ear core lowers owed due fault stop said fails w = record {
     stops = record {
       past = w.past;
@@ -453,8 +522,8 @@ module _ {L : Type 0} (gives : Function) (may_fail : Job → Failure → Type 0)
 
   -- the same over other links
   with_lowers : (way : Way) (ear : EarState) (core : Foreman) (lowers now : List (LowerState L)) (due then : List Down) → (w : At way ear core lowers [] due false) → Every (λ d. Stands d (sent_of cap w.past)) then
-      → AreHeld below_tells history (sent_of cap w.past) (told_of w.past) now → (trusted ≡ true → AreHonest honest now) → (next : Book L) → next.faults ≡ book.faults → AreTied below_tells history w.past now next
-      → Works gives may_fail tells trusted below_tells history honest cap next way ear core now [] then false
+      → AreHeld below_tells seen (roll_of cap w.past) (told_of w.past) now → (trusted ≡ true → AreHonest honest now) → (next : Book L) → next.faults ≡ book.faults → AreTied below_tells seen cap w.past now next
+      → Works gives may_fail tells trusted below_tells seen honest cap next way ear core now [] then false
   with_lowers way ear core lowers now due then w goes held all_honest next same tied = record {
     past = w.past;
     core_is = w.core_is;
@@ -472,6 +541,7 @@ module _ {L : Type 0} (gives : Function) (may_fail : Job → Failure → Type 0)
     may = w.may;
     goes_down = goes;
     answered = w.answered;
+    joined = w.joined;
     held = held;
     tied = tied;
     all_honest = all_honest;
@@ -480,66 +550,78 @@ module _ {L : Type 0} (gives : Function) (may_fail : Job → Failure → Type 0)
   }
 
   -- What was due went down.
-  pub went_down : (way : Way) (ear : EarState) (core : Foreman) (lowers now : List (LowerState L)) (due : List Down) → KeepsWith below_tells history honest due lowers now
+  pub went_down : (way : Way) (ear : EarState) (core : Foreman) (lowers now : List (LowerState L)) (due : List Down) → KeepsWith below_tells seen honest due lowers now
       → At way ear core lowers [] due false → At way ear core now [] [] false
   went_down way ear core lowers now due keeps w =
-      with_lowers way ear core lowers now due [] w (every_nil (λ d. Stands d (sent_of cap w.past))) (keeps.held (sent_of cap w.past) (told_of w.past) w.goes_down w.held) (λ trust. keeps.honestly (w.all_honest trust))
-      book refl (tied_kept below_tells history w.past lowers now book keeps.many keeps.under (keeps.begun (told_of w.past)) w.tied)
+      with_lowers way ear core lowers now due [] w (every_nil (λ d. Stands d (sent_of cap w.past))) (keeps.held (roll_of cap w.past) (told_of w.past) w.goes_down w.held) (λ trust. keeps.honestly (w.all_honest trust))
+      book refl (tied_kept below_tells seen cap w.past lowers now book keeps.many keeps.under (keeps.begun (told_of w.past)) w.tied)
 
-  pub still_kept : (way : Way) (ear : EarState) (core : Foreman) (lowers now : List (LowerState L)) → Keeps below_tells history honest lowers now → At way ear core lowers [] [] false → At way ear core now [] [] false
+  pub still_kept : (way : Way) (ear : EarState) (core : Foreman) (lowers now : List (LowerState L)) → Keeps below_tells seen honest lowers now → At way ear core lowers [] [] false → At way ear core now [] [] false
   still_kept way ear core lowers now keeps w =
-      with_lowers way ear core lowers now [] [] w w.goes_down (keeps.held (sent_of cap w.past) (told_of w.past) w.held) (λ trust. keeps.honestly (w.all_honest trust))
-      book refl (tied_kept below_tells history w.past lowers now book keeps.many keeps.under (keeps.begun (told_of w.past)) w.tied)
+      with_lowers way ear core lowers now [] [] w w.goes_down (keeps.held (roll_of cap w.past) (told_of w.past) w.held) (λ trust. keeps.honestly (w.all_honest trust))
+      book refl (tied_kept below_tells seen cap w.past lowers now book keeps.many keeps.under (keeps.begun (told_of w.past)) w.tied)
 
-  -- A link was taken out and handed back; its loss is to be met.
-  pub handed : (way : Way) (ear : EarState) (core : Foreman) (lowers now : List (LowerState L)) (out : LowerState L) (got : List (Option LinkNo × L)) → Parts out lowers now → got ≡ book.got ++ ((Some out.link, out.way) ∷ [])
-      → At way ear core lowers [] [] false → Works gives may_fail tells trusted below_tells history honest cap (with_due (with_got book got) (Some out.link)) way ear core now [] [] false
-  handed way ear core lowers now out got parts are w =
-      with_lowers way ear core lowers now [] [] w w.goes_down (every_parts (λ l. IsHeld below_tells history (sent_of cap w.past) (from_link l.link.0 (told_of w.past)) l) out lowers now parts w.held)
+  -- A link was taken out that is to be left for a cause, and handed back; its loss is to be met.
+  pub handed : (way : Way) (ear : EarState) (core : Foreman) (lowers now : List (LowerState L)) (out : LowerState L) (got : List (Option LinkNo × L)) → Parts out lowers now × (out.gone ≡ true) → out.starved ≡ false
+      → got ≡ book.got ++ ((Some out.link, out.way) ∷ [])
+      → At way ear core lowers [] [] false → Works gives may_fail tells trusted below_tells seen honest cap (with_due (with_got book got) (Some out.link)) way ear core now [] [] false
+  handed way ear core lowers now out got (parts, gone) fed are w =
+      with_lowers way ear core lowers now [] [] w w.goes_down (every_parts (λ l. IsHeld below_tells seen (roll_of cap w.past) (from_link l.link.0 (told_of w.past)) l) out lowers now parts w.held)
       (λ trust. every_parts (λ l. honest l.way) out lowers now parts (w.all_honest trust))
       (with_due (with_got book got) (Some out.link)) refl
-      (tied_back below_tells history w.past lowers now out out.way book got parts (λ t. ([], sym (append-nil (received_in (history out.way))))) are w.tied)
+      (tied_back below_tells seen cap w.past lowers now out out.way book got (Some out.link) parts (λ t. ([], sym (append-nil (received_in (seen out.way).history)))) are (λ k. let le : one_if out.link.0 k ≤ one_if out.link.0 k = omega arith in le)
+      (λ due t. (w.held out (stands_parts out lowers now parts)).lost gone fed t) w.tied)
+
+  -- A link was taken out that is to be left for want of memory, and handed back or lost.
+  pub starves : (way : Way) (ear : EarState) (core : Foreman) (lowers now : List (LowerState L)) (out : LowerState L) (got : List (Option LinkNo × L)) → Parts out lowers now → MayHandBack out.link out.way book.got got
+      → At way ear core lowers [] [] false → StopsAt gives may_fail tells trusted below_tells seen cap (with_got book got) way now (stops.Left halts.Memory)
+  starves way ear core lowers now out got parts may w = record {
+    stops = record { past = w.past; found = found_now way ear core lowers [] [] false w; why = w.closed };
+    tied = by may;
+  }
+    where
+      by : (got ≡ book.got ++ ((Some out.link, out.way) ∷ [])) ⊎ (got ≡ book.got) → AreTied below_tells seen cap w.past now (with_got book got)
+      by (inl are) = tied_back below_tells seen cap w.past lowers now out out.way book got None parts (λ t. ([], sym (append-nil (received_in (seen out.way).history)))) are (λ k. let le : 0 ≤ one_if out.link.0 k = omega arith in le)
+          (λ wrong. absurd (let h : ⊥ = omega (arith, wrong) in h)) w.tied
+      by (inr are) = tied_missing below_tells seen cap w.past lowers now out book got parts are w.tied
 
   -- A link was taken out, and there was no memory to hand it back.
-  pub handed_not : (way : Way) (ear : EarState) (core : Foreman) (lowers now : List (LowerState L)) (out : LowerState L) (got : List (Option LinkNo × L)) → Parts out lowers now → got ≡ book.got
-      → At way ear core lowers [] [] false → StopsAt gives may_fail tells trusted below_tells history cap (with_got book got) way now (stops.Left halts.Memory)
-  handed_not way ear core lowers now out got parts are w = record {
-    stops = record { past = w.past; found = found_now way ear core lowers [] [] false w; why = w.closed };
-    tied = tied_missing below_tells history w.past lowers now out book got parts are w.tied;
-  }
+  pub handed_not : (way : Way) (ear : EarState) (core : Foreman) (lowers now : List (LowerState L)) (out : LowerState L) (got : List (Option LinkNo × L)) → Parts out lowers now × (out.gone ≡ true) → got ≡ book.got
+      → At way ear core lowers [] [] false → StopsAt gives may_fail tells trusted below_tells seen cap (with_got book got) way now (stops.Left halts.Memory)
+  handed_not way ear core lowers now out got parts are w = starves way ear core lowers now out got parts.0 (inr are) w
 
   -- One has come, or none.
   pub gained : (E : Type 0) (way : Way) (ear : EarState) (core : Foreman) (lowers now : List (LowerState L)) (is : Type 0) (came : Bool) (got : List (Option LinkNo × L)) (upto : ℕ)
-      → (let r : Result Bool E = Ok came in Gains history honest is book.upto upto book.got got lowers now r)
-      → (trusted ≡ true → is) → At way ear core lowers [] [] false → Works gives may_fail tells trusted below_tells history honest cap (with_hall book got upto) way ear core now [] [] false
+      → (let r : Result Bool E = Ok came in Gains seen honest is book.upto upto book.got got lowers now r)
+      → (trusted ≡ true → is) → At way ear core lowers [] [] false → Works gives may_fail tells trusted below_tells seen honest cap (with_hall book got upto) way ear core now [] [] false
   gained E way ear core lowers now is true got upto gains trusts w =
       with_lowers way ear core lowers now [] [] w w.goes_down
-      (held_joined below_tells history honest is book.upto (sent_of cap w.past) (told_of w.past) lowers now gains.2 (from_none gains.2.link.0 w.past (unmet_number below_tells history w.past lowers book w.tied gains.2.link.0 gains.2.next)) w.held)
-      (λ trust. honest_joined below_tells history honest is book.upto lowers now gains.2 (trusts trust) (w.all_honest trust))
+      (held_joined below_tells seen honest is book.upto (roll_of cap w.past) (told_of w.past) lowers now gains.2 (from_none gains.2.link.0 w.past (unmet_number below_tells seen cap w.past lowers book w.tied gains.2.link.0 gains.2.next)) w.held)
+      (λ trust. honest_joined below_tells seen honest is book.upto lowers now gains.2 (trusts trust) (w.all_honest trust))
       (with_hall book got upto) refl
-      (tied_joined below_tells history honest is w.past lowers now book got upto gains.2 gains.0 gains.1 w.tied)
+      (tied_joined below_tells seen cap honest is w.past lowers now book got upto gains.2 gains.0 gains.1 w.tied)
   gained E way ear core lowers now is false got upto gains trusts w =
       with_lowers way ear core lowers now [] [] w w.goes_down
-      (subst (AreHeld below_tells history (sent_of cap w.past) (told_of w.past)) (sym gains.2) w.held)
+      (subst (AreHeld below_tells seen (roll_of cap w.past) (told_of w.past)) (sym gains.2) w.held)
       (λ trust. subst (AreHonest honest) (sym gains.2) (w.all_honest trust))
       (with_hall book got upto) refl
-      (subst (λ (ls : List (LowerState L)). AreTied below_tells history w.past ls (with_hall book got upto)) (sym gains.2) (tied_hall below_tells history w.past lowers book got upto gains.0 gains.1 w.tied))
+      (subst (λ (ls : List (LowerState L)). AreTied below_tells seen cap w.past ls (with_hall book got upto)) (sym gains.2) (tied_hall below_tells seen cap w.past lowers book got upto gains.0 gains.1 w.tied))
 
   -- None has come, since the hall failed or memory was wanting.
   pub gained_not : (way : Way) (ear : EarState) (core : Foreman) (lowers now : List (LowerState L)) (is : Type 0) (stop : Stop) (got : List (Option LinkNo × L)) (upto : ℕ)
-      → (let r : Result Bool Stop = Err stop in Gains history honest is book.upto upto book.got got lowers now r) → (let r : Result Bool Stop = Err stop in LeavesHall r)
-      → At way ear core lowers [] [] false → StopsAt gives may_fail tells trusted below_tells history cap (with_hall book got upto) way now stop
+      → (let r : Result Bool Stop = Err stop in Gains seen honest is book.upto upto book.got got lowers now r) → (let r : Result Bool Stop = Err stop in LeavesHall r)
+      → At way ear core lowers [] [] false → StopsAt gives may_fail tells trusted below_tells seen cap (with_hall book got upto) way now stop
   gained_not way ear core lowers now is stop got upto gains leaves w = record {
     stops = record { past = w.past; found = found_now way ear core lowers [] [] false w; why = hall_why way w.past stop leaves w.closed (sym w.left_is) };
-    tied = subst (λ (ls : List (LowerState L)). AreTied below_tells history w.past ls (with_hall book got upto)) (sym gains.1) (tied_refused below_tells history w.past lowers book got upto gains.0 w.tied);
+    tied = subst (λ (ls : List (LowerState L)). AreTied below_tells seen cap w.past ls (with_hall book got upto)) (sym gains.1) (tied_refused below_tells seen cap w.past lowers book got upto gains.0 w.tied);
   }
 
   -- The link at a place changed, and what holds of it stays so.
   pub changed_at : (way : Way) (ear : EarState) (core : Foreman) (lowers : List (LowerState L)) (at : ℕ) (old new : LowerState L) → slice_get lowers at ≡ Some old → new.link ≡ old.link
-      → ((sent : List Down) (heard : List Message) → IsHeld below_tells history sent heard old → IsHeld below_tells history sent heard new) → (below_tells → HearsOn (history old.way) (history new.way)) → (honest old.way → honest new.way)
+      → ((roll : Roll) (heard : List Message) → IsHeld below_tells seen roll heard old → IsHeld below_tells seen roll heard new) → (below_tells → HearsOn (seen old.way).history (seen new.way).history) → (honest old.way → honest new.way)
       → At way ear core lowers [] [] false → At way ear core (slice_set lowers at new) [] [] false
   changed_at way ear core lowers at old new is link held comes keeps w =
-      still_kept way ear core lowers (slice_set lowers at new) (kept_at below_tells history honest lowers at old new is link held comes keeps) w
+      still_kept way ear core lowers (slice_set lowers at new) (kept_at below_tells seen honest lowers at old new is link held comes keeps) w
 
   -- ---- its hello
 
@@ -569,8 +651,9 @@ module _ {L : Type 0} (gives : Function) (may_fail : Job → Failure → Type 0)
         may = λ t trust. hello_may (received_in way.history);
         goes_down = every_nil (λ (d : Down). Stands d (sent_of cap []));
         answered = λ trust. every_nil (AnswersBelow gives may_fail []);
-        held = every_nil (λ (l : LowerState L). IsHeld below_tells history [] (from_link l.link.0 []) l);
-        tied = tied_first below_tells history book got upto due;
+        joined = every_nil (IsJoined [] []);
+        held = every_nil (λ (l : LowerState L). IsHeld below_tells seen (roll_of cap []) (from_link l.link.0 []) l);
+        tied = tied_first below_tells seen cap book got upto due;
         all_honest = λ trust. every_nil (λ l. honest l.way);
         closed = stays;
         later = count;
@@ -578,34 +661,44 @@ module _ {L : Type 0} (gives : Function) (may_fail : Job → Failure → Type 0)
 
 -- ---- lost links
 
-module _ {L : Type 0} (gives : Function) (may_fail : Job → Failure → Type 0) (tells : Type 0) (trusted : Bool) (below_tells : Type 0) (history : L → List Passed) (honest : L → Type 0) (cap : ℕ) (book : Book L) (k : LinkNo) where
+module _ {L : Type 0} (gives : Function) (may_fail : Job → Failure → Type 0) (tells : Type 0) (trusted : Bool) (below_tells : Type 0) (seen : L → Seen) (honest : L → Type 0) (cap : ℕ) (book : Book L) (k : LinkNo) where
   -- The link was lost that was handed back.
-  pub lost_link : (way : Way) (ear : EarState) (core : Foreman) (lowers : List (LowerState L)) → Works gives may_fail tells trusted below_tells history honest cap (with_due book (Some k)) way ear core lowers [] [] false
-      → Works gives may_fail tells trusted below_tells history honest cap (with_due book None) way ear (loses core k).foreman lowers (loses core k).acts.up (loses core k).acts.down false
+  pub lost_link : (way : Way) (ear : EarState) (core : Foreman) (lowers : List (LowerState L)) → Works gives may_fail tells trusted below_tells seen honest cap (with_due book (Some k)) way ear core lowers [] [] false
+      → Works gives may_fail tells trusted below_tells seen honest cap (with_due book None) way ear (loses core k).foreman lowers (loses core k).acts.up (loses core k).acts.down false
   lost_link way ear core lowers w =
       let past = w.past in
       let before : Book L = with_due book (Some k) in
       let after : Book L = with_due book None in
-      subst (Works gives may_fail tells trusted below_tells history honest cap after way ear (loses core k).foreman lowers (loses core k).acts.up (loses core k).acts.down) (sym w.left_is)
-      (stepped gives may_fail tells trusted below_tells history honest cap before way ear ear core lowers lowers (lost k) w refl w.going w.heard_framed w.told_framed w.fed_is w.stream
-      (λ trust. stays_answered gives may_fail tells trusted below_tells history honest cap before past (lost k) (told_of past) (w.answered trust))
-      (held_more below_tells history (sent_of cap past) (led_by (foreman_of cap past) (lost k)).acts.down (told_of past) lowers w.held) w.all_honest
-      after refl (tied_lost below_tells history past k lowers book w.tied))
+      subst (Works gives may_fail tells trusted below_tells seen honest cap after way ear (loses core k).foreman lowers (loses core k).acts.up (loses core k).acts.down) (sym w.left_is)
+      (stepped gives may_fail tells trusted below_tells seen honest cap before way ear ear core lowers lowers (lost k) w refl w.going w.heard_framed w.told_framed w.fed_is w.stream
+      (λ trust. stays_answered gives may_fail tells trusted below_tells seen honest cap before past (lost k) (told_of past) (w.answered trust))
+      (lost_workers (sent_of cap past) (told_of past) (foreman_of cap past) k w.joined).0
+      (λ l there. held_step below_tells seen cap (lost k) past (from_link l.link.0 (told_of past)) l
+      (λ le. subst (λ n. 1 ≤ n) (sym ((lost_workers (sent_of cap past) (told_of past) (foreman_of cap past) k w.joined).1 l.link.0 (other l there))) le) (w.held l there)) w.all_honest
+      after refl (tied_lost below_tells seen cap past k lowers book w.tied))
+    where
+      -- no link is held under the number of one that was handed back
+      other : (l : LowerState L) → Stands l lowers → k.0 ≡ l.link.0 → ⊥
+      other l there same =
+          let held = held_stands l lowers there in
+          let due = w.tied.pending l.link.0 in
+          let one = one_is k.0 l.link.0 same in
+          omega (arith, held, due, one, w.tied.apart l.link.0)
 
   -- Memory was wanting for it.
-  pub lost_not : (way : Way) (ear : EarState) (core : Foreman) (lowers : List (LowerState L)) → Works gives may_fail tells trusted below_tells history honest cap (with_due book (Some k)) way ear core lowers [] [] false
-      → StopsAt gives may_fail tells trusted below_tells history cap (with_due book None) way lowers (stops.Left halts.Memory)
+  pub lost_not : (way : Way) (ear : EarState) (core : Foreman) (lowers : List (LowerState L)) → Works gives may_fail tells trusted below_tells seen honest cap (with_due book (Some k)) way ear core lowers [] [] false
+      → StopsAt gives may_fail tells trusted below_tells seen cap (with_due book None) way lowers (stops.Left halts.Memory)
   lost_not way ear core lowers w = record {
-    stops = record { past = w.past; found = found_now gives may_fail tells trusted below_tells history honest cap (with_due book (Some k)) way ear core lowers [] [] false w; why = w.closed };
-    tied = tied_not below_tells history w.past k lowers book w.tied;
+    stops = record { past = w.past; found = found_now gives may_fail tells trusted below_tells seen honest cap (with_due book (Some k)) way ear core lowers [] [] false w; why = w.closed };
+    tied = tied_not below_tells seen cap w.past k lowers book w.tied;
   }
 
 -- ---- a foreman that stops before it began
 
-module _ {L : Type 0} (gives : Function) (may_fail : Job → Failure → Type 0) (tells : Type 0) (trusted : Bool) (below_tells : Type 0) (history : L → List Passed) (cap : ℕ) where
+module _ {L : Type 0} (gives : Function) (may_fail : Job → Failure → Type 0) (tells : Type 0) (trusted : Bool) (below_tells : Type 0) (seen : L → Seen) (cap : ℕ) where
   -- Nothing was said, and this is why it stops.
   stops_early : (way : Way) (stop : Stop) (book : Book L) → way.history ≡ [] → MayStop tells cap book.faults way [] stop → book.got ≡ book.first → book.upto ≡ 0 → book.due ≡ None
-      → StopsAt gives may_fail tells trusted below_tells history cap book way [] stop
+      → StopsAt gives may_fail tells trusted below_tells seen cap book way [] stop
   stops_early way stop book none_passed why got upto due = record {
     stops = record {
       past = [];
@@ -618,11 +711,11 @@ module _ {L : Type 0} (gives : Function) (may_fail : Job → Failure → Type 0)
       };
       why = why;
     };
-    tied = tied_first below_tells history book got upto due;
+    tied = tied_first below_tells seen cap book got upto due;
   }
 
   over_early : (way : Way) (stop : Stop) (first got : List (Option LinkNo × L)) (given given_now : ℕ) → way.history ≡ [] → MayStop tells cap 0 way [] stop → got ≡ first → given_now ≡ given
-      → StopsOver gives may_fail tells trusted below_tells history cap (new_book first) got given given_now way [] stop
+      → StopsOver gives may_fail tells trusted below_tells seen cap (new_book first) got given given_now way [] stop
   over_early way stop first got given given_now none_passed why same count = record {
     upto = 0;
     counted = omega (arith, count);
@@ -631,15 +724,15 @@ module _ {L : Type 0} (gives : Function) (may_fail : Job → Failure → Type 0)
 
   -- Memory was wanting before it said its hello.
   pub wants_early : (way : Way) (first got : List (Option LinkNo × L)) (given given_now : ℕ) → way.history ≡ [] → way.closed ≡ false → got ≡ first → given_now ≡ given
-      → StopsOver gives may_fail tells trusted below_tells history cap (new_book first) got given given_now way [] (stops.Left halts.Memory)
+      → StopsOver gives may_fail tells trusted below_tells seen cap (new_book first) got given given_now way [] (stops.Left halts.Memory)
   wants_early way first got given given_now none_passed open_still same count = over_early way (stops.Left halts.Memory) first got given given_now none_passed open_still same count
 
   -- The hall failed before it said its hello.
   pub hall_early : (way : Way) (first got : List (Option LinkNo × L)) (given given_now : ℕ) → way.history ≡ [] → way.closed ≡ false → got ≡ first → given_now ≡ given
-      → StopsOver gives may_fail tells trusted below_tells history cap (new_book first) got given given_now way [] stops.Hall
+      → StopsOver gives may_fail tells trusted below_tells seen cap (new_book first) got given given_now way [] stops.Hall
   hall_early way first got given given_now none_passed open_still same count = over_early way stops.Hall first got given given_now none_passed (refl, open_still) same count
 
   -- Memory was wanting once the work was over.
-  pub wants_late : (way : Way) (book : Book L) (lowers : List (LowerState L)) → StopsAt gives may_fail tells trusted below_tells history cap book way lowers (stops.Left halts.Bye)
-      → StopsAt gives may_fail tells trusted below_tells history cap book way lowers (stops.Left halts.Memory)
+  pub wants_late : (way : Way) (book : Book L) (lowers : List (LowerState L)) → StopsAt gives may_fail tells trusted below_tells seen cap book way lowers (stops.Left halts.Bye)
+      → StopsAt gives may_fail tells trusted below_tells seen cap book way lowers (stops.Left halts.Memory)
   wants_late way book lowers s = record { stops = record { past = s.stops.past; found = s.stops.found; why = s.stops.why.1 }; tied = s.tied }

@@ -26,8 +26,8 @@ use Rattle.foreman_core.specs.Right.{IsAsked, IsOwned, IsRightAfter, IsRightDown
 use Rattle.foreman_core.specs.Steps.{Led, renumbered}
 use Rattle.peer_run.specs.Says.{Each}
 use Rattle.peer_run.specs.Works.{EarState}
-use Rattle.foreman_run.specs.Lowers.{AnswersBelow, IsAnswered, Passes, Went, over}
-use Rattle.foreman_run.specs.Met.{Met, foreman_of, heard_of, led_by, sent_of, told_of}
+use Rattle.foreman_run.specs.Lowers.{CareState, AnswersBelow, IsAnswered, Passes, Went, over}
+use Rattle.foreman_run.specs.Met.{Met, Roll, foreman_of, heard_of, led_by, sent_of, told_of}
 use Rattle.foreman_run.proofs.Runs.{every_each, runs_right, step_right}
 
 pub among : (m : Message) (ms : List Message) → Stands m ms → IsAmong m ms
@@ -129,9 +129,10 @@ module _ (gives : Function) (may_fail : Job → Failure → Type 0) where
   put_went sent k key content (inr there) = there
 
   -- A message that came over an honest link is answered there.
-  pub came_answered : (history : List Passed) (ear : EarState) (k : LinkNo) (sent : List Down) (heard : List Message) (m : Message) → Passes history ear k sent heard
-      → IsHonestSoFar gives may_fail (sent_in history) (received_in history) → Carries (received_in history) m → AnswersBelow gives may_fail sent (over k m)
-  came_answered history ear k sent heard m passes honest carried number outcome is ran =
+  pub came_answered : (history : List Passed) (ear : EarState) (care : CareState) (k : LinkNo) (roll : Roll) (heard : List Message) (m : Message) → Passes history ear care k roll heard
+      → IsHonestSoFar gives may_fail (sent_in history) (received_in history) → Carries (received_in history) m → AnswersBelow gives may_fail roll.down (over k m)
+  came_answered history ear care k roll heard m passes honest carried number outcome is ran =
+      let sent = roll.down in
       let a : Answers gives may_fail (sent_in history) number outcome = honest number outcome (subst (Carries (received_in history)) is carried) ran in
       let went : (x : Message) → Carries (sent_in history) x → Went sent k x =
       λ x c. passes.went x (stands_of x passes.said ((rows_carry_their_own passes.said x passes.said_framed).0 (subst (λ b. Carries b x) passes.are_sent c))) in

@@ -5,7 +5,10 @@ pub mod Honest
 pub mod Going
 pub mod Hosted
 pub mod Saying
+pub mod Losses
 pub mod Tying
+pub mod Workers
+pub mod Lowering
 pub mod Companies
 pub mod Ending
 pub mod Attending

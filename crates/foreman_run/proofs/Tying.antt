@@ -7,14 +7,16 @@ use Rattle.flow_types.specs.declared.messages.Message.{Message}
 use Rattle.flow_types.specs.declared.numbers.LinkNo.{LinkNo}
 use Rattle.foreman_core.specs.declared.acts.Down.{Down}
 use Rattle.foreman_core.specs.Members.{Every, Stands}
-use Rattle.foreman_core.proofs.Members.{every_append, every_nil, every_one, get_stands, stands_left, stands_right}
+use Rattle.foreman_core.proofs.Members.{every_append, every_nil, every_one, get_stands, stands_right}
 use Rattle.links.specs.declared.passing.Passed.{Passed}
 use Rattle.links.specs.Passings.{received_in}
 use Rattle.message_forms.specs.Streams.{BeginsWith, frames_of}
-use Rattle.foreman_run.specs.Lowers.{AreBegun, Gains, HearsOn, Joins, LowerState, Misses, Parts, from_link, held_under, new_lower, over}
+use Rattle.foreman_run.specs.Lowers.{AreBegun, Gains, HearsOn, IsLost, Joins, LowerState, Misses, Parts, from_link, held_under, new_lower, over}
 use Rattle.foreman_run.specs.Lowers as parts
-use Rattle.foreman_run.specs.Met.{Met, above, below, lost, lost_under, met_under, one_if, told_of}
-use Rattle.foreman_run.specs.Tied.{AreTied, Book, CameOver, HasCome, LetsGoOne, MayHandBack, back_under, due_under, with_due, with_got, with_hall}
+use Rattle.foreman_run.specs.Lost.{IsHelloFirst, Seen}
+use Rattle.foreman_run.specs.Met.{Met, above, below, lost, lost_under, met_under, one_if, roll_of, told_of}
+use Rattle.foreman_run.proofs.Losses.{lost_more}
+use Rattle.foreman_run.specs.Tied.{AreTied, Book, CameOver, HasCome, IsLostIf, LetsGoOne, MayHandBack, back_under, due_under, with_due, with_got, with_hall}
 
 -- ---- numbers
 
@@ -38,7 +40,7 @@ says_by a b false is le = absurd (let h : ⊥ = omega (arith, le) in h)
 pub one_says : (a b : ℕ) → 1 ≤ one_if a b → a ≡ b
 one_says a b le = says_by a b (a == b) refl le
 
-one_other : (a b : ℕ) → (a == b) ≡ false → one_if a b ≡ 0
+pub one_other : (a b : ℕ) → (a == b) ≡ false → one_if a b ≡ 0
 one_other a b other = ap (λ (t : Bool). let n : ℕ = cond t 1 0 in n) other
 
 -- two numbers are the same, or the test says no
@@ -176,23 +178,34 @@ module _ {L : Type 0} where
 
 -- ---- ties
 
-module _ {L : Type 0} (tells : Type 0) (history : L → List Passed) where
+module _ {L : Type 0} (tells : Type 0) (seen : L → Seen) (cap : ℕ) where
   -- it is tied so
   abbrev pub Tied : List Met → List (LowerState L) → Book L → Type 0
-  Tied past lowers book = AreTied tells history past lowers book
+  Tied past lowers book = AreTied tells seen cap past lowers book
+
+  -- A link that was lost for a cause stays so, once something more was met that isn't its loss.
+  causes_more : (past : List Met) (met : Met) (due : Option LinkNo) (links : List (Option LinkNo × L)) → ((k : LinkNo) → lost_under k.0 (met ∷ past) ≡ lost_under k.0 past)
+      → Every (IsLostIf tells seen cap past due) links → Every (IsLostIf tells seen cap (met ∷ past) due) links
+  causes_more past met due links same all link there =
+      record { cause = λ t k is le. lost_more cap met past k (seen link.1) ((all link there).cause t k is (omega (arith, le, same k))) }
+
+  -- the same where fewer losses are to be met
+  causes_fewer : (past : List Met) (due then : Option LinkNo) (links : List (Option LinkNo × L)) → ((k : LinkNo) → due_under k.0 then ≤ due_under k.0 due)
+      → Every (IsLostIf tells seen cap past due) links → Every (IsLostIf tells seen cap past then) links
+  causes_fewer past due then links fewer all link there = record { cause = λ t k is le. (all link there).cause t k is (omega (arith, le, fewer k)) }
 
   -- what came under other numbers is the same after a message more
-  begun_same : (k : LinkNo) (m : Message) (told : List Down) (l : LowerState L) → (k.0 ≡ l.link.0 → ⊥) → BeginsWith (received_in (history l.way)) (from_link l.link.0 told)
-      → BeginsWith (received_in (history l.way)) (from_link l.link.0 (told ++ over k m ∷ []))
-  begun_same k m told l other begins = subst (BeginsWith (received_in (history l.way))) (sym (from_same l.link.0 told k m other)) begins
+  begun_same : (k : LinkNo) (m : Message) (told : List Down) (l : LowerState L) → (k.0 ≡ l.link.0 → ⊥) → BeginsWith (received_in (seen l.way).history) (from_link l.link.0 told)
+      → BeginsWith (received_in (seen l.way).history) (from_link l.link.0 (told ++ over k m ∷ []))
+  begun_same k m told l other begins = subst (BeginsWith (received_in (seen l.way).history)) (sym (from_same l.link.0 told k m other)) begins
 
-  come_same : (k : LinkNo) (m : Message) (told : List Down) (links : List (Option LinkNo × L)) → back_under k.0 links ≡ 0 → Every (HasCome tells history told) links → Every (HasCome tells history (told ++ over k m ∷ [])) links
+  come_same : (k : LinkNo) (m : Message) (told : List Down) (links : List (Option LinkNo × L)) → back_under k.0 links ≡ 0 → Every (HasCome tells seen told) links → Every (HasCome tells seen (told ++ over k m ∷ [])) links
   come_same k m told links none all link there =
       let one = all link there in
       record {
         number = one.number;
         is = one.is;
-        begins = λ t. subst (BeginsWith (received_in (history link.1)))
+        begins = λ t. subst (BeginsWith (received_in (seen link.1).history))
             (sym (from_same one.number.0 told k m (λ same. let h : ⊥ = omega (arith, back_stands link one.number links one.is there, ap (λ n. back_under n links) (sym same), none) in h)))
             (one.begins t);
       }
@@ -211,8 +224,10 @@ module _ {L : Type 0} (tells : Type 0) (history : L → List Passed) where
     once = tt;
     unlost = λ k le. refl;
     pending = λ k. omega (arith, ap (due_under k) due);
-    begun = λ t. every_nil (λ (l : LowerState L). BeginsWith (received_in (history l.way)) (from_link l.link.0 []));
-    come = every_nil (HasCome tells history []);
+    begun = λ t. every_nil (λ (l : LowerState L). BeginsWith (received_in (seen l.way).history) (from_link l.link.0 []));
+    greeted = tt;
+    come = every_nil (HasCome tells seen []);
+    causes = every_nil (IsLostIf tells seen cap [] book.due);
   }
 
   -- A message came from above.
@@ -230,14 +245,17 @@ module _ {L : Type 0} (tells : Type 0) (history : L → List Passed) where
     unlost = t.unlost;
     pending = t.pending;
     begun = t.begun;
+    greeted = t.greeted;
     come = t.come;
+    causes = causes_more past (above m) book.due t.back (λ k. refl) t.causes;
   }
 
   -- A message came from below, over the link at a place.
   pub tied_below : (past : List Met) (m : Message) (lowers : List (LowerState L)) (at : ℕ) (old new : LowerState L) (book : Book L) → slice_get lowers at ≡ Some old → new.link ≡ old.link
-      → (tells → BeginsWith (received_in (history new.way)) (from_link old.link.0 (told_of past) ++ m ∷ []))
+      → (tells → BeginsWith (received_in (seen new.way).history) (from_link old.link.0 (told_of past) ++ m ∷ []))
+      → (from_link old.link.0 (told_of past) ≡ []) ⊎ IsHelloFirst (from_link old.link.0 (told_of past))
       → Tied past lowers book → Tied (below old.link m ∷ past) (slice_set lowers at new) book
-  tied_below past m lowers at old new book is link begins t = record {
+  tied_below past m lowers at old new book is link begins greets t = record {
     back = t.back;
     are = t.are;
     missing = t.missing;
@@ -249,11 +267,13 @@ module _ {L : Type 0} (tells : Type 0) (history : L → List Passed) where
     once = (t.once, t.unlost old.link.0 (omega (arith, held)));
     unlost = λ k le. t.unlost k (omega (arith, le, held_set k lowers at old new is link));
     pending = t.pending;
-    begun = λ tell. set_apart old.link.0 (λ l. BeginsWith (received_in (history l.way)) (from_link l.link.0 (told_of past))) (λ l. BeginsWith (received_in (history l.way)) (from_link l.link.0 (told_of past ++ over old.link m ∷ [])))
+    begun = λ tell. set_apart old.link.0 (λ l. BeginsWith (received_in (seen l.way).history) (from_link l.link.0 (told_of past))) (λ l. BeginsWith (received_in (seen l.way).history) (from_link l.link.0 (told_of past ++ over old.link m ∷ [])))
         lowers at old new is refl (omega (arith, t.apart old.link.0)) (λ l other b. begun_same old.link m (told_of past) l other b)
-        (subst (BeginsWith (received_in (history new.way)))
+        (subst (BeginsWith (received_in (seen new.way).history))
         (sym (from_next new.link.0 (told_of past) old.link m (ap (λ (n : LinkNo). n.0) (sym link)) ∙ ap (λ (n : LinkNo). from_link n.0 (told_of past) ++ m ∷ []) link)) (begins tell)) (t.begun tell);
+    greeted = (t.greeted, greets);
     come = come_same old.link m (told_of past) t.back (omega (arith, t.apart old.link.0, held)) t.come;
+    causes = causes_more past (below old.link m) book.due t.back (λ k. refl) t.causes;
   }
     where
       held : 1 ≤ held_under old.link.0 lowers
@@ -282,7 +302,9 @@ module _ {L : Type 0} (tells : Type 0) (history : L → List Passed) where
     unlost = λ k le. by_unlost k (same_or link.0 k) le;
     pending = λ k. omega arith;
     begun = t.begun;
+    greeted = t.greeted;
     come = t.come;
+    causes = λ l there. record { cause = λ tell k is le. lost_more cap (lost link) past k (seen l.1) ((t.causes l there).cause tell k is (omega (arith, le))) };
   }
     where
       here : one_if link.0 link.0 ≡ 1
@@ -318,12 +340,14 @@ module _ {L : Type 0} (tells : Type 0) (history : L → List Passed) where
     unlost = λ k le. t.unlost k (omega (arith, le));
     pending = λ k. omega arith;
     begun = t.begun;
+    greeted = t.greeted;
     come = t.come;
+    causes = causes_fewer past (Some link) None t.back (λ k. let le : 0 ≤ due_under k.0 (Some link) = omega arith in le) t.causes;
   }
 
   -- The links changed, and keep their numbers.
   pub tied_kept : (past : List Met) (lowers now : List (LowerState L)) (book : Book L) → length now ≡ length lowers → ((k : ℕ) → held_under k now ≡ held_under k lowers)
-      → (AreBegun tells history (told_of past) lowers → AreBegun tells history (told_of past) now) → Tied past lowers book → Tied past now book
+      → (AreBegun tells seen (told_of past) lowers → AreBegun tells seen (told_of past) now) → Tied past lowers book → Tied past now book
   tied_kept past lowers now book many under begun t = record {
     back = t.back;
     are = t.are;
@@ -337,13 +361,16 @@ module _ {L : Type 0} (tells : Type 0) (history : L → List Passed) where
     unlost = λ k le. t.unlost k (omega (arith, le, under k));
     pending = t.pending;
     begun = begun t.begun;
+    greeted = t.greeted;
     come = t.come;
+    causes = t.causes;
   }
 
-  -- One was taken out and handed back.
-  pub tied_back : (past : List Met) (lowers now : List (LowerState L)) (out : LowerState L) (way : L) (book : Book L) (got : List (Option LinkNo × L)) → Parts out lowers now → (tells → HearsOn (history out.way) (history way))
-      → got ≡ book.got ++ ((Some out.link, way) ∷ []) → Tied past lowers book → Tied past now (with_due (with_got book got) (Some out.link))
-  tied_back past lowers now out way book got parts comes are t = record {
+  -- One was taken out and handed back; its loss is to be met next, or isn't.
+  pub tied_back : (past : List Met) (lowers now : List (LowerState L)) (out : LowerState L) (way : L) (book : Book L) (got : List (Option LinkNo × L)) (due : Option LinkNo) → Parts out lowers now
+      → (tells → HearsOn (seen out.way).history (seen way).history) → got ≡ book.got ++ ((Some out.link, way) ∷ []) → ((k : ℕ) → due_under k due ≤ one_if out.link.0 k)
+      → (1 ≤ due_under out.link.0 due → tells → IsLost (roll_of cap past) out.link (seen way)) → Tied past lowers book → Tied past now (with_due (with_got book got) due)
+  tied_back past lowers now out way book got due parts comes are fewer cause t = record {
     back = t.back ++ link ∷ [];
     are = are ∙ ap (λ (g : List (Option LinkNo × L)). g ++ link ∷ []) t.are ∙ append_assoc book.first t.back (link ∷ []);
     missing = t.missing;
@@ -353,14 +380,16 @@ module _ {L : Type 0} (tells : Type 0) (history : L → List Passed) where
     known = t.known;
     there = λ none k le. omega (arith, t.there none k le, held_parts k out lowers now parts, more k);
     once = t.once;
-    unlost = λ k le. t.unlost k (omega (arith, le, held_parts k out lowers now parts));
-    pending = λ k. omega (arith, more k);
-    begun = λ tell. every_parts (λ l. BeginsWith (received_in (history l.way)) (from_link l.link.0 (told_of past))) out lowers now parts (t.begun tell);
-    come = every_append (HasCome tells history (told_of past)) t.back (link ∷ []) t.come (every_one (HasCome tells history (told_of past)) link (record {
+    unlost = λ k le. t.unlost k (omega (arith, le, held_parts k out lowers now parts, fewer k));
+    pending = λ k. omega (arith, more k, fewer k);
+    greeted = t.greeted;
+    begun = λ tell. every_parts (λ l. BeginsWith (received_in (seen l.way).history) (from_link l.link.0 (told_of past))) out lowers now parts (t.begun tell);
+    come = every_append (HasCome tells seen (told_of past)) t.back (link ∷ []) t.come (every_one (HasCome tells seen (told_of past)) link (record {
       number = out.link;
       is = refl;
-      begins = λ tell. begins_on (history out.way) (history way) (from_link out.link.0 (told_of past)) (comes tell) (t.begun tell out (stands_parts out lowers now parts));
+      begins = λ tell. begins_on (seen out.way).history (seen way).history (from_link out.link.0 (told_of past)) (comes tell) (t.begun tell out (stands_parts out lowers now parts));
     }));
+    causes = every_append (IsLostIf tells seen cap past due) t.back (link ∷ []) older (every_one (IsLostIf tells seen cap past due) link newest);
   }
     where
       link : Option LinkNo × L
@@ -368,6 +397,23 @@ module _ {L : Type 0} (tells : Type 0) (history : L → List Passed) where
 
       more : (k : ℕ) → back_under k (t.back ++ link ∷ []) ≡ back_under k t.back + one_if out.link.0 k
       more k = let is = back_append k t.back (link ∷ []) in omega (arith, is)
+
+      -- those that were handed back before have other numbers
+      older : Every (IsLostIf tells seen cap past due) t.back
+      older l there = record {
+        cause = λ tell k is le. (t.causes l there).cause tell k is (omega (arith, le, back_stands l k t.back is there, t.apart k.0, held_parts k.0 out lowers now parts, fewer k.0));
+      }
+
+      unmet : lost_under out.link.0 past ≡ 0
+      unmet = t.unlost out.link.0 (omega (arith, held_stands out lowers (stands_parts out lowers now parts)))
+
+      newest : IsLostIf tells seen cap past due link
+      newest = record {
+        cause = λ tell k is le.
+            let same : out.link ≡ k = cc in
+            let here : 1 ≤ due_under out.link.0 due = omega (arith, le, unmet, ap (λ (n : LinkNo). lost_under n.0 past) same, ap (λ (n : LinkNo). due_under n.0 due) same) in
+            subst (λ (n : LinkNo). IsLost (roll_of cap past) n (seen way)) same (cause here tell);
+      }
 
   -- One was taken out, and is missing.
   pub tied_missing : (past : List Met) (lowers now : List (LowerState L)) (out : LowerState L) (book : Book L) (got : List (Option LinkNo × L)) → Parts out lowers now → got ≡ book.got → Tied past lowers book → Tied past now (with_got book got)
@@ -383,8 +429,10 @@ module _ {L : Type 0} (tells : Type 0) (history : L → List Passed) where
     once = t.once;
     unlost = λ k le. t.unlost k (omega (arith, le, held_parts k out lowers now parts));
     pending = λ k. omega arith;
-    begun = λ tell. every_parts (λ l. BeginsWith (received_in (history l.way)) (from_link l.link.0 (told_of past))) out lowers now parts (t.begun tell);
+    begun = λ tell. every_parts (λ l. BeginsWith (received_in (seen l.way).history) (from_link l.link.0 (told_of past))) out lowers now parts (t.begun tell);
+    greeted = t.greeted;
     come = t.come;
+    causes = causes_fewer past book.due None t.back (λ k. let le : 0 ≤ due_under k.0 book.due = omega arith in le) t.causes;
   }
 
   -- Another hall's answer to the same.
@@ -402,7 +450,9 @@ module _ {L : Type 0} (tells : Type 0) (history : L → List Passed) where
     unlost = λ k le. t.unlost k (omega (arith, le));
     pending = λ k. omega arith;
     begun = t.begun;
+    greeted = t.greeted;
     come = t.come;
+    causes = causes_fewer past book.due None t.back (λ k. let le : 0 ≤ due_under k.0 book.due = omega arith in le) t.causes;
   }
 
   -- a number beyond those so far is of no link
@@ -422,7 +472,7 @@ module _ {L : Type 0} (tells : Type 0) (history : L → List Passed) where
       by (suc n) is = absurd (let h : ⊥ = omega (arith, (is (omega arith)).1, next) in h)
 
   -- One has come, under the next number.
-  pub tied_joined : (honest : L → Type 0) (is : Type 0) (past : List Met) (lowers now : List (LowerState L)) (book : Book L) (got : List (Option LinkNo × L)) (upto : ℕ) → Joins history honest is book.upto lowers now → upto ≡ book.upto + 1
+  pub tied_joined : (honest : L → Type 0) (is : Type 0) (past : List Met) (lowers now : List (LowerState L)) (book : Book L) (got : List (Option LinkNo × L)) (upto : ℕ) → Joins seen honest is book.upto lowers now → upto ≡ book.upto + 1
       → got ≡ book.got → Tied past lowers book → Tied past now (with_hall book got upto)
   tied_joined honest is past lowers now book got upto j next are t = record {
     back = t.back;
@@ -436,11 +486,13 @@ module _ {L : Type 0} (tells : Type 0) (history : L → List Passed) where
     once = t.once;
     unlost = λ k le. by_unlost k (same_or j.link.0 k) le;
     pending = λ k. omega arith;
-    begun = λ tell. subst (Every (λ l. BeginsWith (received_in (history l.way)) (from_link l.link.0 (told_of past)))) (sym j.among)
-        (every_append (λ l. BeginsWith (received_in (history l.way)) (from_link l.link.0 (told_of past))) lowers (new_lower j.link j.way ∷ []) (t.begun tell)
-        (every_one (λ l. BeginsWith (received_in (history l.way)) (from_link l.link.0 (told_of past))) (new_lower j.link j.way)
-        (subst (BeginsWith (received_in (history j.way))) (sym (from_none j.link.0 past (omega (arith, unmet)))) ([], record { framed_all = tt; are = ap received_in j.nothing }))));
+    begun = λ tell. subst (Every (λ l. BeginsWith (received_in (seen l.way).history) (from_link l.link.0 (told_of past)))) (sym j.among)
+        (every_append (λ l. BeginsWith (received_in (seen l.way).history) (from_link l.link.0 (told_of past))) lowers (new_lower j.link j.way ∷ []) (t.begun tell)
+        (every_one (λ l. BeginsWith (received_in (seen l.way).history) (from_link l.link.0 (told_of past))) (new_lower j.link j.way)
+        (subst (BeginsWith (received_in (seen j.way).history)) (sym (from_none j.link.0 past (omega (arith, unmet)))) ([], record { framed_all = tt; are = ap received_in j.nothing }))));
+    greeted = t.greeted;
     come = t.come;
+    causes = causes_fewer past book.due None t.back (λ k. let le : 0 ≤ due_under k.0 book.due = omega arith in le) t.causes;
   }
     where
       under : (k : ℕ) → held_under k now ≡ held_under k lowers + one_if j.link.0 k
@@ -470,7 +522,7 @@ module _ {L : Type 0} (tells : Type 0) (history : L → List Passed) where
       subst (λ (n : ℕ). Tied past lowers (with_hall book got n)) (sym same) (tied_book past lowers book got are t)
 
   -- One was given for which there was no memory, or none.
-  pub tied_refused : (past : List Met) (lowers : List (LowerState L)) (book : Book L) (got : List (Option LinkNo × L)) (upto : ℕ) → Misses history book.upto upto book.got got → Tied past lowers book → Tied past lowers (with_hall book got upto)
+  pub tied_refused : (past : List Met) (lowers : List (LowerState L)) (book : Book L) (got : List (Option LinkNo × L)) (upto : ℕ) → Misses seen book.upto upto book.got got → Tied past lowers book → Tied past lowers (with_hall book got upto)
   tied_refused past lowers book got upto (parts.none same are) t = tied_hall past lowers book got upto same are t
   tied_refused past lowers book got upto (parts.lost next are) t = record {
     back = t.back;
@@ -485,7 +537,9 @@ module _ {L : Type 0} (tells : Type 0) (history : L → List Passed) where
     unlost = λ k le. t.unlost k (omega (arith, le));
     pending = λ k. omega arith;
     begun = t.begun;
+    greeted = t.greeted;
     come = t.come;
+    causes = causes_fewer past book.due None t.back (λ k. let le : 0 ≤ due_under k.0 book.due = omega arith in le) t.causes;
   }
   tied_refused past lowers book got upto (parts.back link way number nothing next are) t = record {
     back = t.back ++ here ∷ [];
@@ -500,10 +554,16 @@ module _ {L : Type 0} (tells : Type 0) (history : L → List Passed) where
     unlost = λ k le. t.unlost k (omega (arith, le));
     pending = λ k. omega arith;
     begun = t.begun;
-    come = every_append (HasCome tells history (told_of past)) t.back (here ∷ []) t.come (every_one (HasCome tells history (told_of past)) here (record {
+    come = every_append (HasCome tells seen (told_of past)) t.back (here ∷ []) t.come (every_one (HasCome tells seen (told_of past)) here (record {
       number = link;
       is = refl;
-      begins = λ tell. subst (BeginsWith (received_in (history way))) (sym (from_none link.0 past (omega (arith, unmet)))) ([], record { framed_all = tt; are = ap received_in nothing });
+      begins = λ tell. subst (BeginsWith (received_in (seen way).history)) (sym (from_none link.0 past (omega (arith, unmet)))) ([], record { framed_all = tt; are = ap received_in nothing });
+    }));
+    greeted = t.greeted;
+    causes = every_append (IsLostIf tells seen cap past None) t.back (here ∷ []) (causes_fewer past book.due None t.back (λ k. let le : 0 ≤ due_under k.0 book.due = omega arith in le) t.causes) (every_one (IsLostIf tells seen cap past None) here (record {
+      cause = λ tell k is le.
+          let same : link ≡ k = cc in
+          absurd (let wrong : ⊥ = omega (arith, le, none_lost past link.0 (let unmet_now : met_under link.0 past ≡ 0 = omega (arith, unmet) in unmet_now), ap (λ (n : LinkNo). lost_under n.0 past) same) in wrong);
     }));
   }
     where
@@ -528,7 +588,7 @@ module _ {L : Type 0} (tells : Type 0) (history : L → List Passed) where
       by_within k (inr other) le = let old = t.within k (omega (arith, le, more k, one_other link.0 k other)) in (old.0, omega (arith, old.1, next))
 
   -- The last link was let go.
-  pub tied_gone : (past : List Met) (lowers now : List (LowerState L)) (out : LowerState L) (book : Book L) (got got_now : List (Option LinkNo × L)) → lowers ≡ now ++ out ∷ [] → LetsGoOne tells history out got got_now
+  pub tied_gone : (past : List Met) (lowers now : List (LowerState L)) (out : LowerState L) (book : Book L) (got got_now : List (Option LinkNo × L)) → lowers ≡ now ++ out ∷ [] → LetsGoOne tells seen out got got_now
       → Tied past lowers (with_got book got) → Tied past now (with_got book got_now)
   tied_gone past lowers now out book got got_now are go t = by go.back
     where
@@ -536,11 +596,11 @@ module _ {L : Type 0} (tells : Type 0) (history : L → List Passed) where
       parts = record { earlier = now; later = []; among = are; others = sym (append-nil now) }
 
       by : (got_now ≡ got ++ ((Some out.link, go.way) ∷ [])) ⊎ (got_now ≡ got) → Tied past now (with_got book got_now)
-      by (inl is) = tied_not past out.link now (with_got book got_now) (tied_back past lowers now out go.way (with_got book got) got_now parts go.comes is t)
+      by (inl is) = tied_back past lowers now out go.way (with_got book got) got_now None parts go.comes is (λ k. let le : 0 ≤ one_if out.link.0 k = omega arith in le) (λ wrong. absurd (let h : ⊥ = omega (arith, wrong) in h)) t
       by (inr is) = tied_missing past lowers now out (with_got book got) got_now parts is t
 
   -- Once no link is held.
-  pub came_over : (past : List Met) (book : Book L) (given given_now : ℕ) → book.upto + given ≡ given_now → Tied past [] book → CameOver tells history book.first book.got given given_now past
+  pub came_over : (past : List Met) (book : Book L) (given given_now : ℕ) → book.upto + given ≡ given_now → Tied past [] book → CameOver tells seen cap book.first book.got given given_now past
   came_over past book given given_now counted t = record {
     links = t.back;
     back = t.are;
@@ -549,18 +609,20 @@ module _ {L : Type 0} (tells : Type 0) (history : L → List Passed) where
     known = λ k le. let is = t.known k le in (is.0, omega (arith, is.1, counted));
     there = λ all k le. omega (arith, t.there (omega (arith, all, t.many, counted)) k le);
     once = t.once;
+    greeted = t.greeted;
     come = t.come;
+    causes = causes_fewer past book.due None t.back (λ k. let le : 0 ≤ due_under k.0 book.due = omega arith in le) t.causes;
   }
 
 -- One came under another fact, after a call that handed nothing back.
-pub gains_later : {L E : Type 0} (history : L → List Passed) (honest : L → Type 0) (is other : Type 0) (number now : ℕ) (got mid got_now : List (Option LinkNo × L)) (old new : List (LowerState L)) (r : Result Bool E) → mid ≡ got → (other → is)
-    → Gains history honest is number now mid got_now old new r → Gains history honest other number now got got_now old new r
-gains_later history honest is other number now got mid got_now old new (Ok true) same fact (next, are, j) =
+pub gains_later : {L E : Type 0} (seen : L → Seen) (honest : L → Type 0) (is other : Type 0) (number now : ℕ) (got mid got_now : List (Option LinkNo × L)) (old new : List (LowerState L)) (r : Result Bool E) → mid ≡ got → (other → is)
+    → Gains seen honest is number now mid got_now old new r → Gains seen honest other number now got got_now old new r
+gains_later seen honest is other number now got mid got_now old new (Ok true) same fact (next, are, j) =
     (next, are ∙ same, record { link = j.link; way = j.way; next = j.next; nothing = j.nothing; honestly = λ o. j.honestly (fact o); among = j.among })
-gains_later history honest is other number now got mid got_now old new (Ok false) same fact (none, are, kept) = (none, are ∙ same, kept)
-gains_later history honest is other number now got mid got_now old new (Err why) same fact (misses, kept) = (subst (λ g. Misses history number now g got_now) same misses, kept)
+gains_later seen honest is other number now got mid got_now old new (Ok false) same fact (none, are, kept) = (none, are ∙ same, kept)
+gains_later seen honest is other number now got mid got_now old new (Err why) same fact (misses, kept) = (subst (λ g. Misses seen number now g got_now) same misses, kept)
 
 -- One for which there was no memory was handed back or lost.
-pub misses_by : {L : Type 0} (history : L → List Passed) (number now : ℕ) (link : LinkNo) (way : L) (got got_now : List (Option LinkNo × L)) → now ≡ number + 1 → link.0 ≡ number + 1 → history way ≡ [] → MayHandBack link way got got_now → Misses history number now got got_now
-misses_by history number now link way got got_now next is nothing (inl came) = parts.back link way is nothing next came
-misses_by history number now link way got got_now next is nothing (inr gone) = parts.lost next gone
+pub misses_by : {L : Type 0} (seen : L → Seen) (number now : ℕ) (link : LinkNo) (way : L) (got got_now : List (Option LinkNo × L)) → now ≡ number + 1 → link.0 ≡ number + 1 → (seen way).history ≡ [] → MayHandBack link way got got_now → Misses seen number now got got_now
+misses_by seen number now link way got got_now next is nothing (inl came) = parts.back link way is nothing next came
+misses_by seen number now link way got got_now next is nothing (inr gone) = parts.lost next gone

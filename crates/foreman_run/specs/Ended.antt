@@ -5,7 +5,6 @@ use Rattle.flow_types.specs.declared.job.Failure.{Failure}
 use Rattle.flow_types.specs.declared.job.Job.{Job}
 use Rattle.flow_types.specs.declared.numbers.LinkNo.{LinkNo}
 use Rattle.flow_types.specs.Serial.{Function}
-use Rattle.links.specs.declared.passing.Passed.{Passed}
 use Rattle.links.specs.Honesty.{IsHonestThroughout}
 use Rattle.links.specs.Passings.{received_in, sent_in}
 use Rattle.peer_run.specs.declared.cause.PeerCause.{PeerCause}
@@ -16,6 +15,7 @@ use Rattle.foreman_run.specs.declared.stop.Stop.{Stop}
 use Rattle.foreman_run.specs.declared.stop.Stop.TheVariants.{Left, Hall}
 use Rattle.foreman_run.specs.Ends.{Stops}
 use Rattle.foreman_run.specs.Hosts.{Hosts}
+use Rattle.foreman_run.specs.Lost.{Seen}
 use Rattle.foreman_run.specs.Tied.{CameOver}
 
 -- the bytes that a foreman keeps at most, by these words
@@ -47,28 +47,28 @@ RoseBy before now Hall = before < now
 -- the links that were handed back, and where the hall's links are honest this link is, seen from the
 -- foreman's end.
 pub record HasStopped {L : Type 0} (gives : Function) (may_fail : Job → Failure → Type 0)
-    (tells honest below_tells : Type 0) (history : L → List Passed) (cap : ℕ) (way : Way)
+    (tells honest below_tells : Type 0) (seen : L → Seen) (cap : ℕ) (way : Way)
     (before now : ℕ) (got got_now : List (Option LinkNo × L)) (given given_now : ℕ)
     (cause : PeerCause) : Type 0 where
   pub stop : Stop
   pub cause_is : cause ≡ cause_by way.faults before now stop
   pub rose : RoseBy before now stop
   pub stops : Stops gives may_fail tells false cap 0 way stop
-  pub from_links : CameOver below_tells history got got_now given given_now stops.past
+  pub from_links : CameOver below_tells seen cap got got_now given given_now stops.past
   pub right : tells → honest → IsHonestThroughout gives may_fail received_in sent_in way.history
 
 -- Why a foreman ends before its line is printed: without a link as above, and with one it has left it
 -- for this cause.
 abbrev pub EndsBy : {U L : Type 0} → Function → (Job → Failure → Type 0) → Type 0 → Type 0 → Type 0
-    → (L → List Passed) → (U → Way) → Option ForemanOptions → ℕ → ℕ → ℕ → ℕ
+    → (L → Seen) → (U → Way) → Option ForemanOptions → ℕ → ℕ → ℕ → ℕ
     → List (Option LinkNo × L) → List (Option LinkNo × L) → ℕ → ℕ → Option U → PeerCause → Type 0
-EndsBy gives may_fail tells honest below_tells history way options dialled dials before now got
+EndsBy gives may_fail tells honest below_tells seen way options dialled dials before now got
     got_now given given_now None cause =
     NoLink options dialled dials cause
-EndsBy gives may_fail tells honest below_tells history way options dialled dials before now got
+EndsBy gives may_fail tells honest below_tells seen way options dialled dials before now got
     got_now given given_now (Some link) cause =
     (chosen : ForemanOptions) × (options ≡ Some chosen)
-    × HasStopped gives may_fail tells honest below_tells history (cap_by chosen) (way link) before
+    × HasStopped gives may_fail tells honest below_tells seen (cap_by chosen) (way link) before
     now got got_now given given_now cause
 
 -- Each link that the hall gave was handed back once; where the cause isn't Bye some may have been lost

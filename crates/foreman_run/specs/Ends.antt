@@ -14,7 +14,7 @@ use Rattle.peer_run.specs.Works.{Way}
 use Rattle.foreman_run.specs.declared.stop.Stop.{Stop}
 use Rattle.foreman_run.specs.declared.stop.Stop.TheVariants.{Left, Hall}
 use Rattle.flow_types.specs.declared.numbers.LinkNo.{LinkNo}
-use Rattle.links.specs.declared.passing.Passed.{Passed}
+use Rattle.foreman_run.specs.Lost.{Seen}
 use Rattle.foreman_run.specs.Lowers.{LowerState}
 use Rattle.foreman_run.specs.Tied.{AreTied, Book, with_hall}
 use Rattle.foreman_run.specs.Met.{Met, AreInOrder, has_left, heard_of, said_of, told_of}
@@ -56,19 +56,19 @@ pub record Stops (gives : Function) (may_fail : Job → Failure → Type 0) (tel
 
 -- The same, and what it met of its workers came over the links that are held or were handed back.
 pub record StopsAt {L : Type 0} (gives : Function) (may_fail : Job → Failure → Type 0)
-    (tells : Type 0) (trusted : Bool) (below_tells : Type 0) (history : L → List Passed) (cap : ℕ)
+    (tells : Type 0) (trusted : Bool) (below_tells : Type 0) (seen : L → Seen) (cap : ℕ)
     (book : Book L) (way : Way) (lowers : List (LowerState L)) (stop : Stop) : Type 0 where
   pub stops : Stops gives may_fail tells trusted cap book.faults way stop
-  pub tied : AreTied below_tells history stops.past lowers book
+  pub tied : AreTied below_tells seen cap stops.past lowers book
 
 -- It stopped so, once so many links had a number, which are those that the hall gave.
 pub record StopsOver {L : Type 0} (gives : Function) (may_fail : Job → Failure → Type 0)
-    (tells : Type 0) (trusted : Bool) (below_tells : Type 0) (history : L → List Passed) (cap : ℕ)
+    (tells : Type 0) (trusted : Bool) (below_tells : Type 0) (seen : L → Seen) (cap : ℕ)
     (book : Book L) (got : List (Option LinkNo × L)) (given given_now : ℕ) (way : Way)
     (lowers : List (LowerState L)) (stop : Stop) : Type 0 where
   pub upto : ℕ
   pub counted : upto + given ≡ given_now
-  pub stops_at : StopsAt gives may_fail tells trusted below_tells history cap
+  pub stops_at : StopsAt gives may_fail tells trusted below_tells seen cap
       (with_hall book got upto) way lowers stop
 
 -- A foreman goes on, or has stopped.

@@ -1,5 +1,7 @@
 pub mod Met
+pub mod Lost
 pub mod Lowers
+pub mod Workers
 pub mod Tied
 pub mod Works
 pub mod Ends

@@ -1,5 +1,5 @@
 -- A foreman's links to its workers.
-use Rattle.std.specs.Prelude.{◌≡◌, ◌==◌, ◌⊎◌, ◌+◌, ◌++◌, ◌∷◌, [], ℕ, Bool, true, false, if◌then◌else◌, List, Option, None, length}
+use Rattle.std.specs.Prelude.{◌≡◌, ◌==◌, ◌≤◌, ◌⊎◌, ◌+◌, ◌++◌, ◌∷◌, [], ℕ, Bool, true, false, if◌then◌else◌, List, Option, None, length}
 use Rattle.flow_types.specs.declared.job.Failure.{Failure}
 use Rattle.flow_types.specs.declared.job.Job.{Job}
 use Rattle.flow_types.specs.declared.job.Outcome.{Outcome}
@@ -20,14 +20,25 @@ use Rattle.links.specs.Passings.{received_in, sent_in}
 use Rattle.message_forms.specs.Streams.{AreFramed, BeginsWith, IsStream, frames_of}
 use Rattle.outside.specs.Jobs.{IsHonest}
 use Rattle.peer_run.specs.Works.{EarState}
-use Rattle.foreman_run.specs.Met.{one_if}
+use Rattle.foreman_run.specs.Lost.{IsLostFor, Seen, refusals_of}
+use Rattle.foreman_run.specs.Met.{Roll, one_if, there_under}
 
--- a link to a worker: its number, what came over it and no message took, and whether it is to be left
+-- what a foreman's own limits go by: whether its worker's first message came, how many bytes came
+-- before that at least, and how often in a row it answered that an attempt wasn't run at most
+pub record CareState : Type 0 where
+  pub greeted : Bool
+  pub early : ℕ
+  pub refused : ℕ
+
+-- a link to a worker: its number, what came over it and no message took, what the limits go by,
+-- whether it is to be left, and whether that is for want of memory
 pub record LowerState (L : Type 0) : Type 0 where
   pub link : LinkNo
   pub way : L
   pub ear : EarState
+  pub care : CareState
   pub gone : Bool
+  pub starved : Bool
 
 -- a message to the worker at a link, or from it
 abbrev pub over : LinkNo → Message → Down
@@ -45,22 +56,37 @@ probe = messages.Unlink no_key
 abbrev pub Went : List Down → LinkNo → Message → Type 0
 Went sent k m = (m ≡ probe) ⊎ Stands (over k m) sent
 
--- What passed over a link of this number, by all that was to go down and the messages that were heard
--- there: what was sent are the frames of probes and of messages that were to go down there, and what
--- came are the frames of what was heard and the bytes left.
-pub record Passes (history : List Passed) (ear : EarState) (k : LinkNo) (sent : List Down)
+-- What passed over a link of this number, by the roll and the messages that were heard there: what was
+-- sent are the frames of probes and of messages that were to go down there, and what came are the
+-- frames of what was heard and the bytes left. What the limits go by is no more than what was heard.
+pub record Passes (history : List Passed) (ear : EarState) (care : CareState) (k : LinkNo) (roll : Roll)
     (heard : List Message) : Type 0 where
   pub said : List Message
   pub said_framed : AreFramed said
   pub are_sent : sent_in history ≡ frames_of said
-  pub went : Every (Went sent k) said
+  pub went : Every (Went roll.down k) said
   pub came : IsStream (received_in history) heard ear.rest
+  pub unheard : care.greeted ≡ false → heard ≡ []
+  pub early : care.greeted ≡ false → care.early ≤ length ear.rest
+  pub refused : care.refused ≤ refusals_of heard
 
--- It is so of a link that tells and isn't to be left.
-abbrev pub IsHeld : {L : Type 0} → Type 0 → (L → List Passed) → List Down → List Message
-    → LowerState L → Type 0
-IsHeld tells history sent heard l =
-    (l.gone ≡ false) → tells → Passes (history l.way) l.ear l.link sent heard
+-- A link of this number is lost for a cause that it shows, by the tasks that were to go down there.
+abbrev pub IsLost : Roll → LinkNo → Seen → Type 0
+IsLost roll k seen =
+    IsLostFor (λ t. Stands (over k (messages.Task t)) roll.down) (roll.full k) seen
+
+-- Where anything was heard over a link of this number a worker is there.
+abbrev pub IsPlaced : Roll → LinkNo → List Message → Type 0
+IsPlaced roll k heard = (heard ≡ []) ⊎ (1 ≤ there_under k.0 roll.workers)
+
+-- It is so of a link that isn't to be left, and what passed over it is so where it tells; and one that
+-- is to be left, but not for want of memory, is lost for a cause.
+pub record IsHeld {L : Type 0} (tells : Type 0) (seen : L → Seen) (roll : Roll) (heard : List Message)
+    (l : LowerState L) : Type 0 where
+  pub placed : l.gone ≡ false → IsPlaced roll l.link heard
+  pub passes : l.gone ≡ false → tells
+      → Passes (seen l.way).history l.ear l.care l.link roll heard
+  pub lost : l.gone ≡ true → l.starved ≡ false → tells → IsLost roll l.link (seen l.way)
 
 -- those of these messages from below that came over the link of this number
 abbrev pub from_link : ℕ → List Down → List Message
@@ -69,19 +95,19 @@ from_link k (d ∷ told) =
     if d.link.0 == k then d.message ∷ from_link k told else from_link k told
 
 -- It is so of each, by all messages from below.
-abbrev pub AreHeld : {L : Type 0} → Type 0 → (L → List Passed) → List Down → List Down
+abbrev pub AreHeld : {L : Type 0} → Type 0 → (L → Seen) → Roll → List Down
     → List (LowerState L) → Type 0
-AreHeld tells history sent told lowers =
-    Every (λ l. IsHeld tells history sent (from_link l.link.0 told) l) lowers
+AreHeld tells seen roll told lowers =
+    Every (λ l. IsHeld tells seen roll (from_link l.link.0 told) l) lowers
 
 -- More was received, or nothing.
 abbrev pub HearsOn : List Passed → List Passed → Type 0
 HearsOn old new = (more : List ℕ) × (received_in new ≡ received_in old ++ more)
 
 -- What came over each link begins with the frames of the messages from below that came under its number.
-abbrev pub AreBegun : {L : Type 0} → Type 0 → (L → List Passed) → List Down → List (LowerState L) → Type 0
-AreBegun tells history told lowers =
-    tells → Every (λ l. BeginsWith (received_in (history l.way)) (from_link l.link.0 told)) lowers
+abbrev pub AreBegun : {L : Type 0} → Type 0 → (L → Seen) → List Down → List (LowerState L) → Type 0
+AreBegun tells seen told lowers =
+    tells → Every (λ l. BeginsWith (received_in (seen l.way).history) (from_link l.link.0 told)) lowers
 
 -- how many of the links have this number
 abbrev pub held_under : {L : Type 0} → ℕ → List (LowerState L) → ℕ
@@ -94,21 +120,21 @@ AreHonest honest lowers = Every (λ l. honest l.way) lowers
 
 -- What becomes of some links: what went down over each stays among what was to go down, and honest
 -- ones stay so.
-pub record Keeps {L : Type 0} (tells : Type 0) (history : L → List Passed) (honest : L → Type 0)
+pub record Keeps {L : Type 0} (tells : Type 0) (seen : L → Seen) (honest : L → Type 0)
     (old new : List (LowerState L)) : Type 0 where
-  pub held : (sent told : List Down) → AreHeld tells history sent told old
-      → AreHeld tells history sent told new
-  pub begun : (told : List Down) → AreBegun tells history told old → AreBegun tells history told new
+  pub held : (roll : Roll) (told : List Down) → AreHeld tells seen roll told old
+      → AreHeld tells seen roll told new
+  pub begun : (told : List Down) → AreBegun tells seen told old → AreBegun tells seen told new
   pub honestly : AreHonest honest old → AreHonest honest new
   pub many : length new ≡ length old
   pub under : (k : ℕ) → held_under k new ≡ held_under k old
 
 -- The same, where messages may go down that are among these.
-pub record KeepsWith {L : Type 0} (tells : Type 0) (history : L → List Passed) (honest : L → Type 0)
+pub record KeepsWith {L : Type 0} (tells : Type 0) (seen : L → Seen) (honest : L → Type 0)
     (down : List Down) (old new : List (LowerState L)) : Type 0 where
-  pub held : (sent told : List Down) → Every (λ d. Stands d sent) down
-      → AreHeld tells history sent told old → AreHeld tells history sent told new
-  pub begun : (told : List Down) → AreBegun tells history told old → AreBegun tells history told new
+  pub held : (roll : Roll) (told : List Down) → Every (λ d. Stands d roll.down) down
+      → AreHeld tells seen roll told old → AreHeld tells seen roll told new
+  pub begun : (told : List Down) → AreBegun tells seen told old → AreBegun tells seen told new
   pub honestly : AreHonest honest old → AreHonest honest new
   pub many : length new ≡ length old
   pub under : (k : ℕ) → held_under k new ≡ held_under k old
@@ -126,39 +152,41 @@ new_lower link way = record {
   link = link;
   way = way;
   ear = record { rest = []; body = []; stop = None; fed = 0 };
+  care = record { greeted = false; early = 0; refused = 0 };
   gone = false;
+  starved = false;
 }
 
 -- One has come behind the others, under the next number, over which nothing has passed, and which is
 -- honest where that is so.
-pub record Joins {L : Type 0} (history : L → List Passed) (honest : L → Type 0) (is : Type 0)
+pub record Joins {L : Type 0} (seen : L → Seen) (honest : L → Type 0) (is : Type 0)
     (number : ℕ) (old new : List (LowerState L)) : Type 0 where
   pub link : LinkNo
   pub way : L
   pub next : link.0 ≡ number + 1
-  pub nothing : history way ≡ []
+  pub nothing : (seen way).history ≡ []
   pub honestly : is → honest way
   pub among : new ≡ old ++ (new_lower link way ∷ [])
 
 -- None was given; or one was given for which there was no memory, and it was handed back under the
 -- next number, or lost.
-pub data Misses {L : Type 0} (history : L → List Passed) (number now : ℕ)
+pub data Misses {L : Type 0} (seen : L → Seen) (number now : ℕ)
     (got got_now : List (Option LinkNo × L)) : Type 0 where
-  none : now ≡ number → got_now ≡ got → Misses history number now got got_now
-  back : (link : LinkNo) → (way : L) → link.0 ≡ number + 1 → history way ≡ [] → now ≡ number + 1
-      → got_now ≡ got ++ ((Some link, way) ∷ []) → Misses history number now got got_now
-  lost : now ≡ number + 1 → got_now ≡ got → Misses history number now got got_now
+  none : now ≡ number → got_now ≡ got → Misses seen number now got got_now
+  back : (link : LinkNo) → (way : L) → link.0 ≡ number + 1 → (seen way).history ≡ [] → now ≡ number + 1
+      → got_now ≡ got ++ ((Some link, way) ∷ []) → Misses seen number now got got_now
+  lost : now ≡ number + 1 → got_now ≡ got → Misses seen number now got got_now
 
 -- One has come, as above, or none; where it failed they are the same.
-abbrev pub Gains : {L E : Type 0} → (L → List Passed) → (L → Type 0) → Type 0 → ℕ → ℕ
+abbrev pub Gains : {L E : Type 0} → (L → Seen) → (L → Type 0) → Type 0 → ℕ → ℕ
     → List (Option LinkNo × L) → List (Option LinkNo × L) → List (LowerState L)
     → List (LowerState L) → Result Bool E → Type 0
-Gains history honest is number now got got_now old new (Ok true) =
-    (now ≡ number + 1) × (got_now ≡ got) × Joins history honest is number old new
-Gains history honest is number now got got_now old new (Ok false) =
+Gains seen honest is number now got got_now old new (Ok true) =
+    (now ≡ number + 1) × (got_now ≡ got) × Joins seen honest is number old new
+Gains seen honest is number now got got_now old new (Ok false) =
     (now ≡ number) × (got_now ≡ got) × (new ≡ old)
-Gains history honest is number now got got_now old new (Err why) =
-    Misses history number now got got_now × (new ≡ old)
+Gains seen honest is number now got got_now old new (Err why) =
+    Misses seen number now got got_now × (new ≡ old)
 
 -- A task of this number went down there, and contents under its keys, and its job may end so.
 pub record IsAnswered (gives : Function) (may_fail : Job → Failure → Type 0) (sent : List Down)

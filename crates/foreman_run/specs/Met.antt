@@ -1,14 +1,16 @@
 -- What a foreman meets: messages from above and from below, and lost links. The newest stands first.
-use Rattle.std.specs.Prelude.{◌≡◌, ◌==◌, ◌+◌, ℕ, Bool, false, if◌then◌else◌, List, [], ◌∷◌, ◌++◌, ◌||◌}
+use Rattle.std.specs.Prelude.{◌≡◌, ◌==◌, ◌+◌, ℕ, Bool, false, not, nat_lt, if◌then◌else◌, List, [], ◌∷◌, ◌++◌, ◌||◌, ◌&&◌, length}
 use Rattle.flow_types.specs.declared.messages.Message.{Message}
 use Rattle.flow_types.specs.declared.messages.Message.TheVariants as messages
 use Rattle.flow_types.specs.declared.numbers.Amounts.{Amounts}
 use Rattle.flow_types.specs.declared.numbers.LinkNo.{LinkNo}
 use Rattle.foreman_core.specs.declared.acts.Down.{Down}
-use Rattle.foreman_core.specs.Foremen.{Foreman, new_foreman}
+use Rattle.foreman_core.specs.declared.links.Below.{Below}
+use Rattle.foreman_core.specs.Foremen.{Foreman, most_links, new_foreman}
 use Rattle.foreman_core.specs.Steps.{Led, hears_up, hears_down, loses}
 use Rattle.peer_run.specs.Met.{is_bye}
 use Rattle.worker_core.specs.Workers.{goes_up}
+use Rattle.foreman_run.specs.Lost.{is_hello}
 
 -- what a foreman meets
 pub data Met : Type 0 where
@@ -105,3 +107,32 @@ AreOnce [] = Unit {0}
 AreOnce (above m ∷ past) = AreOnce past
 AreOnce (below link m ∷ past) = AreOnce past × (lost_under link.0 past ≡ 0)
 AreOnce (lost link ∷ past) = AreOnce past × (lost_under link.0 past ≡ 0)
+
+-- how many of these workers have the link of this number
+abbrev pub there_under : ℕ → List Below → ℕ
+there_under k [] = 0
+there_under k (b ∷ links) = one_if b.link.0 k + there_under k links
+
+-- a hello came over the link of this number while as many workers lived as may
+abbrev pub was_full : ℕ → LinkNo → List Met → Bool
+was_full cap k [] = false
+was_full cap k (above m ∷ past) = was_full cap k past
+was_full cap k (below link m ∷ past) =
+    ((link.0 == k.0) && (is_hello m && not (nat_lt (length (foreman_of cap past).links) most_links)))
+    || was_full cap k past
+was_full cap k (lost link ∷ past) = was_full cap k past
+
+-- what a foreman's links are seen beside: what is to go down by then, its workers, and over which
+-- links a hello came while it had as many as may be
+pub record Roll : Type 0 where
+  pub down : List Down
+  pub workers : List Below
+  pub full : LinkNo → Bool
+
+-- that of a foreman with such a cache once it met these
+abbrev pub roll_of : ℕ → List Met → Roll
+roll_of cap past = record {
+  down = sent_of cap past;
+  workers = (foreman_of cap past).links;
+  full = λ k. was_full cap k past;
+}

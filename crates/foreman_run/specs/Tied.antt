@@ -3,11 +3,11 @@ use Rattle.std.specs.Prelude.{◌≡◌, ◌≤◌, ◌⊎◌, ◌+◌, ℕ, Lis
 use Rattle.flow_types.specs.declared.numbers.LinkNo.{LinkNo}
 use Rattle.foreman_core.specs.declared.acts.Down.{Down}
 use Rattle.foreman_core.specs.Members.{Every}
-use Rattle.links.specs.declared.passing.Passed.{Passed}
 use Rattle.links.specs.Passings.{received_in}
 use Rattle.message_forms.specs.Streams.{BeginsWith}
-use Rattle.foreman_run.specs.Lowers.{AreBegun, HearsOn, LowerState, from_link, held_under}
-use Rattle.foreman_run.specs.Met.{Met, AreOnce, lost_under, met_under, one_if, told_of}
+use Rattle.foreman_run.specs.Lost.{IsHelloFirst, Seen}
+use Rattle.foreman_run.specs.Lowers.{AreBegun, HearsOn, IsLost, LowerState, from_link, held_under}
+use Rattle.foreman_run.specs.Met.{Met, above, below, lost, AreOnce, lost_under, met_under, one_if, roll_of, told_of}
 
 -- what a foreman's state is seen beside: the count of faults that the link to its parent had first,
 -- the links that were handed back before it began and by now, how many links have had a number, and
@@ -65,11 +65,25 @@ back_under k (link ∷ links) = due_under k link.0 + back_under k links
 
 -- A link that was handed back has a number, and what came over it begins with the frames of the
 -- messages from below that came under that.
-pub record HasCome {L : Type 0} (tells : Type 0) (history : L → List Passed) (told : List Down)
+pub record HasCome {L : Type 0} (tells : Type 0) (seen : L → Seen) (told : List Down)
     (link : Option LinkNo × L) : Type 0 where
   pub number : LinkNo
   pub is : link.0 ≡ Some number
-  pub begins : tells → BeginsWith (received_in (history link.1)) (from_link number.0 told)
+  pub begins : tells → BeginsWith (received_in (seen link.1).history) (from_link number.0 told)
+
+-- A link whose loss was met, or is to be met next, is lost for a cause that it shows.
+pub record IsLostIf {L : Type 0} (tells : Type 0) (seen : L → Seen) (cap : ℕ) (past : List Met)
+    (due : Option LinkNo) (link : Option LinkNo × L) : Type 0 where
+  pub cause : tells → (k : LinkNo) → link.0 ≡ Some k → 1 ≤ lost_under k.0 past + due_under k.0 due
+      → IsLost (roll_of cap past) k (seen link.1)
+
+-- Where a message is met of a worker nothing was met of it before, or first its hello.
+abbrev pub AreGreeted : List Met → Type 0
+AreGreeted [] = Unit {0}
+AreGreeted (above m ∷ past) = AreGreeted past
+AreGreeted (below link m ∷ past) = AreGreeted past
+    × ((from_link link.0 (told_of past) ≡ []) ⊎ IsHelloFirst (from_link link.0 (told_of past)))
+AreGreeted (lost link ∷ past) = AreGreeted past
 
 -- The link was handed back under its number, or it was lost.
 abbrev pub MayHandBack : {L : Type 0} → LinkNo → L → List (Option LinkNo × L)
@@ -84,16 +98,16 @@ HandsBack link way got got_now (Ok x) = got_now ≡ got ++ ((Some link, way) ∷
 HandsBack link way got got_now (Err why) = got_now ≡ got
 
 -- A worker's link was handed back or lost, and nothing more had been received there.
-pub record LetsGoOne {L : Type 0} (tells : Type 0) (history : L → List Passed)
+pub record LetsGoOne {L : Type 0} (tells : Type 0) (seen : L → Seen)
     (lower : LowerState L) (got got_now : List (Option LinkNo × L)) : Type 0 where
   pub way : L
-  pub comes : tells → HearsOn (history lower.way) (history way)
+  pub comes : tells → HearsOn (seen lower.way).history (seen way).history
   pub back : MayHandBack lower.link way got got_now
 
 -- What was met came over the links that are held or were handed back, which have different numbers
 -- from 1 upward: of each a first part of what came over it, and then its loss at most. A link that is
 -- neither held nor was handed back is missing.
-pub record AreTied {L : Type 0} (tells : Type 0) (history : L → List Passed) (past : List Met)
+pub record AreTied {L : Type 0} (tells : Type 0) (seen : L → Seen) (cap : ℕ) (past : List Met)
     (lowers : List (LowerState L)) (book : Book L) : Type 0 where
   pub back : List (Option LinkNo × L)
   pub are : book.got ≡ book.first ++ back
@@ -106,15 +120,18 @@ pub record AreTied {L : Type 0} (tells : Type 0) (history : L → List Passed) (
   pub once : AreOnce past
   pub unlost : (k : ℕ) → 1 ≤ held_under k lowers + due_under k book.due → lost_under k past ≡ 0
   pub pending : (k : ℕ) → due_under k book.due ≤ back_under k back
-  pub begun : AreBegun tells history (told_of past) lowers
-  pub come : Every (HasCome tells history (told_of past)) back
+  pub greeted : AreGreeted past
+  pub begun : AreBegun tells seen (told_of past) lowers
+  pub come : Every (HasCome tells seen (told_of past)) back
+  pub causes : Every (IsLostIf tells seen cap past book.due) back
 
 -- What a foreman met of its workers came over the links that were handed back in its call, as far as
 -- the hall's links tell. Each was handed back under a number, no two under one, and the numbers are
 -- those from 1 to the count of the links that the hall gave. Of each number a first part of what came
 -- over its link was met, and then its loss at most. Where all links that were given were handed back,
--- whatever was met is of one of these.
-pub record CameOver {L : Type 0} (tells : Type 0) (history : L → List Passed)
+-- whatever was met is of one of these. Where more than one message was met of a link the first is a
+-- hello, and a link whose loss was met is lost for a cause that it shows.
+pub record CameOver {L : Type 0} (tells : Type 0) (seen : L → Seen) (cap : ℕ)
     (got got_now : List (Option LinkNo × L)) (given given_now : ℕ) (past : List Met) : Type 0 where
   pub links : List (Option LinkNo × L)
   pub back : got_now ≡ got ++ links
@@ -123,4 +140,6 @@ pub record CameOver {L : Type 0} (tells : Type 0) (history : L → List Passed)
   pub known : (k : ℕ) → 1 ≤ met_under k past → (1 ≤ k) × (k + given ≤ given_now)
   pub there : length links + given ≡ given_now → (k : ℕ) → 1 ≤ met_under k past → 1 ≤ back_under k links
   pub once : AreOnce past
-  pub come : Every (HasCome tells history (told_of past)) links
+  pub greeted : AreGreeted past
+  pub come : Every (HasCome tells seen (told_of past)) links
+  pub causes : Every (IsLostIf tells seen cap past None) links

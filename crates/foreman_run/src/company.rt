@@ -1,6 +1,7 @@
 //! A foreman's workers, each at its link.
-ghost use Rattle.std.specs.Prelude.{◌≡◌, ◌<◌, ◌+◌, ◌==◌, ◌∷◌, ◌++◌, [], IfErr, IfNone, IfSome, OnOk, length};
+ghost use Rattle.std.specs.Prelude.{◌≡◌, ◌<◌, ◌+◌, ◌==◌, ◌∷◌, ◌++◌, [], IfErr, IfNone, IfSome, OnOk, length, true};
 ghost use Rattle.std.specs.List.{position};
+ghost use Rattle.foreman_run.specs.Lost.{seen_of};
 ghost use Rattle.foreman_run.specs.Lowers.{Keeps, KeepsWith, LowerState, Parts};
 ghost use Rattle.peer_run.specs.Says.{CanBeTold};
 ghost use Rattle.foreman_run.specs.Says.{CanGoDown};
@@ -103,7 +104,8 @@ impl<F: Commands, L: Link<F>> Company<F, L> {
     // Sends a message down, where there is its link.
     fn send(&mut self, alloc: Global, down: Down)
         requires told { CanBeTold down.message }
-        ensures { KeepsWith L.tells L.history L.honest (down ∷ []) self.old self.new }
+        ensures { KeepsWith L.tells (seen_of L.history L.is_closed L.count L.idle_count) L.honest
+            (down ∷ []) self.old self.new }
     {
         let Down { link, message } = down;
         if let Some(at) = self.place(link) {
@@ -116,7 +118,8 @@ impl<F: Commands, L: Link<F>> Company<F, L> {
     /// Sends these messages down, in order.
     pub fn send_all(&mut self, alloc: Global, downs: Rows<Down>)
         requires told { CanGoDown downs }
-        ensures { KeepsWith L.tells L.history L.honest downs self.old self.new }
+        ensures { KeepsWith L.tells (seen_of L.history L.is_closed L.count L.idle_count) L.honest
+            downs self.old self.new }
     {
         let mut left = VecDeque::from(downs.into_vec());
         while let Some(down) = left.pop_front() {
@@ -126,7 +129,8 @@ impl<F: Commands, L: Link<F>> Company<F, L> {
 
     // A second has passed at the link at a place.
     fn check_at(&mut self, alloc: Global, at: usize)
-        ensures { Keeps L.tells L.history L.honest self.old self.new }
+        ensures { Keeps L.tells (seen_of L.history L.is_closed L.count L.idle_count) L.honest
+            self.old self.new }
     {
         let Some(lower) = self.lowers.get_mut(at) else {
             return;
@@ -137,7 +141,8 @@ impl<F: Commands, L: Link<F>> Company<F, L> {
     /// At a turn, a second has passed at each link: what waits is sent on, and links are to be left
     /// whose workers are gone or never came.
     pub fn check(&mut self, alloc: Global, turn: bool)
-        ensures { Keeps L.tells L.history L.honest self.old self.new }
+        ensures { Keeps L.tells (seen_of L.history L.is_closed L.count L.idle_count) L.honest
+            self.old self.new }
     {
         if !turn {
             return;
@@ -147,36 +152,17 @@ impl<F: Commands, L: Link<F>> Company<F, L> {
         }
     }
 
-    // The link of this number is to be left.
-    fn leave_at(&mut self, link: LinkNo)
-        ensures { Keeps L.tells L.history L.honest self.old self.new }
-    {
-        if let Some(at) = self.place(link) {
-            if let Some(lower) = self.lowers.get_mut(at) {
-                lower.leave();
-            }
-        }
-    }
-
-    /// The link of this number is to be left, if there is a number.
-    pub fn leave(&mut self, link: Option<LinkNo>)
-        ensures { Keeps L.tells L.history L.honest self.old self.new }
-    {
-        if let Some(link) = link {
-            self.leave_at(link);
-        }
-    }
-
     // Where the first link stands that is to be left.
     fn place_gone(&self) -> Option<usize>
-        ensures { IfSome result (λ at. at < length self.now) }
+        ensures place { result ≡ position (λ (l : LowerState L). l.gone) self.now }
+        ensures within { IfSome result (λ at. at < length self.now) }
     {
         self.lowers.iter().position(|lower| lower.is_gone())
     }
 
     /// Takes out a link that is to be left, if there is one.
     pub fn take_gone(&mut self) -> Option<Lower<F, L>>
-        ensures some { IfSome result (λ out. Parts out self.old self.new) }
+        ensures some { IfSome result (λ out. Parts out self.old self.new × (out.gone ≡ true)) }
         ensures none { IfNone result (self.new ≡ self.old) }
     {
         let at = self.place_gone()?;

@@ -2,6 +2,7 @@
 ghost use Rattle.std.specs.Prelude.{◌≡◌, ◌+◌, [], Bool, ℕ, List, None, Some, false, length, IfErr};
 ghost use Rattle.links.specs.Halls.{IsFresh};
 ghost use Rattle.peer_run.specs.Works.{EarState, way_of};
+ghost use Rattle.foreman_run.specs.Lost.{seen_of};
 ghost use Rattle.foreman_run.specs.Ends.{Goes, LeavesHall, LeavesParent, StopsAt};
 ghost use Rattle.foreman_run.specs.Hosts.{HostsBy, HostsWhole};
 ghost use Rattle.foreman_run.specs.Lowers.{Gains};
@@ -67,8 +68,9 @@ fn let_in<F: Commands, H: Hall<F>>(
 ) -> Result<bool, Stop>
     requires fresh { IsFresh H.Way.history H.Way.count H.Way.idle_count H.Way.is_closed way }
     requires next { link.0 ≡ numbered.old + 1 }
-    ensures gains { Gains H.Way.history H.Way.honest (H.Way.honest way) numbered.old numbered.new
-        (H.got hall.old) (H.got hall.new) company.old company.new result }
+    ensures gains { Gains (seen_of H.Way.history H.Way.is_closed H.Way.count H.Way.idle_count)
+        H.Way.honest (H.Way.honest way) numbered.old numbered.new (H.got hall.old) (H.got hall.new)
+        company.old company.new result }
     ensures counted { (numbered.new ≡ numbered.old + 1) × (H.given hall.new ≡ H.given hall.old) }
     ensures hosts { HostsBy (H.count hall.old) (H.count hall.new) (H.got hall.old)
         (H.got hall.new) (H.given hall.old) (H.given hall.new) (1 + length company.old)
@@ -98,8 +100,9 @@ fn wait<F: Commands, H: Hall<F>>(
 ) -> Result<bool, Stop>
     requires listens { H.listens hall.old }
     requires next { link.0 ≡ numbered.old + 1 }
-    ensures gains { Gains H.Way.history H.Way.honest (H.honest hall.old) numbered.old numbered.new
-        (H.got hall.old) (H.got hall.new) company.old company.new result }
+    ensures gains { Gains (seen_of H.Way.history H.Way.is_closed H.Way.count H.Way.idle_count)
+        H.Way.honest (H.honest hall.old) numbered.old numbered.new (H.got hall.old) (H.got hall.new)
+        company.old company.new result }
     ensures counted { numbered.new + H.given hall.old ≡ numbered.old + H.given hall.new }
     ensures hosts { HostsBy (H.count hall.old) (H.count hall.new) (H.got hall.old)
         (H.got hall.new) (H.given hall.old) (H.given hall.new) (length company.old)
@@ -126,8 +129,9 @@ pub(crate) fn meet<F: Commands, H: Hall<F>>(
     turn: bool,
 ) -> Result<bool, Stop>
     requires listens { H.listens hall.old }
-    ensures gains { Gains H.Way.history H.Way.honest (H.honest hall.old) numbered.old numbered.new
-        (H.got hall.old) (H.got hall.new) company.old company.new result }
+    ensures gains { Gains (seen_of H.Way.history H.Way.is_closed H.Way.count H.Way.idle_count)
+        H.Way.honest (H.honest hall.old) numbered.old numbered.new (H.got hall.old) (H.got hall.new)
+        company.old company.new result }
     ensures counted { numbered.new + H.given hall.old ≡ numbered.old + H.given hall.new }
     ensures hosts { HostsBy (H.count hall.old) (H.count hall.new) (H.got hall.old)
         (H.got hall.new) (H.given hall.old) (H.given hall.new) (length company.old)
@@ -153,17 +157,18 @@ fn lose<F: Commands, U: Link<F>, L: Link<F>>(
     company: &mut Company<F, L>,
     link: LinkNo,
 ) -> Result<bool, Stop>
-    requires works { (ear : EarState)
-        × IsAtWork F.gives F.may_fail U.tells L.tells L.history L.honest
-        (way_of U.history U.is_closed U.count parent.old) ear core.old company.old }
-    ensures goes { (trusted : Bool) (cap : ℕ) (book : Book L) (ear : EarState)
-        → Works F.gives F.may_fail U.tells trusted L.tells L.history L.honest cap
-        (with_due book (Some link)) (way_of U.history U.is_closed U.count parent.old) ear core.old
-        company.old [] [] false → Goes result
-        (λ _. Works F.gives F.may_fail U.tells trusted L.tells L.history L.honest cap
-        (with_due book None) (way_of U.history U.is_closed U.count parent.new) ear core.new
-        company.new [] [] false) (StopsAt F.gives F.may_fail U.tells trusted L.tells L.history cap
-        (with_due book None) (way_of U.history U.is_closed U.count parent.new) company.new) }
+    requires works { (ear : EarState) × IsAtWork F.gives F.may_fail U.tells L.tells
+        (seen_of L.history L.is_closed L.count L.idle_count) L.honest (way_of U.history U.is_closed
+        U.count parent.old) ear core.old company.old }
+    ensures goes { (trusted : Bool) (cap : ℕ) (book : Book L) (ear : EarState) → Works F.gives
+        F.may_fail U.tells trusted L.tells (seen_of L.history L.is_closed L.count L.idle_count)
+        L.honest cap (with_due book (Some link)) (way_of U.history U.is_closed U.count parent.old)
+        ear core.old company.old [] [] false → Goes result (λ _. Works F.gives F.may_fail U.tells
+        trusted L.tells (seen_of L.history L.is_closed L.count L.idle_count) L.honest cap (with_due
+        book None) (way_of U.history U.is_closed U.count parent.new) ear core.new company.new [] []
+        false) (StopsAt F.gives F.may_fail U.tells trusted L.tells
+        (seen_of L.history L.is_closed L.count L.idle_count) cap (with_due book None) (way_of
+        U.history U.is_closed U.count parent.new) company.new) }
     ensures left { LeavesParent result }
     ensures many { length company.new ≡ length company.old }
 {
@@ -177,6 +182,7 @@ fn lose<F: Commands, U: Link<F>, L: Link<F>>(
 }
 
 /// Hands back a link that is to be left, if there is one, and loses it. It answers whether there was.
+/// Where it is to be left for want of memory that is why the foreman stops.
 pub(crate) fn lose_next<F: Commands, U: Link<F>, H: Hall<F>>(
     alloc: Global,
     parent: &mut U,
@@ -184,19 +190,20 @@ pub(crate) fn lose_next<F: Commands, U: Link<F>, H: Hall<F>>(
     company: &mut Company<F, H::Way>,
     hall: &mut H,
 ) -> Result<bool, Stop>
-    requires works { (ear : EarState) × (upto : ℕ)
-        × IsAtHall F.gives F.may_fail U.tells H.Way.tells H.Way.history H.Way.honest
-        (H.got hall.old) upto (way_of U.history U.is_closed U.count parent.old) ear core.old
-        company.old }
-    ensures goes { (trusted : Bool) (cap : ℕ) (book : Book H.Way) (ear : EarState)
-        → Works F.gives F.may_fail U.tells trusted H.Way.tells H.Way.history H.Way.honest cap
+    requires works { (ear : EarState) × (upto : ℕ) × IsAtHall F.gives F.may_fail U.tells H.Way.tells
+        (seen_of H.Way.history H.Way.is_closed H.Way.count H.Way.idle_count) H.Way.honest (H.got
+        hall.old) upto (way_of U.history U.is_closed U.count parent.old) ear core.old company.old }
+    ensures goes { (trusted : Bool) (cap : ℕ) (book : Book H.Way) (ear : EarState) → Works F.gives
+        F.may_fail U.tells trusted H.Way.tells
+        (seen_of H.Way.history H.Way.is_closed H.Way.count H.Way.idle_count) H.Way.honest cap
         (with_got book (H.got hall.old)) (way_of U.history U.is_closed U.count parent.old) ear
-        core.old company.old [] [] false → Goes result
-        (λ _. Works F.gives F.may_fail U.tells trusted H.Way.tells H.Way.history H.Way.honest cap
-        (with_got book (H.got hall.new)) (way_of U.history U.is_closed U.count parent.new) ear
-        core.new company.new [] [] false) (StopsAt F.gives F.may_fail U.tells trusted H.Way.tells
-        H.Way.history cap (with_got book (H.got hall.new))
-        (way_of U.history U.is_closed U.count parent.new) company.new) }
+        core.old company.old [] [] false → Goes result (λ _. Works F.gives F.may_fail U.tells
+        trusted H.Way.tells (seen_of H.Way.history H.Way.is_closed H.Way.count H.Way.idle_count)
+        H.Way.honest cap (with_got book (H.got hall.new)) (way_of U.history U.is_closed U.count
+        parent.new) ear core.new company.new [] [] false) (StopsAt F.gives F.may_fail U.tells
+        trusted H.Way.tells (seen_of H.Way.history H.Way.is_closed H.Way.count H.Way.idle_count) cap
+        (with_got book (H.got hall.new)) (way_of U.history U.is_closed U.count parent.new)
+        company.new) }
     ensures hosts { HostsBy (H.count hall.old) (H.count hall.new) (H.got hall.old)
         (H.got hall.new) (H.given hall.old) (H.given hall.new) (length company.old)
         (length company.new) result }
@@ -208,6 +215,9 @@ pub(crate) fn lose_next<F: Commands, U: Link<F>, H: Hall<F>>(
         return Ok(false);
     };
     let link = lower.link();
+    if lower.is_starved() {
+        return Err(refuse::<F, H>(alloc, hall, link, lower.into_way()));
+    }
     match hand_back::<F, H>(alloc, hall, link, lower.into_way()) {
         Ok(()) => lose(alloc, parent, core, company, link),
         Err(stop) => Err(stop),
@@ -224,7 +234,9 @@ fn farewell<F: Commands, H: Hall<F>>(
 ) -> bool
     ensures hosts { HostsWhole (H.count hall.old) (H.count hall.new) (H.got hall.old)
         (H.got hall.new) (H.given hall.old) (H.given hall.new) 1 0 result }
-    ensures lets_go { LetsGoOne H.Way.tells H.Way.history lower (H.got hall.old) (H.got hall.new) }
+    ensures lets_go { LetsGoOne H.Way.tells
+        (seen_of H.Way.history H.Way.is_closed H.Way.count H.Way.idle_count) lower (H.got hall.old)
+        (H.got hall.new) }
     ensures given { H.given hall.new ≡ H.given hall.old }
 {
     let mut lower = lower;
@@ -244,9 +256,11 @@ pub(crate) fn dismiss<F: Commands, H: Hall<F>>(
 ) -> bool
     ensures hosts { HostsWhole (H.count hall.old) (H.count hall.new) (H.got hall.old)
         (H.got hall.new) (H.given hall.old) (H.given hall.new) (length company) 0 result }
-    ensures ties { (past : List Met) (book : Book H.Way)
-        → AreTied H.Way.tells H.Way.history past company (with_got book (H.got hall.old))
-        → AreTied H.Way.tells H.Way.history past [] (with_got book (H.got hall.new)) }
+    ensures ties { (cap : ℕ) (past : List Met) (book : Book H.Way) → AreTied H.Way.tells
+        (seen_of H.Way.history H.Way.is_closed H.Way.count H.Way.idle_count) cap past company
+        (with_got book (H.got hall.old)) → AreTied H.Way.tells
+        (seen_of H.Way.history H.Way.is_closed H.Way.count H.Way.idle_count) cap past [] (with_got
+        book (H.got hall.new)) }
     ensures given { H.given hall.new ≡ H.given hall.old }
 {
     let mut company = company;

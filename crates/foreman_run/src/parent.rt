@@ -4,6 +4,7 @@ ghost use Rattle.foreman_core.specs.Foremen.{Foreman};
 ghost use Rattle.peer_run.specs.Ends.{Takes};
 ghost use Rattle.peer_run.specs.Says.{CanBeTold, Each};
 ghost use Rattle.peer_run.specs.Works.{EarState, way_of};
+ghost use Rattle.foreman_run.specs.Lost.{seen_of};
 ghost use Rattle.foreman_run.specs.Ends.{Goes, LeavesParent, StopsAt};
 ghost use Rattle.foreman_run.specs.Looks.{is_over};
 ghost use Rattle.foreman_run.specs.Lowers.{LowerState};
@@ -29,7 +30,7 @@ pub(crate) const MOST_MESSAGES: usize = 64;
 /// How many seconds in a row the parent may take nothing of what waits for it: as many as it likes.
 const ANY_PATIENCE: u64 = 1_000_000_000;
 
-/// Says what a step says upward, sends what goes down, and leaves the link that is to be left.
+/// Says what a step says upward, and sends what goes down.
 pub(crate) fn perform<F: Commands, U: Link<F>, L: Link<F>>(
     alloc: Global,
     link: &mut U,
@@ -38,12 +39,14 @@ pub(crate) fn perform<F: Commands, U: Link<F>, L: Link<F>>(
 ) -> Result<(), Stop>
     requires up { Each CanBeTold acts.up }
     requires down { CanGoDown acts.down }
-    ensures goes { (trusted : Bool) (cap : ℕ) (book : Book L) (ear : EarState) (core : Foreman)
-        → Works F.gives F.may_fail U.tells trusted L.tells L.history L.honest cap book
-        (way_of U.history U.is_closed U.count link.old) ear core company.old acts.up acts.down
-        false → Goes result (λ _. Works F.gives F.may_fail U.tells trusted L.tells L.history
-        L.honest cap book (way_of U.history U.is_closed U.count link.new) ear core company.new []
-        [] false) (StopsAt F.gives F.may_fail U.tells trusted L.tells L.history cap book
+    ensures goes { (trusted : Bool) (cap : ℕ) (book : Book L) (ear : EarState) (core : Foreman) →
+        Works F.gives F.may_fail U.tells trusted L.tells
+        (seen_of L.history L.is_closed L.count L.idle_count) L.honest cap book (way_of U.history
+        U.is_closed U.count link.old) ear core company.old acts.up acts.down false → Goes result (λ
+        _. Works F.gives F.may_fail U.tells trusted L.tells
+        (seen_of L.history L.is_closed L.count L.idle_count) L.honest cap book (way_of U.history
+        U.is_closed U.count link.new) ear core company.new [] [] false) (StopsAt F.gives F.may_fail
+        U.tells trusted L.tells (seen_of L.history L.is_closed L.count L.idle_count) cap book
         (way_of U.history U.is_closed U.count link.new) company.new) }
     ensures left { LeavesParent result }
     ensures many { length company.new ≡ length company.old }
@@ -51,14 +54,13 @@ pub(crate) fn perform<F: Commands, U: Link<F>, L: Link<F>>(
     let ForemanActs {
         up,
         down,
-        leave,
+        leave: _,
         bye: _,
     } = acts;
     if let Err(fault) = say_all(alloc, link, up.as_slice()) {
         return Err(Stop::of(fault));
     }
     company.send_all(alloc, down);
-    company.leave(leave);
     Ok(())
 }
 
@@ -72,16 +74,18 @@ fn obey<F: Commands, U: Link<F>, L: Link<F>>(
     message: Message,
     at: u64,
 ) -> Result<bool, Stop>
-    requires works { (ear : EarState) × (next : EarState) × Takes ear (Ok (Some message)) next
-        × IsAtWork F.gives F.may_fail U.tells L.tells L.history L.honest
-        (way_of U.history U.is_closed U.count link.old) ear core.old company.old }
-    ensures goes { (trusted : Bool) (cap : ℕ) (book : Book L) (ear next : EarState)
-        → at ≡ ear.fed - length ear.rest → Takes ear (Ok (Some message)) next
-        → Works F.gives F.may_fail U.tells trusted L.tells L.history L.honest cap book
-        (way_of U.history U.is_closed U.count link.old) ear core.old company.old [] [] false
-        → Goes result (Works F.gives F.may_fail U.tells trusted L.tells L.history L.honest cap book
-        (way_of U.history U.is_closed U.count link.new) next core.new company.new [] [])
-        (StopsAt F.gives F.may_fail U.tells trusted L.tells L.history cap book
+    requires works { (ear : EarState) × (next : EarState) × Takes ear (Ok (Some message)) next ×
+        IsAtWork F.gives F.may_fail U.tells L.tells
+        (seen_of L.history L.is_closed L.count L.idle_count) L.honest (way_of U.history U.is_closed
+        U.count link.old) ear core.old company.old }
+    ensures goes { (trusted : Bool) (cap : ℕ) (book : Book L) (ear next : EarState) → at ≡ ear.fed -
+        length ear.rest → Takes ear (Ok (Some message)) next → Works F.gives F.may_fail U.tells
+        trusted L.tells (seen_of L.history L.is_closed L.count L.idle_count) L.honest cap book
+        (way_of U.history U.is_closed U.count link.old) ear core.old company.old [] [] false → Goes
+        result (Works F.gives F.may_fail U.tells trusted L.tells
+        (seen_of L.history L.is_closed L.count L.idle_count) L.honest cap book (way_of U.history
+        U.is_closed U.count link.new) next core.new company.new [] []) (StopsAt F.gives F.may_fail
+        U.tells trusted L.tells (seen_of L.history L.is_closed L.count L.idle_count) cap book
         (way_of U.history U.is_closed U.count link.new) company.new) }
     ensures left { LeavesParent result }
     ensures many { length company.new ≡ length company.old }
@@ -106,12 +110,14 @@ pub(crate) fn push_on<F: Commands, U: Link<F>, L: Link<F>>(
     turn: bool,
 ) -> Result<(), Stop>
     ensures goes { (trusted : Bool) (cap : ℕ) (book : Book L) (ear : EarState) (core : Foreman)
-        (lowers : List (LowerState L)) → Works F.gives F.may_fail U.tells trusted L.tells L.history
-        L.honest cap book (way_of U.history U.is_closed U.count link.old) ear core lowers [] []
-        false → Goes result (λ _. Works F.gives F.may_fail U.tells trusted L.tells L.history
+        (lowers : List (LowerState L)) → Works F.gives F.may_fail U.tells trusted L.tells
+        (seen_of L.history L.is_closed L.count L.idle_count) L.honest cap book (way_of U.history
+        U.is_closed U.count link.old) ear core lowers [] [] false → Goes result (λ _. Works F.gives
+        F.may_fail U.tells trusted L.tells (seen_of L.history L.is_closed L.count L.idle_count)
         L.honest cap book (way_of U.history U.is_closed U.count link.new) ear core lowers [] []
-        false) (StopsAt F.gives F.may_fail U.tells trusted L.tells L.history cap book
-        (way_of U.history U.is_closed U.count link.new) lowers) }
+        false) (StopsAt F.gives F.may_fail U.tells trusted L.tells
+        (seen_of L.history L.is_closed L.count L.idle_count) cap book (way_of U.history U.is_closed
+        U.count link.new) lowers) }
     ensures left { LeavesParent result }
 {
     if !turn {
@@ -133,12 +139,13 @@ fn listen<F: Commands, U: Link<F>, L: Link<F>>(
 ) -> Result<bool, Stop>
     requires { ear.old.stop ≡ None }
     ensures goes { (trusted : Bool) (cap : ℕ) (book : Book L) (before : EarState) (core : Foreman)
-        (lowers : List (LowerState L)) → Takes before (Ok None) ear.old
-        → Works F.gives F.may_fail U.tells trusted L.tells L.history L.honest cap book
-        (way_of U.history U.is_closed U.count link.old) before core lowers [] [] false
-        → Goes result (λ _. Works F.gives F.may_fail U.tells trusted L.tells L.history L.honest cap
-        book (way_of U.history U.is_closed U.count link.new) ear.new core lowers [] [] false)
-        (StopsAt F.gives F.may_fail U.tells trusted L.tells L.history cap book
+        (lowers : List (LowerState L)) → Takes before (Ok None) ear.old → Works F.gives F.may_fail
+        U.tells trusted L.tells (seen_of L.history L.is_closed L.count L.idle_count) L.honest cap
+        book (way_of U.history U.is_closed U.count link.old) before core lowers [] [] false → Goes
+        result (λ _. Works F.gives F.may_fail U.tells trusted L.tells
+        (seen_of L.history L.is_closed L.count L.idle_count) L.honest cap book (way_of U.history
+        U.is_closed U.count link.new) ear.new core lowers [] [] false) (StopsAt F.gives F.may_fail
+        U.tells trusted L.tells (seen_of L.history L.is_closed L.count L.idle_count) cap book
         (way_of U.history U.is_closed U.count link.new) lowers) }
     ensures left { LeavesParent result }
 {
@@ -166,15 +173,18 @@ fn attend<F: Commands, U: Link<F>, L: Link<F>>(
     company: &mut Company<F, L>,
     turn: bool,
 ) -> Result<Look, Stop>
-    requires works { IsAtWork F.gives F.may_fail U.tells L.tells L.history L.honest
-        (way_of U.history U.is_closed U.count link.old) ear.old core.old company.old }
-    ensures goes { (trusted : Bool) (cap : ℕ) (book : Book L)
-        → Works F.gives F.may_fail U.tells trusted L.tells L.history L.honest cap book
-        (way_of U.history U.is_closed U.count link.old) ear.old core.old company.old [] [] false
-        → Goes result (λ look. Works F.gives F.may_fail U.tells trusted L.tells L.history L.honest
-        cap book (way_of U.history U.is_closed U.count link.new) ear.new core.new company.new [] []
-        (is_over look)) (StopsAt F.gives F.may_fail U.tells trusted L.tells L.history cap book
-        (way_of U.history U.is_closed U.count link.new) company.new) }
+    requires works { IsAtWork F.gives F.may_fail U.tells L.tells
+        (seen_of L.history L.is_closed L.count L.idle_count) L.honest (way_of U.history U.is_closed
+        U.count link.old) ear.old core.old company.old }
+    ensures goes { (trusted : Bool) (cap : ℕ) (book : Book L) → Works F.gives F.may_fail U.tells
+        trusted L.tells (seen_of L.history L.is_closed L.count L.idle_count) L.honest cap book
+        (way_of U.history U.is_closed U.count link.old) ear.old core.old company.old [] [] false →
+        Goes result (λ look. Works F.gives F.may_fail U.tells trusted L.tells
+        (seen_of L.history L.is_closed L.count L.idle_count) L.honest cap book (way_of U.history
+        U.is_closed U.count link.new) ear.new core.new company.new [] [] (is_over look)) (StopsAt
+        F.gives F.may_fail U.tells trusted L.tells
+        (seen_of L.history L.is_closed L.count L.idle_count) cap book (way_of U.history U.is_closed
+        U.count link.new) company.new) }
     ensures left { LeavesParent result }
     ensures many { length company.new ≡ length company.old }
 {
@@ -203,15 +213,18 @@ pub(crate) fn attend_some<F: Commands, U: Link<F>, L: Link<F>>(
     company: &mut Company<F, L>,
     turn: bool,
 ) -> Result<Look, Stop>
-    requires works { IsAtWork F.gives F.may_fail U.tells L.tells L.history L.honest
-        (way_of U.history U.is_closed U.count link.old) ear.old core.old company.old }
-    ensures goes { (trusted : Bool) (cap : ℕ) (book : Book L)
-        → Works F.gives F.may_fail U.tells trusted L.tells L.history L.honest cap book
-        (way_of U.history U.is_closed U.count link.old) ear.old core.old company.old [] [] false
-        → Goes result (λ look. Works F.gives F.may_fail U.tells trusted L.tells L.history L.honest
-        cap book (way_of U.history U.is_closed U.count link.new) ear.new core.new company.new [] []
-        (is_over look)) (StopsAt F.gives F.may_fail U.tells trusted L.tells L.history cap book
-        (way_of U.history U.is_closed U.count link.new) company.new) }
+    requires works { IsAtWork F.gives F.may_fail U.tells L.tells
+        (seen_of L.history L.is_closed L.count L.idle_count) L.honest (way_of U.history U.is_closed
+        U.count link.old) ear.old core.old company.old }
+    ensures goes { (trusted : Bool) (cap : ℕ) (book : Book L) → Works F.gives F.may_fail U.tells
+        trusted L.tells (seen_of L.history L.is_closed L.count L.idle_count) L.honest cap book
+        (way_of U.history U.is_closed U.count link.old) ear.old core.old company.old [] [] false →
+        Goes result (λ look. Works F.gives F.may_fail U.tells trusted L.tells
+        (seen_of L.history L.is_closed L.count L.idle_count) L.honest cap book (way_of U.history
+        U.is_closed U.count link.new) ear.new core.new company.new [] [] (is_over look)) (StopsAt
+        F.gives F.may_fail U.tells trusted L.tells
+        (seen_of L.history L.is_closed L.count L.idle_count) cap book (way_of U.history U.is_closed
+        U.count link.new) company.new) }
     ensures left { LeavesParent result }
     ensures many { length company.new ≡ length company.old }
 {

@@ -1,6 +1,7 @@
 //! A foreman's rounds: it looks at the link to its parent, at each worker's link, and at who has come.
 ghost use Rattle.std.specs.Prelude.{◌≡◌, ◌+◌, [], Bool, ℕ, false, true, length};
 ghost use Rattle.peer_run.specs.Works.{EarState, way_of};
+ghost use Rattle.foreman_run.specs.Lost.{seen_of};
 ghost use Rattle.foreman_run.specs.Ends.{Goes, LeavesParent, StopsAt, StopsOver};
 ghost use Rattle.foreman_run.specs.Hosts.{HostsBy, HostsTill};
 ghost use Rattle.foreman_run.specs.Looks.{is_over};
@@ -79,16 +80,17 @@ fn hear_some<F: Commands, U: Link<F>, L: Link<F>>(
     at: usize,
     turn: bool,
 ) -> Result<bool, Stop>
-    requires works { (ear : EarState)
-        × IsAtWork F.gives F.may_fail U.tells L.tells L.history L.honest
-        (way_of U.history U.is_closed U.count parent.old) ear core.old company.old }
-    ensures goes { (trusted : Bool) (cap : ℕ) (book : Book L) (ear : EarState)
-        → Works F.gives F.may_fail U.tells trusted L.tells L.history L.honest cap book
-        (way_of U.history U.is_closed U.count parent.old) ear core.old company.old [] [] false
-        → Goes result (λ _. Works F.gives F.may_fail U.tells trusted L.tells L.history L.honest cap
-        book (way_of U.history U.is_closed U.count parent.new) ear core.new company.new [] []
-        false) (StopsAt F.gives F.may_fail U.tells trusted L.tells L.history cap book
-        (way_of U.history U.is_closed U.count parent.new) company.new) }
+    requires works { (ear : EarState) × IsAtWork F.gives F.may_fail U.tells L.tells
+        (seen_of L.history L.is_closed L.count L.idle_count) L.honest (way_of U.history U.is_closed
+        U.count parent.old) ear core.old company.old }
+    ensures goes { (trusted : Bool) (cap : ℕ) (book : Book L) (ear : EarState) → Works F.gives
+        F.may_fail U.tells trusted L.tells (seen_of L.history L.is_closed L.count L.idle_count)
+        L.honest cap book (way_of U.history U.is_closed U.count parent.old) ear core.old company.old
+        [] [] false → Goes result (λ _. Works F.gives F.may_fail U.tells trusted L.tells
+        (seen_of L.history L.is_closed L.count L.idle_count) L.honest cap book (way_of U.history
+        U.is_closed U.count parent.new) ear core.new company.new [] [] false) (StopsAt F.gives
+        F.may_fail U.tells trusted L.tells (seen_of L.history L.is_closed L.count L.idle_count) cap
+        book (way_of U.history U.is_closed U.count parent.new) company.new) }
     ensures left { LeavesParent result }
     ensures many { length company.new ≡ length company.old }
 {
@@ -112,16 +114,17 @@ fn hear_all<F: Commands, U: Link<F>, L: Link<F>>(
     company: &mut Company<F, L>,
     turn: bool,
 ) -> Result<bool, Stop>
-    requires works { (ear : EarState)
-        × IsAtWork F.gives F.may_fail U.tells L.tells L.history L.honest
-        (way_of U.history U.is_closed U.count parent.old) ear core.old company.old }
-    ensures goes { (trusted : Bool) (cap : ℕ) (book : Book L) (ear : EarState)
-        → Works F.gives F.may_fail U.tells trusted L.tells L.history L.honest cap book
-        (way_of U.history U.is_closed U.count parent.old) ear core.old company.old [] [] false
-        → Goes result (λ _. Works F.gives F.may_fail U.tells trusted L.tells L.history L.honest cap
-        book (way_of U.history U.is_closed U.count parent.new) ear core.new company.new [] []
-        false) (StopsAt F.gives F.may_fail U.tells trusted L.tells L.history cap book
-        (way_of U.history U.is_closed U.count parent.new) company.new) }
+    requires works { (ear : EarState) × IsAtWork F.gives F.may_fail U.tells L.tells
+        (seen_of L.history L.is_closed L.count L.idle_count) L.honest (way_of U.history U.is_closed
+        U.count parent.old) ear core.old company.old }
+    ensures goes { (trusted : Bool) (cap : ℕ) (book : Book L) (ear : EarState) → Works F.gives
+        F.may_fail U.tells trusted L.tells (seen_of L.history L.is_closed L.count L.idle_count)
+        L.honest cap book (way_of U.history U.is_closed U.count parent.old) ear core.old company.old
+        [] [] false → Goes result (λ _. Works F.gives F.may_fail U.tells trusted L.tells
+        (seen_of L.history L.is_closed L.count L.idle_count) L.honest cap book (way_of U.history
+        U.is_closed U.count parent.new) ear core.new company.new [] [] false) (StopsAt F.gives
+        F.may_fail U.tells trusted L.tells (seen_of L.history L.is_closed L.count L.idle_count) cap
+        book (way_of U.history U.is_closed U.count parent.new) company.new) }
     ensures left { LeavesParent result }
     ensures many { length company.new ≡ length company.old }
 {
@@ -146,19 +149,20 @@ fn lose_all<F: Commands, U: Link<F>, H: Hall<F>>(
     company: &mut Company<F, H::Way>,
     hall: &mut H,
 ) -> Result<bool, Stop>
-    requires works { (ear : EarState) × (upto : ℕ)
-        × IsAtHall F.gives F.may_fail U.tells H.Way.tells H.Way.history H.Way.honest
-        (H.got hall.old) upto (way_of U.history U.is_closed U.count parent.old) ear core.old
-        company.old }
-    ensures goes { (trusted : Bool) (cap : ℕ) (book : Book H.Way) (ear : EarState)
-        → Works F.gives F.may_fail U.tells trusted H.Way.tells H.Way.history H.Way.honest cap
+    requires works { (ear : EarState) × (upto : ℕ) × IsAtHall F.gives F.may_fail U.tells H.Way.tells
+        (seen_of H.Way.history H.Way.is_closed H.Way.count H.Way.idle_count) H.Way.honest (H.got
+        hall.old) upto (way_of U.history U.is_closed U.count parent.old) ear core.old company.old }
+    ensures goes { (trusted : Bool) (cap : ℕ) (book : Book H.Way) (ear : EarState) → Works F.gives
+        F.may_fail U.tells trusted H.Way.tells
+        (seen_of H.Way.history H.Way.is_closed H.Way.count H.Way.idle_count) H.Way.honest cap
         (with_got book (H.got hall.old)) (way_of U.history U.is_closed U.count parent.old) ear
-        core.old company.old [] [] false → Goes result
-        (λ _. Works F.gives F.may_fail U.tells trusted H.Way.tells H.Way.history H.Way.honest cap
-        (with_got book (H.got hall.new)) (way_of U.history U.is_closed U.count parent.new) ear
-        core.new company.new [] [] false) (StopsAt F.gives F.may_fail U.tells trusted H.Way.tells
-        H.Way.history cap (with_got book (H.got hall.new))
-        (way_of U.history U.is_closed U.count parent.new) company.new) }
+        core.old company.old [] [] false → Goes result (λ _. Works F.gives F.may_fail U.tells
+        trusted H.Way.tells (seen_of H.Way.history H.Way.is_closed H.Way.count H.Way.idle_count)
+        H.Way.honest cap (with_got book (H.got hall.new)) (way_of U.history U.is_closed U.count
+        parent.new) ear core.new company.new [] [] false) (StopsAt F.gives F.may_fail U.tells
+        trusted H.Way.tells (seen_of H.Way.history H.Way.is_closed H.Way.count H.Way.idle_count) cap
+        (with_got book (H.got hall.new)) (way_of U.history U.is_closed U.count parent.new)
+        company.new) }
     ensures hosts { HostsBy (H.count hall.old) (H.count hall.new) (H.got hall.old)
         (H.got hall.new) (H.given hall.old) (H.given hall.new) (length company.old)
         (length company.new) result }
@@ -186,19 +190,20 @@ fn tend<F: Commands, U: Link<F>, H: Hall<F>>(
     hall: &mut H,
     turn: bool,
 ) -> Result<bool, Stop>
-    requires works { (ear : EarState) × (upto : ℕ)
-        × IsAtHall F.gives F.may_fail U.tells H.Way.tells H.Way.history H.Way.honest
-        (H.got hall.old) upto (way_of U.history U.is_closed U.count parent.old) ear core.old
-        company.old }
-    ensures goes { (trusted : Bool) (cap : ℕ) (book : Book H.Way) (ear : EarState)
-        → Works F.gives F.may_fail U.tells trusted H.Way.tells H.Way.history H.Way.honest cap
+    requires works { (ear : EarState) × (upto : ℕ) × IsAtHall F.gives F.may_fail U.tells H.Way.tells
+        (seen_of H.Way.history H.Way.is_closed H.Way.count H.Way.idle_count) H.Way.honest (H.got
+        hall.old) upto (way_of U.history U.is_closed U.count parent.old) ear core.old company.old }
+    ensures goes { (trusted : Bool) (cap : ℕ) (book : Book H.Way) (ear : EarState) → Works F.gives
+        F.may_fail U.tells trusted H.Way.tells
+        (seen_of H.Way.history H.Way.is_closed H.Way.count H.Way.idle_count) H.Way.honest cap
         (with_got book (H.got hall.old)) (way_of U.history U.is_closed U.count parent.old) ear
-        core.old company.old [] [] false → Goes result
-        (λ _. Works F.gives F.may_fail U.tells trusted H.Way.tells H.Way.history H.Way.honest cap
-        (with_got book (H.got hall.new)) (way_of U.history U.is_closed U.count parent.new) ear
-        core.new company.new [] [] false) (StopsAt F.gives F.may_fail U.tells trusted H.Way.tells
-        H.Way.history cap (with_got book (H.got hall.new))
-        (way_of U.history U.is_closed U.count parent.new) company.new) }
+        core.old company.old [] [] false → Goes result (λ _. Works F.gives F.may_fail U.tells
+        trusted H.Way.tells (seen_of H.Way.history H.Way.is_closed H.Way.count H.Way.idle_count)
+        H.Way.honest cap (with_got book (H.got hall.new)) (way_of U.history U.is_closed U.count
+        parent.new) ear core.new company.new [] [] false) (StopsAt F.gives F.may_fail U.tells
+        trusted H.Way.tells (seen_of H.Way.history H.Way.is_closed H.Way.count H.Way.idle_count) cap
+        (with_got book (H.got hall.new)) (way_of U.history U.is_closed U.count parent.new)
+        company.new) }
     ensures hosts { HostsBy (H.count hall.old) (H.count hall.new) (H.got hall.old)
         (H.got hall.new) (H.given hall.old) (H.given hall.new) (length company.old)
         (length company.new) result }
@@ -227,20 +232,22 @@ fn host<F: Commands, U: Link<F>, H: Hall<F>>(
     turn: bool,
 ) -> Result<bool, Stop>
     requires works { (ear : EarState) × IsAtHall F.gives F.may_fail U.tells H.Way.tells
-        H.Way.history H.Way.honest (H.got hall.old) numbered.old
-        (way_of U.history U.is_closed U.count parent.old) ear core.old company.old }
+        (seen_of H.Way.history H.Way.is_closed H.Way.count H.Way.idle_count) H.Way.honest (H.got
+        hall.old) numbered.old (way_of U.history U.is_closed U.count parent.old) ear core.old
+        company.old }
     requires listens { H.listens hall.old }
-    ensures goes { (trusted : Bool) (cap : ℕ) (book : Book H.Way) (ear : EarState)
-        → (trusted ≡ true → H.honest hall.old)
-        → Works F.gives F.may_fail U.tells trusted H.Way.tells H.Way.history H.Way.honest cap
-        (with_hall book (H.got hall.old) numbered.old)
-        (way_of U.history U.is_closed U.count parent.old) ear core.old company.old [] [] false
-        → Goes result (λ _. Works F.gives F.may_fail U.tells trusted H.Way.tells H.Way.history
-        H.Way.honest cap (with_hall book (H.got hall.new) numbered.new)
-        (way_of U.history U.is_closed U.count parent.new) ear core.new company.new [] [] false)
-        (StopsAt F.gives F.may_fail U.tells trusted H.Way.tells H.Way.history cap
-        (with_hall book (H.got hall.new) numbered.new)
-        (way_of U.history U.is_closed U.count parent.new) company.new) }
+    ensures goes { (trusted : Bool) (cap : ℕ) (book : Book H.Way) (ear : EarState) → (trusted ≡ true
+        → H.honest hall.old) → Works F.gives F.may_fail U.tells trusted H.Way.tells
+        (seen_of H.Way.history H.Way.is_closed H.Way.count H.Way.idle_count) H.Way.honest cap
+        (with_hall book (H.got hall.old) numbered.old) (way_of U.history U.is_closed U.count
+        parent.old) ear core.old company.old [] [] false → Goes result (λ _. Works F.gives
+        F.may_fail U.tells trusted H.Way.tells
+        (seen_of H.Way.history H.Way.is_closed H.Way.count H.Way.idle_count) H.Way.honest cap
+        (with_hall book (H.got hall.new) numbered.new) (way_of U.history U.is_closed U.count
+        parent.new) ear core.new company.new [] [] false) (StopsAt F.gives F.may_fail U.tells
+        trusted H.Way.tells (seen_of H.Way.history H.Way.is_closed H.Way.count H.Way.idle_count) cap
+        (with_hall book (H.got hall.new) numbered.new) (way_of U.history U.is_closed U.count
+        parent.new) company.new) }
     ensures hosts { HostsBy (H.count hall.old) (H.count hall.new) (H.got hall.old)
         (H.got hall.new) (H.given hall.old) (H.given hall.new) (length company.old)
         (length company.new) result }
@@ -270,21 +277,23 @@ fn round<F: Commands, U: Link<F>, H: Hall<F>>(
     numbered: &mut u32,
     pace: &mut Pace,
 ) -> Result<bool, Stop>
-    requires works { IsAtHall F.gives F.may_fail U.tells H.Way.tells H.Way.history H.Way.honest
-        (H.got hall.old) numbered.old (way_of U.history U.is_closed U.count parent.old) ear.old
-        core.old company.old }
+    requires works { IsAtHall F.gives F.may_fail U.tells H.Way.tells
+        (seen_of H.Way.history H.Way.is_closed H.Way.count H.Way.idle_count) H.Way.honest (H.got
+        hall.old) numbered.old (way_of U.history U.is_closed U.count parent.old) ear.old core.old
+        company.old }
     requires listens { H.listens hall.old }
-    ensures goes { (trusted : Bool) (cap : ℕ) (book : Book H.Way)
-        → (trusted ≡ true → H.honest hall.old)
-        → Works F.gives F.may_fail U.tells trusted H.Way.tells H.Way.history H.Way.honest cap
-        (with_hall book (H.got hall.old) numbered.old)
-        (way_of U.history U.is_closed U.count parent.old) ear.old core.old company.old [] [] false
-        → Goes result (Works F.gives F.may_fail U.tells trusted H.Way.tells H.Way.history
-        H.Way.honest cap (with_hall book (H.got hall.new) numbered.new)
-        (way_of U.history U.is_closed U.count parent.new) ear.new core.new company.new [] [])
-        (StopsAt F.gives F.may_fail U.tells trusted H.Way.tells H.Way.history cap
-        (with_hall book (H.got hall.new) numbered.new)
-        (way_of U.history U.is_closed U.count parent.new) company.new) }
+    ensures goes { (trusted : Bool) (cap : ℕ) (book : Book H.Way) → (trusted ≡ true → H.honest
+        hall.old) → Works F.gives F.may_fail U.tells trusted H.Way.tells
+        (seen_of H.Way.history H.Way.is_closed H.Way.count H.Way.idle_count) H.Way.honest cap
+        (with_hall book (H.got hall.old) numbered.old) (way_of U.history U.is_closed U.count
+        parent.old) ear.old core.old company.old [] [] false → Goes result (Works F.gives F.may_fail
+        U.tells trusted H.Way.tells
+        (seen_of H.Way.history H.Way.is_closed H.Way.count H.Way.idle_count) H.Way.honest cap
+        (with_hall book (H.got hall.new) numbered.new) (way_of U.history U.is_closed U.count
+        parent.new) ear.new core.new company.new [] []) (StopsAt F.gives F.may_fail U.tells trusted
+        H.Way.tells (seen_of H.Way.history H.Way.is_closed H.Way.count H.Way.idle_count) cap
+        (with_hall book (H.got hall.new) numbered.new) (way_of U.history U.is_closed U.count
+        parent.new) company.new) }
     ensures hosts { HostsBy (H.count hall.old) (H.count hall.new) (H.got hall.old)
         (H.got hall.new) (H.given hall.old) (H.given hall.new) (length company.old)
         (length company.new) result }
@@ -325,18 +334,18 @@ pub(crate) fn serve<W: Wait, F: Commands, U: Link<F>, H: Hall<F>>(
     company: &mut Company<F, H::Way>,
     hall: &mut H,
 ) -> Stop
-    requires works { IsAtHall F.gives F.may_fail U.tells H.Way.tells H.Way.history H.Way.honest
-        (H.got hall.old) 0 (way_of U.history U.is_closed U.count parent.old) ear.old core.old
-        company.old }
+    requires works { IsAtHall F.gives F.may_fail U.tells H.Way.tells
+        (seen_of H.Way.history H.Way.is_closed H.Way.count H.Way.idle_count) H.Way.honest (H.got
+        hall.old) 0 (way_of U.history U.is_closed U.count parent.old) ear.old core.old company.old }
     requires listens { H.listens hall.old }
-    ensures stops { (trusted : Bool) (cap : ℕ) (book : Book H.Way)
-        → (trusted ≡ true → H.honest hall.old)
-        → Works F.gives F.may_fail U.tells trusted H.Way.tells H.Way.history H.Way.honest cap
+    ensures stops { (trusted : Bool) (cap : ℕ) (book : Book H.Way) → (trusted ≡ true → H.honest
+        hall.old) → Works F.gives F.may_fail U.tells trusted H.Way.tells
+        (seen_of H.Way.history H.Way.is_closed H.Way.count H.Way.idle_count) H.Way.honest cap
         (with_hall book (H.got hall.old) 0) (way_of U.history U.is_closed U.count parent.old)
-        ear.old core.old company.old [] [] false
-        → StopsOver F.gives F.may_fail U.tells trusted H.Way.tells H.Way.history cap book
-        (H.got hall.new) (H.given hall.old) (H.given hall.new)
-        (way_of U.history U.is_closed U.count parent.new) company.new result }
+        ear.old core.old company.old [] [] false → StopsOver F.gives F.may_fail U.tells trusted
+        H.Way.tells (seen_of H.Way.history H.Way.is_closed H.Way.count H.Way.idle_count) cap book
+        (H.got hall.new) (H.given hall.old) (H.given hall.new) (way_of U.history U.is_closed U.count
+        parent.new) company.new result }
     ensures hosts { HostsTill (H.count hall.old) (H.count hall.new) (H.got hall.old)
         (H.got hall.new) (H.given hall.old) (H.given hall.new) (length company.old)
         (length company.new) result }

@@ -6,6 +6,7 @@ ghost use Rattle.peer_run.specs.declared.cause.PeerCause.{PeerCause as Cause};
 ghost use Rattle.peer_run.specs.Causes.{foreman_line_of, status_of};
 ghost use Rattle.peer_run.specs.Ended.{IsPrinted};
 ghost use Rattle.peer_run.specs.Works.{way_of};
+ghost use Rattle.foreman_run.specs.Lost.{seen_of};
 ghost use Rattle.foreman_run.specs.Ended.{AreHandedBack, EndsBy, cause_by};
 ghost use Rattle.foreman_run.specs.Ends.{StopsOver, stop_by};
 ghost use Rattle.foreman_run.specs.Hosts.{LetsGo};
@@ -79,16 +80,18 @@ fn serve_all<W: Threads + Wait + Sync, F: Commands, U: Link<F>, H: Hall<F>>(
     core: &mut ForemanCore,
     hall: &mut H,
 ) -> Stop
-    requires works { IsAtHall F.gives F.may_fail U.tells H.Way.tells H.Way.history H.Way.honest
-        (H.got hall.old) 0 (way_of U.history U.is_closed U.count parent.old) ear.old core.old [] }
+    requires works { IsAtHall F.gives F.may_fail U.tells H.Way.tells
+        (seen_of H.Way.history H.Way.is_closed H.Way.count H.Way.idle_count) H.Way.honest (H.got
+        hall.old) 0 (way_of U.history U.is_closed U.count parent.old) ear.old core.old [] }
     requires listens { H.listens hall.old }
-    ensures stops { (trusted : Bool) (cap : ℕ) (book : Book H.Way)
-        → (trusted ≡ true → H.honest hall.old)
-        → Works F.gives F.may_fail U.tells trusted H.Way.tells H.Way.history H.Way.honest cap
+    ensures stops { (trusted : Bool) (cap : ℕ) (book : Book H.Way) → (trusted ≡ true → H.honest
+        hall.old) → Works F.gives F.may_fail U.tells trusted H.Way.tells
+        (seen_of H.Way.history H.Way.is_closed H.Way.count H.Way.idle_count) H.Way.honest cap
         (with_hall book (H.got hall.old) 0) (way_of U.history U.is_closed U.count parent.old)
         ear.old core.old [] [] [] false → StopsOver F.gives F.may_fail U.tells trusted H.Way.tells
-        H.Way.history cap book (H.got hall.new) (H.given hall.old) (H.given hall.new)
-        (way_of U.history U.is_closed U.count parent.new) [] result }
+        (seen_of H.Way.history H.Way.is_closed H.Way.count H.Way.idle_count) cap book (H.got
+        hall.new) (H.given hall.old) (H.given hall.new) (way_of U.history U.is_closed U.count
+        parent.new) [] result }
     ensures hosts { LetsGo (H.count hall.old) (H.count hall.new) (H.got hall.old)
         (H.got hall.new) (H.given hall.old) (H.given hall.new) result }
 {
@@ -109,10 +112,11 @@ fn work<W: Threads + Wait + Sync, F: Commands, U: Link<F>, H: Hall<F>>(
     cap: u64,
 ) -> Stop
     requires fresh { IsFresh U.history U.count U.idle_count U.is_closed parent.old }
-    ensures stops { (trusted : Bool) → (trusted ≡ true → H.honest hall.old)
-        → StopsOver F.gives F.may_fail U.tells trusted H.Way.tells H.Way.history cap
-        (new_book (H.got hall.old)) (H.got hall.new) (H.given hall.old) (H.given hall.new)
-        (way_of U.history U.is_closed U.count parent.new) [] result }
+    ensures stops { (trusted : Bool) → (trusted ≡ true → H.honest hall.old) → StopsOver F.gives
+        F.may_fail U.tells trusted H.Way.tells
+        (seen_of H.Way.history H.Way.is_closed H.Way.count H.Way.idle_count) cap (new_book (H.got
+        hall.old)) (H.got hall.new) (H.given hall.old) (H.given hall.new) (way_of U.history
+        U.is_closed U.count parent.new) [] result }
     ensures hosts { LetsGo (H.count hall.old) (H.count hall.new) (H.got hall.old)
         (H.got hall.new) (H.given hall.old) (H.given hall.new) result }
 {
@@ -153,10 +157,10 @@ fn work_for<F: Commands, W: Threads + Wait + Sync, D: Dial<F>, H: Hall<F>>(
     hall: &mut H,
 ) -> Ending<D::Way>
     ensures ended { EndsBy F.gives F.may_fail D.Way.tells (H.honest hall.old) H.Way.tells
-        H.Way.history (way_of D.Way.history D.Way.is_closed D.Way.count)
-        (foreman_options_of (map string_bytes words.now)) (D.count dial.old) (D.count dial.new)
-        (H.count hall.old) (H.count hall.new) (H.got hall.old) (H.got hall.new) (H.given hall.old)
-        (H.given hall.new) result.link result.cause }
+        (seen_of H.Way.history H.Way.is_closed H.Way.count H.Way.idle_count) (way_of D.Way.history
+        D.Way.is_closed D.Way.count) (foreman_options_of (map string_bytes words.now)) (D.count
+        dial.old) (D.count dial.new) (H.count hall.old) (H.count hall.new) (H.got hall.old) (H.got
+        hall.new) (H.given hall.old) (H.given hall.new) result.link result.cause }
     ensures back { AreHandedBack (H.count hall.old) (H.count hall.new) (H.got hall.old)
         (H.got hall.new) (H.given hall.old) (H.given hall.new) result.cause }
 {
@@ -198,13 +202,13 @@ pub fn foreman_top<F: Commands, W: Threads + Wait + Sync, D: Dial<F>, H: Hall<F>
 ) -> PeerEnded<D::Way>
     ensures status { result.status ≡ status_of result.cause }
     ensures ended { (cause : Cause) × EndsBy F.gives F.may_fail D.Way.tells (H.honest hall.old)
-        H.Way.tells H.Way.history (way_of D.Way.history D.Way.is_closed D.Way.count)
-        (foreman_options_of (map string_bytes words.now)) (D.count dial.old) (D.count dial.new)
+        H.Way.tells (seen_of H.Way.history H.Way.is_closed H.Way.count H.Way.idle_count) (way_of
+        D.Way.history D.Way.is_closed D.Way.count) (foreman_options_of (map string_bytes words.now))
+        (D.count dial.old) (D.count dial.new) (H.count hall.old) (H.count hall.new) (H.got hall.old)
+        (H.got hall.new) (H.given hall.old) (H.given hall.new) result.link cause × AreHandedBack
         (H.count hall.old) (H.count hall.new) (H.got hall.old) (H.got hall.new) (H.given hall.old)
-        (H.given hall.new) result.link cause × AreHandedBack (H.count hall.old) (H.count hall.new)
-        (H.got hall.old) (H.got hall.new) (H.given hall.old) (H.given hall.new) cause
-        × IsPrinted O.tells (O.count out.old) (O.count out.new) (O.bytes out.old) (O.bytes out.new)
-        (foreman_line_of cause) cause result.cause }
+        (H.given hall.new) cause × IsPrinted O.tells (O.count out.old) (O.count out.new) (O.bytes
+        out.old) (O.bytes out.new) (foreman_line_of cause) cause result.cause }
 {
     let Ending { cause, link } = work_for::<F, W, D, H>(rt, alloc, words, dial, hall);
     let cause = tell(cause, cause.foreman_line(), out);

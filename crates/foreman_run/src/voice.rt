@@ -42,6 +42,7 @@ fn send_frame<F: Commands, L: Link<F>>(
     ensures same { L.tells → received_in (L.history way.new) ≡ received_in (L.history way.old) }
     ensures fits { OnOk result (IsFramed message.now) }
     ensures honest { L.honest way.old → L.honest way.new }
+    ensures cause { HasCause (L.count way.old) (L.count way.new) result }
 {
     let body = write_message(alloc, message)?;
     let bytes = frame_of(alloc, body.as_slice())?;
@@ -77,6 +78,7 @@ fn send_put<F: Commands, L: Link<F>>(
     ensures same { L.tells → received_in (L.history way.new) ≡ received_in (L.history way.old) }
     ensures fits { OnOk result (IsFramed (messages.Put key content)) }
     ensures honest { L.honest way.old → L.honest way.new }
+    ensures cause { HasCause (L.count way.old) (L.count way.new) result }
 {
     let head = head_of(alloc, key, content.as_slice().len() as u32)?;
     match way.send(head.as_slice()) {
@@ -98,6 +100,7 @@ pub(crate) fn send<F: Commands, L: Link<F>>(
     ensures same { L.tells → received_in (L.history way.new) ≡ received_in (L.history way.old) }
     ensures fits { OnOk result (IsFramed message) }
     ensures honest { L.honest way.old → L.honest way.new }
+    ensures cause { HasCause (L.count way.old) (L.count way.new) result }
 {
     match message {
         Message::Put { key, content } => send_put(alloc, way, key, content),

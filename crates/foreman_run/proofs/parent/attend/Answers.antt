@@ -1,4 +1,5 @@
 use Rattle.std.proofs.Common.{rules, Ok, Option, Result, subst}
+use Rattle.foreman_run.specs.Lost.{seen_of}
 use Rattle.flow_types.specs.declared.messages.Message.{Message}
 use Rattle.peer_run.specs.declared.halt.Halt.{Halt}
 use Rattle.peer_run.specs.Ends.{Takes}
@@ -19,7 +20,7 @@ returns-in-Err-listen-clause-goes g c = λ trusted cap book works.
 
 pub returns-in-Err-clause-goes : goal.returns-in-Err-clause-goes
 returns-in-Err-clause-goes g c = λ trusted cap book works.
-    takes_not g.F.Commands.gives g.F.Commands.may_fail g.U.Link.tells trusted g.L.Link.tells g.L.Link.history g.L.Link.honest cap book (way_of g.U.Link.history g.U.Link.is_closed g.U.Link.count c.args.link.now) c.args.ear.now c.next.new.self c.args.core.now c.args.company.now c.in-Err.halt c.in-Err.ensures works
+    takes_not g.F.Commands.gives g.F.Commands.may_fail g.U.Link.tells trusted g.L.Link.tells (seen_of g.L.Link.history g.L.Link.is_closed g.L.Link.count g.L.Link.idle_count) g.L.Link.honest cap book (way_of g.U.Link.history g.U.Link.is_closed g.U.Link.count c.args.link.now) c.args.ear.now c.next.new.self c.args.core.now c.args.company.now c.in-Err.halt c.in-Err.ensures works
 
 pub returns-in-Err-obey-clause-goes : goal.returns-in-Err-obey-clause-goes
 returns-in-Err-obey-clause-goes g c = λ trusted cap book works.
