@@ -1,9 +1,10 @@
 -- Held tasks in a line, in the order of their ids.
-use Rattle.std.specs.Prelude.{◌≡◌, ◌≤◌, ◌+◌, ℕ, Bool, false, true, List, [], ◌∷◌, length, take}
+use Rattle.std.specs.Prelude.{◌≡◌, ◌≤◌, ◌+◌, ℕ, Bool, false, true, List, [], ◌∷◌, length, take, Option, None, Some}
 use Rattle.std.specs.List.{AllByRecursion}
 use Rattle.task_book.specs.declared.task.Held.{Held}
 use Rattle.task_book.specs.declared.task.Stage.{Stage}
 use Rattle.task_book.specs.declared.task.Stage.TheVariants as stages
+use Rattle.task_book.specs.declared.task.Submission.{Submission}
 use Rattle.task_book.specs.Kept.{is_end}
 
 -- the stage is that of a task that waits
@@ -11,6 +12,17 @@ abbrev pub is_waiting : Stage → Bool
 is_waiting stages.Waits = true
 is_waiting (stages.Runs attempt) = false
 is_waiting (stages.Ended attempt outcome) = false
+
+-- the task of a held one that waits
+abbrev pub waiting_of : Submission → Stage → Option Submission
+waiting_of task stages.Waits = Some task
+waiting_of task (stages.Runs attempt) = None
+waiting_of task (stages.Ended attempt outcome) = None
+
+-- the task that waits, of a held one where there is one
+abbrev pub waiting_in : Option Held → Option Submission
+waiting_in None = None
+waiting_in (Some h) = waiting_of h.task h.stage
 
 -- Ids rise, from this number on.
 abbrev pub AreFrom : ℕ → List Held → Type 0

@@ -5,7 +5,7 @@ ghost use Rattle.flow_types.specs.declared.numbers.AttemptNo.{AttemptNo as Numbe
 ghost use Rattle.task_book.specs.declared.task.Stage.TheVariants as stages;
 ghost use Rattle.task_book.specs.Kept.{IsEndedAt, given_at, place_ended, place_running, staged_at, staged_by};
 ghost use Rattle.task_book.specs.Submissions.{IsShort};
-ghost use Rattle.task_book.specs.Lines.{NoneBefore, is_waiting};
+ghost use Rattle.task_book.specs.Lines.{NoneBefore, is_waiting, waiting_in};
 ghost use Rattle.task_book.specs.Stages.{EndsOn, EndsWith, Runs, RunsOn, RunsWith};
 
 use crate::book::Book;
@@ -32,7 +32,8 @@ impl Book {
 
     /// The task at a place, where it waits.
     pub fn waiting(&self, at: usize) -> Option<&Submission>
-        ensures { IfSome result (λ task. IsShort task.now) }
+        ensures waits { option_copied result ≡ waiting_in (slice_get self.now.held at) }
+        ensures fits { IfSome result (λ task. IsShort task.now) }
     {
         let held = self.task(at)?;
         match held.stage {
@@ -45,6 +46,7 @@ impl Book {
     /// The task of an id, where it runs with this attempt.
     pub fn running(&self, id: TaskId, attempt: AttemptNo) -> Option<&Submission>
         ensures runs { IfSome result (λ task. Runs self.now.held attempt task.now) }
+        ensures found { is_some result ≡ is_some (place_running id attempt self.now.held) }
         ensures fits { IfSome result (λ task. IsShort task.now) }
     {
         match self.held.place_running(id, attempt) {
