@@ -1,0 +1,12 @@
+pub mod Messages
+pub mod Speaking
+pub mod Hearing
+pub mod Showing
+pub mod Serving
+pub mod Calls
+pub mod Going
+pub mod Reading
+pub mod Sizes
+pub mod Waiting
+pub mod Parting
+pub mod Knowing

@@ -1,0 +1,22 @@
+use Rattle.std.proofs.Common.{◌≡◌, ℕ, List, length, take, true}
+use Rattle.std.specs.List.{AllByRecursion}
+use Rattle.wq_submit.specs.Rounds.{AreServed, EndsRight, GoesOnAs, IsQuiet, ways_of}
+use Rattle.wq_submit.specs.Shown.{ShowsEnds}
+use Rattle.wq_submit.proofs.company.read_seats.Given as goal
+
+abbrev pub invariant-loop-at : goal.invariant-loop-at
+invariant-loop-at g l = record {
+  many : length l.seats.items ≡ length l.fn.seats.items;
+  goes : GoesOnAs l.fn.book l.book;
+  served : (files : List (List ℕ)) (next : ℕ) → g.L.Link.tells
+      → AreServed g.F.Commands.gives g.F.Commands.may_fail g.L.Link.history files l.fn.book.held next l.fn.seats.items
+      → AreServed g.F.Commands.gives g.F.Commands.may_fail g.L.Link.history files l.book.held next l.seats.items;
+  shows : (files : List (List ℕ)) (next : ℕ) → g.L.Link.tells
+      → AreServed g.F.Commands.gives g.F.Commands.may_fail g.L.Link.history files l.fn.book.held next l.fn.seats.items
+      → ShowsEnds g.L.Link.history l.fn.book.held l.book.held (ways_of (take l.at l.seats.items));
+  right : (files : List (List ℕ)) (next : ℕ) → g.L.Link.tells → AllByRecursion g.L.Link.honest (ways_of l.fn.seats.items)
+      → AreServed g.F.Commands.gives g.F.Commands.may_fail g.L.Link.history files l.fn.book.held next l.fn.seats.items
+      → EndsRight g.F.Commands.gives g.F.Commands.may_fail files l.fn.book.held l.book.held;
+  honest : AllByRecursion g.L.Link.honest (ways_of l.fn.seats.items) → AllByRecursion g.L.Link.honest (ways_of l.seats.items);
+  quiet : l.look.was_idle ≡ true → AllByRecursion (IsQuiet g.L.Link.idle_count) (take l.at l.seats.items);
+}

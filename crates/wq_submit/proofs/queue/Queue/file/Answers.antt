@@ -1,0 +1,24 @@
+use Rattle.std.proofs.Common.{map, sym, subst}
+use Rattle.wq_submit.specs.Queues.{IsTrusted, QueueState, work_of}
+use Rattle.wq_submit.proofs.Knowing.{known_added, right_added}
+use Rattle.wq_submit.proofs.Serving.{served_added}
+use Rattle.wq_submit.proofs.queue.Queue.file.Goals as goal
+
+pub invariant_of-self : goal.invariant_of-self
+invariant_of-self g c =
+    let i = c.self.inside in (
+      c.self.invariant.0,
+      known_added i.files c.add.new.self c.args.content c.add.result (map work_of i.book.held) c.add.ensures.ok c.add.ensures.err c.self.invariant.1,
+      λ tells. served_added g.F.Commands.gives g.F.Commands.may_fail g.H.Way.Link.history i.files c.add.new.self c.args.content c.add.result i.book.held i.company.next i.company.seats c.add.ensures.ok c.add.ensures.err
+          (c.self.invariant.2 tells),
+    )
+
+pub returns-clause-trusted : goal.returns-clause-trusted
+returns-clause-trusted g c trusted =
+    let i = c.self.inside in
+    let was = subst (λ (q : QueueState g.row.H-Way.Denot). IsTrusted g.H.Way.Link.tells g.F.Commands.gives g.F.Commands.may_fail g.H.Way.Link.honest q) (sym c.self.view_is) trusted in
+    record {
+      told = was.told;
+      links = was.links;
+      ends = right_added g.F.Commands.gives g.F.Commands.may_fail i.files c.add.new.self c.args.content c.add.result i.book.held c.add.ensures.ok c.add.ensures.err c.self.invariant.1 was.ends;
+    }

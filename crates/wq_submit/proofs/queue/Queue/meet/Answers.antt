@@ -1,0 +1,27 @@
+use Rattle.std.proofs.Common.{◌∙◌, ℕ, ap, sym, subst}
+use Rattle.wq_submit.specs.Queues.{IsIdleHall, QueueState, RunBefore}
+use Rattle.wq_submit.specs.Rounds.{CompanyState, live_of, ways_of}
+use Rattle.wq_submit.specs.Shown.{ShowsEnds}
+use Rattle.wq_submit.proofs.Waiting.{shows_came}
+use Rattle.wq_submit.proofs.queue.Queue.meet.Goals as goal
+
+pub invariant_of-self : goal.invariant_of-self
+invariant_of-self g c =
+    let i = c.self.inside in (
+      subst (λ (n : ℕ). RunBefore n i.book.held) (sym c.meet.ensures.next) c.self.invariant.0,
+      c.self.invariant.1,
+      λ tells. c.meet.ensures.served i.files i.book.held tells (c.self.invariant.2 tells),
+    )
+
+pub returns-clause-shows : goal.returns-clause-shows
+returns-clause-shows g c k shows =
+    let i = c.self.inside in
+    let was = subst (λ (q : QueueState g.row.H-Way.Denot). ShowsEnds g.H.Way.Link.history k.held q.kept.held q.ways) (sym c.self.view_is) shows in
+    shows_came g.H.Way.Link.history g.H.Way.Link.honest _ _ k.held i.book.held (ways_of i.company.seats) (ways_of c.meet.new.company.seats) c.meet.ensures.comes was
+
+pub returns-clause-idle : goal.returns-clause-idle
+returns-clause-idle g c is =
+    let was = c.meet.ensures.idle is in (
+      ap (λ (s : CompanyState g.row.H-Way.Denot). live_of s.seats) was.0 ∙ ap (λ (q : QueueState g.row.H-Way.Denot). q.live) c.self.view_is,
+      subst (λ (q : QueueState g.row.H-Way.Denot). IsIdleHall (g.H.Hall.idle_count c.args.hall.now) (g.H.Hall.idle_count c.meet.new.hall) q.live) c.self.view_is was.1,
+    )

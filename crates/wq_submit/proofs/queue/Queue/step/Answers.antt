@@ -1,0 +1,36 @@
+use Rattle.std.proofs.Common.{◌∙◌, subst, sym}
+use Rattle.wq_submit.specs.Queues.{IsTrusted, IsUnder, QueueState}
+use Rattle.wq_submit.proofs.Waiting.{after_files, after_held, goes_after, goes_fault, idle_after, under_on}
+use Rattle.wq_submit.proofs.queue.Queue.step.Goals as goal
+
+pub returns-in-Some-clause-goes : goal.returns-in-Some-clause-goes
+returns-in-Some-clause-goes g c =
+    goes_after g.H.Way.Link.tells g.F.Commands.gives g.F.Commands.may_fail g.H.Way.Link.history g.H.Way.Link.honest (g.H.Hall.honest c.args.hall.now × IsTrusted g.H.Way.Link.tells g.F.Commands.gives g.F.Commands.may_fail g.H.Way.Link.honest c.args.self.now)
+    c.args.self.now c.round.new.self c.after.new.self c.in-Some.came c.round.ensures.work c.round.ensures.shows c.round.ensures.files (λ fair. (c.round.ensures.trusted fair.0 fair.1).0) c.in-Some.ensures.goes
+
+pub returns-in-Some-clause-held : goal.returns-in-Some-clause-held
+returns-in-Some-clause-held g c = after_held c.round.new.self c.after.new.self c.in-Some.came c.in-Some.ensures.goes
+
+pub returns-in-Some-clause-idle : goal.returns-in-Some-clause-idle
+returns-in-Some-clause-idle g c = idle_after g.H.Way.Link.idle_count (g.H.Hall.idle_count c.args.hall.now) (g.H.Hall.idle_count c.round.new.hall) c.round.new.self c.after.new.self c.in-Some.came c.in-Some.ensures.goes
+    (λ is. c.in-Ok.ensures.idle (c.in-Some.ensures.idle is))
+
+pub returns-in-Some-clause-files : goal.returns-in-Some-clause-files
+returns-in-Some-clause-files g c = after_files c.round.new.self c.after.new.self c.in-Some.came c.in-Some.ensures.goes ∙ c.round.ensures.files
+
+pub returns-in-None-clause-none : goal.returns-in-None-clause-none
+returns-in-None-clause-none g c under =
+    subst (λ (q : QueueState g.row.H-Way.Denot). IsUnder c.args.self.now.kept q.kept) (sym c.in-None.ensures.none.1)
+    (under_on c.args.self.now.kept c.round.new.self.kept c.round.ensures.work c.in-None.ensures.none.0 under)
+
+pub returns-in-Err-Memory-clause-goes : goal.returns-in-Err-Memory-clause-goes
+returns-in-Err-Memory-clause-goes g c = goes_fault g.H.Way.Link.tells g.F.Commands.gives g.F.Commands.may_fail g.H.Way.Link.history g.H.Way.Link.honest _ c.args.self.now c.round.new.self _ c.round.ensures.work c.round.ensures.shows
+
+pub returns-in-Err-Hall-clause-goes : goal.returns-in-Err-Hall-clause-goes
+returns-in-Err-Hall-clause-goes g c = goes_fault g.H.Way.Link.tells g.F.Commands.gives g.F.Commands.may_fail g.H.Way.Link.history g.H.Way.Link.honest _ c.args.self.now c.round.new.self _ c.round.ensures.work c.round.ensures.shows
+
+pub returns-in-Some-clause-trusted : goal.returns-in-Some-clause-trusted
+returns-in-Some-clause-trusted g c fair trusted = let r = c.round.ensures.trusted fair trusted in (c.after.ensures.trusted r.0, r.1)
+
+pub returns-in-None-clause-trusted : goal.returns-in-None-clause-trusted
+returns-in-None-clause-trusted g c fair trusted = let r = c.round.ensures.trusted fair trusted in (c.after.ensures.trusted r.0, subst g.H.Hall.honest (sym c.pause.ensures) r.1)

@@ -1,0 +1,4 @@
+pub mod Seats
+pub mod Shown
+pub mod Queues
+pub mod Rounds

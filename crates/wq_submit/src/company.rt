@@ -1,0 +1,619 @@
+//! The peers of a queue.
+ghost use Rattle.std.specs.Prelude.{◌≡◌, ◌≤◌, ◌<◌, ◌+◌, ◌-◌, ◌^◌, true, ◌⊎◌, ◌++◌, ◌∷◌, [], List, ℕ, IfNone, IfSome, length, slice_get};
+ghost use Rattle.std.specs.List.{AllByRecursion};
+ghost use Rattle.links.specs.Halls.{IsFresh};
+ghost use Rattle.task_book.specs.declared.task.Held.{Held as HeldValue};
+ghost use Rattle.task_book.specs.declared.task.Submission.{Submission as SubmissionValue};
+ghost use Rattle.task_book.specs.Stages.{EndsOn, Runs};
+ghost use Rattle.wq_submit.specs.Queues.{IsIdleHall, IsSameWork, RunBefore};
+ghost use Rattle.wq_submit.specs.Rounds.{AreServed, Comes, EndsRight, GoesOnAs, IsQuiet, IsRead, IsServed, MeetsAs, ReadsAt, live_of, was_idle, ways_of};
+ghost use Rattle.wq_submit.specs.Shown.{ShowsEnds};
+
+use crate::seat::{Look, Seat, Turn};
+use flow_types::{AttemptNo, Memory, Needs};
+use links::{Came, Hall, Link};
+use outside::{Commands, Fault};
+use peers::{Leave, Peer};
+use std::alloc::Global;
+use std::marker::Model;
+use task_book::{Book, Files};
+
+/// The most links that live at once.
+const MOST_LINKS: usize = 32;
+
+/// The peers in the order in which they came, those that are gone too, and the number of the next
+/// attempt.
+#[derive(Drop)]
+pub(crate) struct Company<F: Commands, L: Link<F>> {
+    seats: Vec<Seat<F, L>>,
+    next: u128,
+}
+
+impl<F: Commands, L: Link<F>> Model for Company<F, L> {
+    ghost use Rattle.wq_submit.specs.Rounds.{CompanyState};
+
+    ghost Value = { CompanyState L };
+
+    ghost view = { λ c. record { seats = c.seats.items; next = c.next } };
+}
+
+/// Why a part of a round came to no end.
+#[derive(Clone, Copy, PartialEq, Eq)]
+pub(crate) enum Stop {
+    /// The place where peers come failed.
+    Hall,
+    /// Want of memory.
+    Memory,
+}
+
+// That a peer was left for this, where that is want of memory.
+fn left_for(leave: Leave) -> Result<(), Memory> {
+    match leave {
+        Leave::Memory => Err(Memory),
+        _ => Ok(()),
+    }
+}
+
+// Tells a peer what it is owed, unless it is gone. Where that fails it is gone.
+fn tell_seat<F: Commands, L: Link<F>>(
+    seat: &mut Seat<F, L>,
+    alloc: Global,
+    files: &Files,
+    book: &mut Book,
+) -> Result<(), Memory>
+    ensures goes { GoesOnAs book.old book.new }
+    ensures ends { EndsOn book.old.held book.new.held }
+    ensures served { (next : ℕ) → L.tells
+        → IsServed F.gives F.may_fail L.history files.now book.old.held next seat.old
+        → IsServed F.gives F.may_fail L.history files.now book.new.held next seat.new }
+    ensures honest { L.honest seat.old.peer.way → L.honest seat.new.peer.way }
+{
+    if seat.is_gone() {
+        return Ok(());
+    }
+    match seat.tell(alloc, files, book) {
+        Ok(()) => Ok(()),
+        Err(leave) => {
+            seat.leave(book);
+            left_for(leave)
+        }
+    }
+}
+
+// Tells the peer at a place what it is owed.
+fn tell_at<F: Commands, L: Link<F>>(
+    seats: &mut Vec<Seat<F, L>>,
+    alloc: Global,
+    files: &Files,
+    book: &mut Book,
+    at: usize,
+) -> Result<(), Memory>
+    requires { at < length seats.old.items }
+    ensures goes { GoesOnAs book.old book.new }
+    ensures ends { EndsOn book.old.held book.new.held }
+    ensures served { (next : ℕ) → L.tells
+        → AreServed F.gives F.may_fail L.history files.now book.old.held next seats.old.items
+        → AreServed F.gives F.may_fail L.history files.now book.new.held next seats.new.items }
+    ensures honest { AllByRecursion L.honest (ways_of seats.old.items)
+        → AllByRecursion L.honest (ways_of seats.new.items) }
+    ensures many { length seats.new.items ≡ length seats.old.items }
+{
+    tell_seat(&mut seats[at], alloc, files, book)
+}
+
+// Tells each of these peers what it is owed.
+fn tell_seats<F: Commands, L: Link<F>>(
+    seats: &mut Vec<Seat<F, L>>,
+    alloc: Global,
+    files: &Files,
+    book: &mut Book,
+) -> Result<(), Memory>
+    ensures goes { GoesOnAs book.old book.new }
+    ensures ends { EndsOn book.old.held book.new.held }
+    ensures served { (next : ℕ) → L.tells
+        → AreServed F.gives F.may_fail L.history files.now book.old.held next seats.old.items
+        → AreServed F.gives F.may_fail L.history files.now book.new.held next seats.new.items }
+    ensures honest { AllByRecursion L.honest (ways_of seats.old.items)
+        → AllByRecursion L.honest (ways_of seats.new.items) }
+{
+    for at in 0..seats.len() {
+        match tell_at(seats, alloc, files, book, at) {
+            Ok(()) => {}
+            Err(_) => return Err(Memory),
+        }
+    }
+    Ok(())
+}
+
+// Begins the task at a place of the book, which runs with this attempt, at a peer. Where that fails
+// the peer is gone.
+fn begin_seat<F: Commands, L: Link<F>>(
+    seat: &mut Seat<F, L>,
+    alloc: Global,
+    files: &Files,
+    book: &mut Book,
+    at: usize,
+    attempt: AttemptNo,
+    bytes: u64,
+) -> Result<(), Memory>
+    ensures goes { GoesOnAs book.old book.new }
+    ensures ends { EndsOn book.old.held book.new.held }
+    ensures served { L.tells → IfSome (slice_get book.old.held at) (λ h. (s : SubmissionValue)
+        → Runs book.old.held attempt s → s ≡ h.task)
+        → IsServed F.gives F.may_fail L.history files.now book.old.held attempt.0 seat.old
+        → IsServed F.gives F.may_fail L.history files.now book.new.held (1 + attempt.0) seat.new }
+    ensures honest { L.honest seat.old.peer.way → L.honest seat.new.peer.way }
+{
+    if seat.is_gone() {
+        return Ok(());
+    }
+    let Some(held) = book.task(at) else {
+        return Ok(());
+    };
+    match seat.begin(alloc, files, held.id, &held.task, attempt, bytes) {
+        Ok(()) => Ok(()),
+        Err(leave) => {
+            seat.leave(book);
+            left_for(leave)
+        }
+    }
+}
+
+// The same at the peer at a place.
+fn begin_in<F: Commands, L: Link<F>>(
+    seats: &mut Vec<Seat<F, L>>,
+    alloc: Global,
+    files: &Files,
+    book: &mut Book,
+    at: usize,
+    place: usize,
+    attempt: AttemptNo,
+    bytes: u64,
+) -> Result<(), Memory>
+    requires { place < length seats.old.items }
+    ensures goes { GoesOnAs book.old book.new }
+    ensures ends { EndsOn book.old.held book.new.held }
+    ensures served { L.tells → IfSome (slice_get book.old.held at) (λ h. (s : SubmissionValue)
+        → Runs book.old.held attempt s → s ≡ h.task)
+        → AreServed F.gives F.may_fail L.history files.now book.old.held attempt.0 seats.old.items
+        → AreServed F.gives F.may_fail L.history files.now book.new.held (1 + attempt.0)
+        seats.new.items }
+    ensures honest { AllByRecursion L.honest (ways_of seats.old.items)
+        → AllByRecursion L.honest (ways_of seats.new.items) }
+{
+    begin_seat(&mut seats[place], alloc, files, book, at, attempt, bytes)
+}
+
+// Reads a peer once, unless it is gone. Where it is to be left it is gone.
+fn read_seat<F: Commands, L: Link<F>>(
+    seat: &mut Seat<F, L>,
+    alloc: Global,
+    book: &mut Book,
+    turn: Turn,
+) -> Result<Look, Memory>
+    ensures goes { GoesOnAs book.old book.new }
+    ensures reads { (files : List (List ℕ)) (next : ℕ) → L.tells
+        → IsServed F.gives F.may_fail L.history files book.old.held next seat.old
+        → IsRead F.gives F.may_fail L.history files book.old.held book.new.held next seat.new }
+    ensures right { (files : List (List ℕ)) (next : ℕ) → L.tells → L.honest seat.old.peer.way
+        → IsServed F.gives F.may_fail L.history files book.old.held next seat.old
+        → EndsRight F.gives F.may_fail files book.old.held book.new.held }
+    ensures honest { L.honest seat.old.peer.way → L.honest seat.new.peer.way }
+    ensures quiet { was_idle result ≡ true → IsQuiet L.idle_count seat.new }
+{
+    if seat.is_gone() {
+        return Ok(Look {
+            came: false,
+            was_idle: true,
+        });
+    }
+    match seat.read(alloc, book, turn) {
+        Ok(look) => Ok(look),
+        Err(leave) => {
+            seat.leave(book);
+            match left_for(leave) {
+                Ok(()) => Ok(Look {
+                    came: true,
+                    was_idle: false,
+                }),
+                Err(_) => Err(Memory),
+            }
+        }
+    }
+}
+
+// Reads the peer at a place.
+fn read_at<F: Commands, L: Link<F>>(
+    seats: &mut Vec<Seat<F, L>>,
+    alloc: Global,
+    book: &mut Book,
+    at: usize,
+    turn: Turn,
+) -> Result<Look, Memory>
+    requires { at < length seats.old.items }
+    ensures goes { GoesOnAs book.old book.new }
+    ensures reads { ReadsAt L.tells F.gives F.may_fail L.history L.honest L.idle_count at
+        book.old.held book.new.held seats.old.items seats.new.items (was_idle result) }
+{
+    read_seat(&mut seats[at], alloc, book, turn)
+}
+
+// Reads each of these peers once.
+fn read_seats<F: Commands, L: Link<F>>(
+    seats: &mut Vec<Seat<F, L>>,
+    alloc: Global,
+    book: &mut Book,
+    turn: Turn,
+) -> Result<Look, Memory>
+    ensures goes { GoesOnAs book.old book.new }
+    ensures served { (files : List (List ℕ)) (next : ℕ) → L.tells
+        → AreServed F.gives F.may_fail L.history files book.old.held next seats.old.items
+        → AreServed F.gives F.may_fail L.history files book.new.held next seats.new.items }
+    ensures shows { (files : List (List ℕ)) (next : ℕ) → L.tells
+        → AreServed F.gives F.may_fail L.history files book.old.held next seats.old.items
+        → ShowsEnds L.history book.old.held book.new.held (ways_of seats.new.items) }
+    ensures right { (files : List (List ℕ)) (next : ℕ) → L.tells
+        → AllByRecursion L.honest (ways_of seats.old.items)
+        → AreServed F.gives F.may_fail L.history files book.old.held next seats.old.items
+        → EndsRight F.gives F.may_fail files book.old.held book.new.held }
+    ensures honest { AllByRecursion L.honest (ways_of seats.old.items)
+        → AllByRecursion L.honest (ways_of seats.new.items) }
+    ensures quiet { was_idle result ≡ true
+        → AllByRecursion (IsQuiet L.idle_count) seats.new.items }
+{
+    let mut look = Look {
+        came: false,
+        was_idle: true,
+    };
+    for at in 0..seats.len() {
+        match read_at(seats, alloc, book, at, turn) {
+            Ok(found) => look = look.with(found),
+            Err(_) => return Err(Memory),
+        }
+    }
+    Ok(look)
+}
+
+// So many peers live, with this one.
+fn with_seat<F: Commands, L: Link<F>>(live: usize, seat: &Seat<F, L>) -> usize
+    requires { live < 2 ^ 64 - 1 }
+    ensures { result ≡ live + length (live_of (seat.now ∷ [])) }
+{
+    if seat.is_gone() { live } else { live + 1 }
+}
+
+// How many of these peers live.
+fn live_in<F: Commands, L: Link<F>>(seats: &[Seat<F, L>]) -> usize
+    ensures { result ≡ length (live_of seats.now) }
+{
+    let mut live = 0;
+    for seat in seats {
+        live = with_seat(live, seat);
+    }
+    live
+}
+
+// The attempt of this number.
+fn attempt_of(next: u128) -> Option<AttemptNo>
+    ensures { IfSome result (λ attempt. attempt.0 ≡ next) }
+{
+    match u64::try_from(next) {
+        Ok(number) => Some(AttemptNo(number)),
+        Err(_) => None,
+    }
+}
+
+impl<F: Commands, L: Link<F>> Company<F, L> {
+    /// Nobody has come, and no attempt was made.
+    pub fn new(alloc: Global) -> Company<F, L>
+        ensures { result ≡ record { seats = []; next = 0 } }
+    {
+        Company {
+            seats: Vec::new(alloc),
+            next: 0,
+        }
+    }
+
+    /// How many peers there are, those that are gone too.
+    pub fn count(&self) -> usize
+        ensures { result ≡ length self.now.seats }
+    {
+        self.seats.len()
+    }
+
+    /// Whether nobody is there.
+    pub fn is_empty(&self) -> bool
+        ensures { result ≡ true → length self.now.seats ≡ 0 }
+    {
+        self.count() == 0
+    }
+
+    /// How many peers live.
+    pub fn live(&self) -> usize
+        ensures { result ≡ length (live_of self.now.seats) }
+    {
+        live_in(self.seats.as_slice())
+    }
+
+    /// Tells each peer what it is owed.
+    pub fn tell_all(&mut self, alloc: Global, files: &Files, book: &mut Book) -> Result<(), Memory>
+        ensures next { self.new.next ≡ self.old.next }
+        ensures goes { GoesOnAs book.old book.new }
+        ensures ends { EndsOn book.old.held book.new.held }
+        ensures served { L.tells → AreServed F.gives F.may_fail L.history files.now book.old.held
+            self.old.next self.old.seats → AreServed F.gives F.may_fail L.history files.now
+            book.new.held self.new.next self.new.seats }
+        ensures honest { AllByRecursion L.honest (ways_of self.old.seats)
+            → AllByRecursion L.honest (ways_of self.new.seats) }
+    {
+        tell_seats(&mut self.seats, alloc, files, book)
+    }
+
+    // Where the first peer stands that a task fits: its link is the least.
+    fn place_for(&self, needs: Needs, bytes: u64) -> Option<usize>
+        ensures { IfSome result (λ place. place < length self.now.seats) }
+    {
+        self.seats.iter().position(|seat| seat.fits(needs, bytes))
+    }
+
+    // Begins the waiting task at a place of the book with the next attempt, at the peer at a place.
+    fn begin_at(
+        &mut self,
+        alloc: Global,
+        files: &Files,
+        book: &mut Book,
+        at: usize,
+        place: usize,
+        bytes: u64,
+    ) -> Result<(), Memory>
+        requires { place < length self.old.seats }
+        ensures work { IsSameWork book.old book.new }
+        ensures ends { EndsOn book.old.held book.new.held }
+        ensures before { RunBefore self.old.next book.old.held
+            → RunBefore self.new.next book.new.held }
+        ensures served { L.tells → RunBefore self.old.next book.old.held
+            → AreServed F.gives F.may_fail L.history files.now book.old.held
+            self.old.next self.old.seats → AreServed F.gives F.may_fail L.history files.now
+            book.new.held self.new.next self.new.seats }
+        ensures honest { AllByRecursion L.honest (ways_of self.old.seats)
+            → AllByRecursion L.honest (ways_of self.new.seats) }
+    {
+        let Some(attempt) = attempt_of(self.next) else {
+            return Err(Memory);
+        };
+        self.next += 1;
+        book.begin(at, attempt);
+        begin_in(
+            &mut self.seats,
+            alloc,
+            files,
+            book,
+            at,
+            place,
+            attempt,
+            bytes,
+        )
+    }
+
+    // Places the task at a place of the book, where it waits and fits a peer.
+    fn place_at(
+        &mut self,
+        alloc: Global,
+        files: &Files,
+        book: &mut Book,
+        at: usize,
+    ) -> Result<(), Memory>
+        ensures work { IsSameWork book.old book.new }
+        ensures ends { EndsOn book.old.held book.new.held }
+        ensures before { RunBefore self.old.next book.old.held
+            → RunBefore self.new.next book.new.held }
+        ensures served { L.tells → RunBefore self.old.next book.old.held
+            → AreServed F.gives F.may_fail L.history files.now book.old.held
+            self.old.next self.old.seats → AreServed F.gives F.may_fail L.history files.now
+            book.new.held self.new.next self.new.seats }
+        ensures honest { AllByRecursion L.honest (ways_of self.old.seats)
+            → AllByRecursion L.honest (ways_of self.new.seats) }
+    {
+        let Some(task) = book.waiting(at) else {
+            return Ok(());
+        };
+        let needs = task.needs;
+        let bytes = files.bytes_of(task.inputs.as_slice());
+        match self.place_for(needs, bytes) {
+            Some(place) => self.begin_at(alloc, files, book, at, place, bytes),
+            None => Ok(()),
+        }
+    }
+
+    /// Places each waiting task that fits a peer, on the one that came first.
+    pub fn place_all(&mut self, alloc: Global, files: &Files, book: &mut Book) -> Result<(), Memory>
+        ensures work { IsSameWork book.old book.new }
+        ensures ends { EndsOn book.old.held book.new.held }
+        ensures before { RunBefore self.old.next book.old.held
+            → RunBefore self.new.next book.new.held }
+        ensures served { L.tells → RunBefore self.old.next book.old.held
+            → AreServed F.gives F.may_fail L.history files.now book.old.held
+            self.old.next self.old.seats → AreServed F.gives F.may_fail L.history files.now
+            book.new.held self.new.next self.new.seats }
+        ensures honest { AllByRecursion L.honest (ways_of self.old.seats)
+            → AllByRecursion L.honest (ways_of self.new.seats) }
+    {
+        let from = book.first_waiting();
+        for at in from..book.count() {
+            match self.place_at(alloc, files, book, at) {
+                Ok(()) => {}
+                Err(_) => return Err(Memory),
+            }
+        }
+        Ok(())
+    }
+
+    /// Reads each peer once. Whether all were idle is told by `was_idle`.
+    pub fn read_all(&mut self, alloc: Global, book: &mut Book, turn: Turn) -> Result<Look, Memory>
+        ensures next { self.new.next ≡ self.old.next }
+        ensures goes { GoesOnAs book.old book.new }
+        ensures served { (files : List (List ℕ)) → L.tells
+            → AreServed F.gives F.may_fail L.history files book.old.held self.old.next
+            self.old.seats → AreServed F.gives F.may_fail L.history files book.new.held
+            self.new.next self.new.seats }
+        ensures shows { (files : List (List ℕ)) → L.tells
+            → AreServed F.gives F.may_fail L.history files book.old.held self.old.next
+            self.old.seats
+            → ShowsEnds L.history book.old.held book.new.held (ways_of self.new.seats) }
+        ensures right { (files : List (List ℕ)) → L.tells
+            → AllByRecursion L.honest (ways_of self.old.seats)
+            → AreServed F.gives F.may_fail L.history files book.old.held self.old.next
+            self.old.seats → EndsRight F.gives F.may_fail files book.old.held book.new.held }
+        ensures honest { AllByRecursion L.honest (ways_of self.old.seats)
+            → AllByRecursion L.honest (ways_of self.new.seats) }
+        ensures quiet { was_idle result ≡ true
+            → AllByRecursion (IsQuiet L.idle_count) self.new.seats }
+    {
+        read_seats(&mut self.seats, alloc, book, turn)
+    }
+
+    // A peer comes over this link. Where memory is wanting the link is lost.
+    fn let_in(&mut self, alloc: Global, way: L) -> Result<(), Memory>
+        requires fresh { IsFresh L.history L.count L.idle_count L.is_closed way }
+        ensures next { self.new.next ≡ self.old.next }
+        ensures comes { (ways_of self.new.seats ≡ ways_of self.old.seats)
+            ⊎ (ways_of self.new.seats ≡ ways_of self.old.seats ++ way ∷ []) }
+        ensures served { (files : List (List ℕ)) (held : List HeldValue) → L.tells
+            → AreServed F.gives F.may_fail L.history files held self.old.next self.old.seats
+            → AreServed F.gives F.may_fail L.history files held self.new.next self.new.seats }
+    {
+        let peer = match Peer::new(alloc, way, crate::copies::OWN_RUN) {
+            Ok(peer) => peer,
+            Err(_) => return Err(Memory),
+        };
+        match self.seats.push(Seat::new(alloc, peer)) {
+            Ok(()) => Ok(()),
+            Err(_) => Err(Memory),
+        }
+    }
+
+    /// Takes a peer that is gone out, if there is one.
+    pub fn take_gone(&mut self) -> Option<Seat<F, L>>
+        ensures next { self.new.next ≡ self.old.next }
+        ensures links { AllByRecursion L.honest (ways_of self.old.seats)
+            → AllByRecursion L.honest (ways_of self.new.seats) }
+        ensures served { (files : List (List ℕ)) (held : List HeldValue) → L.tells
+            → AreServed F.gives F.may_fail L.history files held self.old.next self.old.seats
+            → AreServed F.gives F.may_fail L.history files held self.new.next self.new.seats }
+    {
+        let Some(at) = self.seats.iter().position(|seat| seat.is_gone()) else {
+            return None;
+        };
+        Some(self.seats.remove(at))
+    }
+
+    /// Takes the last peer out, if there is one.
+    pub fn pop(&mut self) -> Option<Seat<F, L>>
+        ensures some { IfSome result (λ seat. length self.old.seats
+            ≡ length self.new.seats + 1) }
+        ensures none { IfNone result (self.new ≡ self.old) }
+    {
+        self.seats.pop()
+    }
+}
+
+/// Asks the hall once for a peer, unless as many live as may or it isn't ready. It tells whether
+/// somebody came, or that the hall counts as idle.
+pub(crate) fn meet<F: Commands, H: Hall<F>>(
+    company: &mut Company<F, H::Way>,
+    alloc: Global,
+    hall: &mut H,
+    is_due: bool,
+) -> Result<Look, Stop>
+    requires listens { H.listens hall.old }
+    ensures listens { H.listens hall.new }
+    ensures next { company.new.next ≡ company.old.next }
+    ensures comes { Comes H.Way.honest (H.honest hall.old) (H.honest hall.new)
+        (ways_of company.old.seats) (ways_of company.new.seats) }
+    ensures served { (files : List (List ℕ)) (held : List HeldValue) → H.Way.tells
+        → AreServed F.gives F.may_fail H.Way.history files held company.old.next company.old.seats
+        → AreServed F.gives F.may_fail H.Way.history files held company.new.next
+        company.new.seats }
+    ensures cause { MeetsAs (H.count hall.old) (H.count hall.new) result }
+    ensures later { H.idle_count hall.old ≤ H.idle_count hall.new }
+    ensures idle { was_idle result ≡ true → (company.new ≡ company.old)
+        × IsIdleHall (H.idle_count hall.old) (H.idle_count hall.new) (live_of company.old.seats) }
+{
+    if company.live() >= MOST_LINKS {
+        return Ok(Look {
+            came: false,
+            was_idle: true,
+        });
+    }
+    if !hall.ready() && !is_due {
+        return Ok(Look {
+            came: false,
+            was_idle: false,
+        });
+    }
+    match hall.wait(alloc) {
+        Ok(Came::Link(way)) => match company.let_in(alloc, way) {
+            Ok(()) => Ok(Look {
+                came: true,
+                was_idle: false,
+            }),
+            Err(_) => Err(Stop::Memory),
+        },
+        Ok(Came::Idle) => Ok(Look {
+            came: false,
+            was_idle: true,
+        }),
+        Err(Fault::Failed) => Err(Stop::Hall),
+        Err(Fault::Memory) => Err(Stop::Memory),
+    }
+}
+
+/// Hands back each link that is gone. Where memory is wanting it is lost.
+pub(crate) fn part<F: Commands, H: Hall<F>>(
+    company: &mut Company<F, H::Way>,
+    alloc: Global,
+    hall: &mut H,
+)
+    ensures listens { H.listens hall.old → H.listens hall.new }
+    ensures honest { H.honest hall.old → H.honest hall.new }
+    ensures faults { H.count hall.new ≡ H.count hall.old }
+    ensures idles { H.idle_count hall.new ≡ H.idle_count hall.old }
+    ensures next { company.new.next ≡ company.old.next }
+    ensures links { AllByRecursion H.Way.honest (ways_of company.old.seats)
+        → AllByRecursion H.Way.honest (ways_of company.new.seats) }
+    ensures served { (files : List (List ℕ)) (held : List HeldValue) → H.Way.tells
+        → AreServed F.gives F.may_fail H.Way.history files held company.old.next company.old.seats
+        → AreServed F.gives F.may_fail H.Way.history files held company.new.next
+        company.new.seats }
+{
+    for _ in 0..company.count() {
+        let Some(seat) = company.take_gone() else {
+            return;
+        };
+        let _ = hall.back(alloc, None, seat.into_way());
+    }
+}
+
+/// Tells each peer that is there that the work is over, and hands all links back. It answers whether
+/// all were; else there was no memory for one, and it is lost.
+pub(crate) fn dismiss<F: Commands, H: Hall<F>>(
+    company: &mut Company<F, H::Way>,
+    alloc: Global,
+    hall: &mut H,
+) -> bool
+    ensures listens { H.listens hall.old → H.listens hall.new }
+    ensures faults { H.count hall.new ≡ H.count hall.old }
+    ensures back { result ≡ true → length (H.got hall.new)
+        ≡ length (H.got hall.old) + length company.old.seats }
+{
+    for _ in 0..company.count() {
+        let Some(mut seat) = company.pop() else {
+            return false;
+        };
+        seat.farewell(alloc);
+        if hall.back(alloc, None, seat.into_way()).is_err() {
+            return false;
+        }
+    }
+    company.is_empty()
+}
