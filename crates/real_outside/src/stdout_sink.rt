@@ -1,8 +1,8 @@
 //! Standard output.
 ghost use Rattle.std.specs.Prelude.{[]};
 
-use crate::counts::counted;
 use outside::{Fault, Sink};
+use real_files::counted;
 use std::io;
 use std::io::Write;
 
