@@ -30,7 +30,8 @@ use Rattle.master_run.specs.declared.ask.Ask.{Ask}
 use Rattle.master_run.specs.Asked.{ask_of, choice, request}
 use Rattle.master_run.specs.Ends.{CallEnds, GoesOn, WordsEnd, Yields, clean_refusal, log_refusal, run_refusal}
 use Rattle.master_run.specs.Headline.{DropsUnneeded}
-use Rattle.archive_run.specs.Tops.{CommandWords, HallWords, RunnerWords, SinkWords, SiteWords, TopEnds}
+use Rattle.master_run.specs.Objects.{CommandWords, HallWords, RunnerWords, SinkWords, SiteWords, Stand, stand}
+use Rattle.master_run.specs.Tops.{HoldsAlways, HoldsByTrust, HoldsOfFiles, HoldsOfLinks, HoldsOfRecords, TopEnds}
 
 yields : (refusal : Option Cause) (rest : Type 0) → rest → Yields refusal causes.Memory rest
 yields (Some refusal) rest is = λ wrong. absurd (true≢false wrong)
@@ -118,19 +119,13 @@ run_leaves spells told gives may_fail history count idles closed ask rise got = 
 module _ {A B L C D : Type 0} (F : CommandWords) (S : SiteWords A) (H : HallWords B L) (R : RunnerWords C) (O : SinkWords D) (told : Job → Type 0)
     (line : List (String Global)) (env : List (String Global × String Global)) (site : A) (hall : B) (runners : List C) (out : D)
     (only : S.tells → (image : Files) → S.images_since site (S.moment site) image → IsImage (S.may_leave site) image) where
-  -- it does
-  pub early_ends : TopEnds F S H R O told line env site site hall hall runners runners out out 8 causes.Memory []
-  early_ends = record {
-    status = refl;
-    ends = λ t. call_ends (request line env (S.files site)) (H.idle_count hall - H.idle_count hall) (S.files site);
+  abbrev pub here : Stand A B C D
+  here = stand site hall runners out
+
+  early_always : HoldsAlways F S H R O line env here here causes.Memory []
+  early_always = record {
     words = words_end (choice line);
     faults = tt;
-    records = λ t ask asked past spelled. inr (refl, refl);
-    unread = λ t ask asked past spelled nothing. record {
-      later = omega arith;
-      each = λ image left. entry_before ask.log (S.files site ask.log) (S.may_leave site) image (only t image left);
-      before = λ time image early was. inl was;
-    };
     one_plan = record {
       plan = no_plan;
       read = λ wrong. absurd (true≢false (sym wrong));
@@ -142,28 +137,22 @@ module _ {A B L C D : Type 0} (F : CommandWords) (S : SiteWords A) (H : HallWord
       waited = λ options chosen. tt;
       vain = λ tells options chosen. tt;
     };
-    logged = λ t ask asked past spelled. inr (inr refl, refl);
-    added = λ t ask asked past spelled. adds_by ask.work ask.options past;
-    modes = λ t ask asked past spelled begins. collects_none ask.plan ask.options.mode past begins;
-    needed = λ t ask asked past spelled begins. drops_none ask.plan past begins;
-    gone = λ t ask asked past spelled uncut. absurd (uncut refl);
-    cleaned = λ t ask asked past spelled. tt;
-    places = λ t ask asked past spelled begins. places_none ask.plan ask.options past begins;
     closed = λ wrong. absurd (true≢false (sym wrong));
-    spent = λ t ask asked past spelled uncut. absurd (uncut refl);
-    lost = λ t ask asked past spelled alone keeps. absurd (true≢false keeps);
-    lost_away = λ t ask asked past spelled keeps. absurd (true≢false keeps);
-    due_losses = λ tells t options chosen ask asked past spelled keeps. absurd (true≢false keeps);
-    results = λ tells t ask asked past spelled wq work keeps. absurd (true≢false keeps);
     back = λ uncut. absurd (uncut refl);
     alone = λ local. refl;
-    moments = λ t ask asked past spelled resumable image left. inl (entry_before ask.log (S.files site ask.log) (S.may_leave site) image (only t image left));
-    resumable = λ t ask asked keeps image left. keeps image (only t image left);
-    now = λ t ask asked past spelled resumable uncut. absurd (uncut refl);
-    untouched = λ t wrong. refl;
-    quiet = λ t wrong. absurd (true≢false (sym wrong));
-    reads = λ t ask asked m beside. refl;
-    others = λ t ask asked. record {
+    risen = omega arith;
+    failures = λ local. record { later = omega arith; rose = λ wrong. absurd (cc) };
+    sure = λ local all. refl;
+    never = λ all. refl;
+    spare = λ options chosen. refl;
+  }
+
+  early_files : S.tells → HoldsOfFiles F S H R O line env here here causes.Memory []
+  early_files t = record {
+    ends = call_ends (request line env (S.files site)) (H.idle_count hall - H.idle_count hall) (S.files site);
+    untouched = λ wrong. refl;
+    quiet = λ wrong. absurd (true≢false (sym wrong));
+    others = λ ask asked. record {
       now = λ m file beside left. left;
       any_moment = record {
         later = omega arith;
@@ -171,8 +160,60 @@ module _ {A B L C D : Type 0} (F : CommandWords) (S : SiteWords A) (H : HallWord
         before = λ time image early was. inl was;
       };
     };
-    contents = λ t ask asked past spelled linked resumable jobs image left. inl (entry_before ask.log (S.files site ask.log) (S.may_leave site) image (only t image left));
-    honest = λ t ask asked past spelled linked resumable jobs begins. adds_none F.gives F.may_fail (read_sources ask.plan (S.files site)) ask.plan past begins;
+    reads = λ ask asked m beside. refl;
+    resumable = λ ask asked keeps image left. keeps image (only t image left);
+  }
+
+  early_log : S.tells → (ask : Ask) (past : List Record) → HoldsOfRecords F S H R O line env here here causes.Memory [] ask past
+  early_log t ask past = record {
+    records = inr (refl, refl);
+    unread = λ nothing. record {
+      later = omega arith;
+      each = λ image left. entry_before ask.log (S.files site ask.log) (S.may_leave site) image (only t image left);
+      before = λ time image early was. inl was;
+    };
+    logged = inr (inr refl, refl);
+    added = adds_by ask.work ask.options past;
+    modes = collects_none ask.plan ask.options.mode past;
+    needed = drops_none ask.plan past;
+    gone = λ uncut. absurd (uncut refl);
+    cleaned = tt;
+    places = places_none ask.plan ask.options past;
+    spent = λ uncut. absurd (uncut refl);
+    lost = λ alone keeps. absurd (true≢false keeps);
+    lost_away = λ keeps. absurd (true≢false keeps);
+    logged_failures = λ alone uncut. absurd (uncut refl);
+    moments = λ resumable image left. inl (entry_before ask.log (S.files site ask.log) (S.may_leave site) image (only t image left));
+    now = λ resumable uncut. absurd (uncut refl);
+  }
+
+  early_links : (ask : Ask) (past : List Record) → HoldsOfLinks F S H R O line env here here causes.Memory [] ask past
+  early_links ask past = record {
+    due_losses = λ options chosen keeps. absurd (true≢false keeps);
+    results = λ away work keeps. absurd (true≢false keeps);
+  }
+
+  early_trust : S.tells → (ask : Ask) (past : List Record) → HoldsByTrust F S H R O line env here here causes.Memory [] told ask past
+  early_trust t ask past = record {
+    contents = λ trust image left. inl (entry_before ask.log (S.files site ask.log) (S.may_leave site) image (only t image left));
+    honest = λ trust. adds_none F.gives F.may_fail (read_sources ask.plan (S.files site)) ask.plan past;
+    completes = λ alone work resumable free sources inputs room sure jobs stood. refl;
+    sure_links = λ away work sure links. record {
+      well = λ keeps. absurd (true≢false keeps);
+      reached = λ is. refl;
+      manned = λ is_manned is. refl;
+    };
+  }
+
+  -- it does
+  pub early_ends : TopEnds F S H R O line env here here causes.Memory [] told 8
+  early_ends = record {
+    status = refl;
+    always = early_always;
+    by_files = early_files;
+    by_log = λ t ask asked past spelled. early_log t ask past;
+    by_links = λ tells t ask asked past spelled. early_links ask past;
+    by_trust = λ t ask asked past spelled. early_trust t ask past;
     text = λ tells. record {
       plan = no_plan;
       told = causes.Memory;
@@ -182,26 +223,14 @@ module _ {A B L C D : Type 0} (F : CommandWords) (S : SiteWords A) (H : HallWord
       of_end = λ wrong. absurd (true≢false (sym wrong));
       part = (0, search rules);
     };
-    risen = omega arith;
-    failures = λ local. record { later = omega arith; rose = λ wrong. absurd (cc) };
-    logged_failures = λ t ask asked past spelled alone uncut. absurd (uncut refl);
-    sure = λ local all. refl;
-    never = λ all. refl;
-    completes = λ t ask asked began spelled alone work resumable free sources inputs room sure jobs stood. refl;
-    sure_links = λ t ask asked began spelled away work sure links. record {
-      well = λ keeps. absurd (true≢false keeps);
-      reached = λ is. refl;
-      manned = λ is_manned is. refl;
-    };
-    spare = λ options chosen. refl;
   }
 
   -- and so does one whose end is equal to that
   pub early : (site_now : A) (runners_now : List C) (code : ℕ) (cause : Cause) (written : List Record) → site_now ≡ site → runners_now ≡ runners → code ≡ 8 → cause ≡ causes.Memory → written ≡ []
-      → TopEnds F S H R O told line env site site_now hall hall runners runners_now out out code cause written
+      → TopEnds F S H R O line env here (stand site_now hall runners_now out) cause written told code
   early site_now runners_now code cause written same_site same_runners is_code is_cause none =
-      subst (λ (x : A). TopEnds F S H R O told line env site x hall hall runners runners_now out out code cause written) (sym same_site)
-      (subst (λ (x : List C). TopEnds F S H R O told line env site site hall hall runners x out out code cause written) (sym same_runners)
-      (subst (λ (x : ℕ). TopEnds F S H R O told line env site site hall hall runners runners out out x cause written) (sym is_code)
-      (subst (λ (x : Cause). TopEnds F S H R O told line env site site hall hall runners runners out out 8 x written) (sym is_cause)
-      (subst (λ (x : List Record). TopEnds F S H R O told line env site site hall hall runners runners out out 8 causes.Memory x) (sym none) early_ends))))
+      subst (λ (x : A). TopEnds F S H R O line env here (stand x hall runners_now out) cause written told code) (sym same_site)
+      (subst (λ (x : List C). TopEnds F S H R O line env here (stand site hall x out) cause written told code) (sym same_runners)
+      (subst (λ (x : ℕ). TopEnds F S H R O line env here here cause written told x) (sym is_code)
+      (subst (λ (x : Cause). TopEnds F S H R O line env here here x written told 8) (sym is_cause)
+      (subst (λ (x : List Record). TopEnds F S H R O line env here here causes.Memory x told 8) (sym none) early_ends))))

@@ -1,2 +1,1 @@
 pub mod Archives
-pub mod Tops

@@ -3,13 +3,14 @@ ghost use Rattle.std.specs.Prelude.{◌≡◌, ◌≤◌, ◌<◌, [], All, leng
 ghost use Rattle.std.specs.Vec.{vec_capacity};
 ghost use Rattle.flow_types.specs.declared.job.Job.{Job as JobValue};
 ghost use Rattle.result_archive.specs.Moments.{IsTrusted};
-ghost use Rattle.archive_run.specs.Tops.{TopEnds};
+ghost use Rattle.master_run.specs.Objects.{hall_words, link_words, site_words, stand};
+ghost use Rattle.master_run.specs.Tops.{TopEnds};
 
-use crate::plain::{run_alone, run_top};
+use crate::plain::run_alone;
 use crate::top::ArchiveEnded;
 use flow_types::Name;
 use links::Hall;
-use master_run::Ended;
+use master_run::{Ended, makeflow_top};
 use outside::{Clock, Commands, Runner, Sink, Site};
 use result_archive::{ArchiveRunner, OnSite, Trust, Vault, cover, uncover};
 use std::alloc::Global;
@@ -48,37 +49,15 @@ fn call_over<
     requires room { length runners.items ≤ vec_capacity back }
     requires gives { T.trusts → T.gives ≡ F.gives }
     requires tells { T.trusts → (job : JobValue) → All (λ r. R.tells r job) runners.items }
-    ensures ends { TopEnds
-        (record { gives = F.gives; may_fail = F.may_fail })
-        (record {
-          tells = S.tells;
-          files = S.files;
-          may_leave = S.may_leave;
-          moment = S.moment;
-          images_since = S.images_since;
-          count = S.count;
-        })
-        (record {
-          Way = record {
-            tells = H.Way.tells;
-            history = H.Way.history;
-            count = H.Way.count;
-            idle_count = H.Way.idle_count;
-            is_closed = H.Way.is_closed;
-          };
-          given = H.given;
-          got = H.got;
-          honest = H.honest;
-          sure = H.sure;
-          manned = H.manned;
-          count = H.count;
-          idle_count = H.idle_count;
-        })
+    ensures ends { TopEnds (record { gives = F.gives; may_fail = F.may_fail })
+        (site_words S.tells S.files S.may_leave S.moment S.images_since S.count)
+        (hall_words (link_words H.Way.tells H.Way.history H.Way.count H.Way.idle_count
+        H.Way.is_closed) H.given H.got H.honest H.sure H.manned H.count H.idle_count)
         (record { sure = R.sure; count = R.count; failures = R.failures })
         (record { tells = O.tells; bytes = O.bytes; count = O.count })
-        (λ job. T.trusts)
-        words.now env.now site result.0.site hall.old hall.new runners.items result.1.items
-        out.old out.new result.0.status result.0.cause result.0.records }
+        words.now env.now (stand site hall.old runners.items out.old)
+        (stand result.0.site hall.new result.1.items out.new)
+        result.0.cause result.0.records (λ job. T.trusts) result.0.status }
     ensures count { length result.1.items ≡ length runners.items }
 {
     let mut runners = runners;
@@ -90,7 +69,7 @@ fn call_over<
     let mut over: Vec<ArchiveRunner<'_, F, W, R, A, T>> = room;
     let mut back = back;
     cover(rt, vault, &mut runners, &mut over);
-    let ended = run_top::<F, W, S, H, ArchiveRunner<'_, F, W, R, A, T>, C, O, G>(
+    let ended = makeflow_top::<F, W, S, H, ArchiveRunner<'_, F, W, R, A, T>, C, O, G>(
         rt,
         alloc,
         words,
@@ -142,38 +121,15 @@ pub(crate) fn run_over<
     requires place { T.trusts → folder ≡ T.dir }
     requires gives { T.trusts → T.gives ≡ F.gives }
     requires tells { T.trusts → (job : JobValue) → All (λ r. R.tells r job) runners.items }
-    ensures ends { TopEnds
-        (record { gives = F.gives; may_fail = F.may_fail })
-        (record {
-          tells = S.tells;
-          files = S.files;
-          may_leave = S.may_leave;
-          moment = S.moment;
-          images_since = S.images_since;
-          count = S.count;
-        })
-        (record {
-          Way = record {
-            tells = H.Way.tells;
-            history = H.Way.history;
-            count = H.Way.count;
-            idle_count = H.Way.idle_count;
-            is_closed = H.Way.is_closed;
-          };
-          given = H.given;
-          got = H.got;
-          honest = H.honest;
-          sure = H.sure;
-          manned = H.manned;
-          count = H.count;
-          idle_count = H.idle_count;
-        })
+    ensures ends { TopEnds (record { gives = F.gives; may_fail = F.may_fail })
+        (site_words S.tells S.files S.may_leave S.moment S.images_since S.count)
+        (hall_words (link_words H.Way.tells H.Way.history H.Way.count H.Way.idle_count
+        H.Way.is_closed) H.given H.got H.honest H.sure H.manned H.count H.idle_count)
         (record { sure = R.sure; count = R.count; failures = R.failures })
         (record { tells = O.tells; bytes = O.bytes; count = O.count })
-        (λ job. T.trusts)
-        words.now env.now site result.ended.site hall.old hall.new
-        runners.items result.runners.items
-        out.old out.new result.ended.status result.ended.cause result.ended.records }
+        words.now env.now (stand site hall.old runners.items out.old)
+        (stand result.ended.site hall.new result.runners.items out.new)
+        result.ended.cause result.ended.records (λ job. T.trusts) result.ended.status }
     ensures count { length result.runners.items ≡ length runners.items }
     ensures trusted { T.trusts
         → IsTrusted A.tells T.gives T.born A.moment A.images_since T.dir result.store }

@@ -3,8 +3,9 @@ ghost use Rattle.std.specs.Prelude.{◌≡◌, ◌≤◌, ◌<◌, [], List, ℕ
 ghost use Rattle.worker_pool.specs.Crews.{AllTell};
 ghost use Rattle.outside.specs.Files.{Files};
 ghost use Rattle.result_archive.specs.Entries.{IsFaithful};
+ghost use Rattle.master_run.specs.Objects.{hall_words, link_words, site_words, stand};
+ghost use Rattle.master_run.specs.Tops.{TopEnds};
 ghost use Rattle.archive_run.specs.Archives.{CanTrust, folder_of};
-ghost use Rattle.archive_run.specs.Tops.{TopEnds};
 
 use crate::folder::{flow_words, folder_of, program_of};
 use crate::over::run_over;
@@ -56,38 +57,16 @@ fn run_plain<
     out: &mut O,
 ) -> ArchiveEnded<S, R, A>
     requires some { 0 < length runners.items }
-    ensures ends { TopEnds
-        (record { gives = F.gives; may_fail = F.may_fail })
-        (record {
-          tells = S.tells;
-          files = S.files;
-          may_leave = S.may_leave;
-          moment = S.moment;
-          images_since = S.images_since;
-          count = S.count;
-        })
-        (record {
-          Way = record {
-            tells = H.Way.tells;
-            history = H.Way.history;
-            count = H.Way.count;
-            idle_count = H.Way.idle_count;
-            is_closed = H.Way.is_closed;
-          };
-          given = H.given;
-          got = H.got;
-          honest = H.honest;
-          sure = H.sure;
-          manned = H.manned;
-          count = H.count;
-          idle_count = H.idle_count;
-        })
+    ensures ends { TopEnds (record { gives = F.gives; may_fail = F.may_fail })
+        (site_words S.tells S.files S.may_leave S.moment S.images_since S.count)
+        (hall_words (link_words H.Way.tells H.Way.history H.Way.count H.Way.idle_count
+        H.Way.is_closed) H.given H.got H.honest H.sure H.manned H.count H.idle_count)
         (record { sure = R.sure; count = R.count; failures = R.failures })
         (record { tells = O.tells; bytes = O.bytes; count = O.count })
-        (AllTell R.tells runners.items)
-        words.now env.now site result.ended.site hall.old hall.new
-        runners.items result.runners.items
-        out.old out.new result.ended.status result.ended.cause result.ended.records }
+        words.now env.now (stand site hall.old runners.items out.old)
+        (stand result.ended.site hall.new result.runners.items out.new)
+        result.ended.cause result.ended.records
+        (AllTell R.tells runners.items) result.ended.status }
     ensures count { length result.runners.items ≡ length runners.items }
     ensures store { result.store ≡ store }
 {
@@ -128,38 +107,17 @@ fn run_with<
 ) -> ArchiveEnded<S, R, A>
     requires some { 0 < length runners.items }
     requires short { length folder ≤ 900 }
-    ensures ends { TopEnds
-        (record { gives = F.gives; may_fail = F.may_fail })
-        (record {
-          tells = S.tells;
-          files = S.files;
-          may_leave = S.may_leave;
-          moment = S.moment;
-          images_since = S.images_since;
-          count = S.count;
-        })
-        (record {
-          Way = record {
-            tells = H.Way.tells;
-            history = H.Way.history;
-            count = H.Way.count;
-            idle_count = H.Way.idle_count;
-            is_closed = H.Way.is_closed;
-          };
-          given = H.given;
-          got = H.got;
-          honest = H.honest;
-          sure = H.sure;
-          manned = H.manned;
-          count = H.count;
-          idle_count = H.idle_count;
-        })
+    ensures ends { TopEnds (record { gives = F.gives; may_fail = F.may_fail })
+        (site_words S.tells S.files S.may_leave S.moment S.images_since S.count)
+        (hall_words (link_words H.Way.tells H.Way.history H.Way.count H.Way.idle_count
+        H.Way.is_closed) H.given H.got H.honest H.sure H.manned H.count H.idle_count)
         (record { sure = R.sure; count = R.count; failures = R.failures })
         (record { tells = O.tells; bytes = O.bytes; count = O.count })
+        words.now env.now (stand site hall.old runners.items out.old)
+        (stand result.ended.site hall.new result.runners.items out.new)
+        result.ended.cause result.ended.records
         (λ job. CanTrust A.tells A.may_leave F.gives R.tells folder store runners.items)
-        words.now env.now site result.ended.site hall.old hall.new
-        runners.items result.runners.items
-        out.old out.new result.ended.status result.ended.cause result.ended.records }
+        result.ended.status }
     ensures count { length result.runners.items ≡ length runners.items }
     ensures faithful { CanTrust A.tells A.may_leave F.gives R.tells folder store runners.items
         → (image : Files) → A.images_since result.store (A.moment store) image
@@ -236,74 +194,31 @@ pub fn archive_top<
     // All that a call of `makeflow` promises of the words behind the folder's name. Of each job the
     // runners tell where the archive and they can be trusted.
     ensures ends { (folder : List ℕ) → folder_of words.now ≡ Some folder
-        → TopEnds
-        (record { gives = F.gives; may_fail = F.may_fail })
-        (record {
-          tells = S.tells;
-          files = S.files;
-          may_leave = S.may_leave;
-          moment = S.moment;
-          images_since = S.images_since;
-          count = S.count;
-        })
-        (record {
-          Way = record {
-            tells = H.Way.tells;
-            history = H.Way.history;
-            count = H.Way.count;
-            idle_count = H.Way.idle_count;
-            is_closed = H.Way.is_closed;
-          };
-          given = H.given;
-          got = H.got;
-          honest = H.honest;
-          sure = H.sure;
-          manned = H.manned;
-          count = H.count;
-          idle_count = H.idle_count;
-        })
+        → TopEnds (record { gives = F.gives; may_fail = F.may_fail })
+        (site_words S.tells S.files S.may_leave S.moment S.images_since S.count)
+        (hall_words (link_words H.Way.tells H.Way.history H.Way.count H.Way.idle_count
+        H.Way.is_closed) H.given H.got H.honest H.sure H.manned H.count H.idle_count)
         (record { sure = R.sure; count = R.count; failures = R.failures })
         (record { tells = O.tells; bytes = O.bytes; count = O.count })
+        (drop 1 words.now) env.now (stand site hall.old runners.items out.old)
+        (stand result.ended.site hall.new result.runners.items out.new)
+        result.ended.cause result.ended.records
         (λ job. CanTrust A.tells A.may_leave F.gives R.tells folder store runners.items)
-        (drop 1 words.now) env.now site result.ended.site hall.old hall.new
-        runners.items result.runners.items
-        out.old out.new result.ended.status result.ended.cause result.ended.records }
+        result.ended.status }
 
     // Without a folder's name the call is that of `makeflow` without words, which is refused, and
     // the archive isn't touched.
     ensures no_folder { folder_of words.now ≡ None
-        → TopEnds
-        (record { gives = F.gives; may_fail = F.may_fail })
-        (record {
-          tells = S.tells;
-          files = S.files;
-          may_leave = S.may_leave;
-          moment = S.moment;
-          images_since = S.images_since;
-          count = S.count;
-        })
-        (record {
-          Way = record {
-            tells = H.Way.tells;
-            history = H.Way.history;
-            count = H.Way.count;
-            idle_count = H.Way.idle_count;
-            is_closed = H.Way.is_closed;
-          };
-          given = H.given;
-          got = H.got;
-          honest = H.honest;
-          sure = H.sure;
-          manned = H.manned;
-          count = H.count;
-          idle_count = H.idle_count;
-        })
+        → TopEnds (record { gives = F.gives; may_fail = F.may_fail })
+        (site_words S.tells S.files S.may_leave S.moment S.images_since S.count)
+        (hall_words (link_words H.Way.tells H.Way.history H.Way.count H.Way.idle_count
+        H.Way.is_closed) H.given H.got H.honest H.sure H.manned H.count H.idle_count)
         (record { sure = R.sure; count = R.count; failures = R.failures })
         (record { tells = O.tells; bytes = O.bytes; count = O.count })
-        (AllTell R.tells runners.items)
-        (take 1 words.now) env.now site result.ended.site hall.old hall.new
-        runners.items result.runners.items
-        out.old out.new result.ended.status result.ended.cause result.ended.records }
+        (take 1 words.now) env.now (stand site hall.old runners.items out.old)
+        (stand result.ended.site hall.new result.runners.items out.new)
+        result.ended.cause result.ended.records
+        (AllTell R.tells runners.items) result.ended.status }
     ensures untouched { folder_of words.now ≡ None → result.store ≡ store }
 
     // The runners come back.

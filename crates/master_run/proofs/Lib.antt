@@ -19,3 +19,4 @@ pub mod Unneeded
 pub mod TableBytes
 pub mod Waits
 pub mod Reaching
+pub mod Tops

@@ -12,3 +12,5 @@ pub mod Runs
 pub mod Reaching
 pub mod Added
 pub mod OnePlan
+pub mod Objects
+pub mod Tops

@@ -1,5 +1,5 @@
 -- What a call says whether or not its objects tell anything, all of it by one plan.
-use Rattle.std.specs.Prelude.{◌≡◌, ℕ, Bool, true, false, List, Option, Result, Ok, IsTrue, IsFalse}
+use Rattle.std.specs.Prelude.{◌≡◌, ◌-◌, ℕ, Bool, true, false, List, Option, Result, Ok, IsTrue, IsFalse}
 use Rattle.flow_types.specs.declared.job.Failure.{Failure}
 use Rattle.flow_types.specs.declared.job.Job.{Job}
 use Rattle.flow_types.specs.declared.numbers.LinkNo.{LinkNo}
@@ -30,6 +30,7 @@ use Rattle.master_run.specs.Added.{RunAddsBy}
 use Rattle.master_run.specs.Asked.{ask_of, run_mode, run_options}
 use Rattle.master_run.specs.Ends.{ComesToEnd}
 use Rattle.master_run.specs.Headline.{IfWaited, IsWithinLimit, WaitsInVain, is_run_end}
+use Rattle.master_run.specs.Objects.{CommandWords, HallWords}
 
 -- what a run answers that came to its end
 abbrev pub is_answer : Kind → Bool
@@ -67,15 +68,19 @@ pub record RunLeaves {L : Type 0} (spells : List Record → Type 0) (told : Type
   pub ended : IsTrue (is_answer (kind_of cause)) → ComesToEnd ask.options.wq ask rise records cause
 
 -- What a call says by the words and one plan, which is the one that was read: its records may stand in a log of it and keep the limit, and a run leaves what it may, opens and collects by the words, and waits only in vain.
-pub record CallTells {L : Type 0} (is_read : Plan → Type 0) (spells : List Record → Type 0) (told : Type 0) (gives : Function) (may_fail : Job → Failure → Type 0) (history : L → List Passed) (count idles : L → ℕ) (closed : L → Bool)
-    (chosen : Result Options Cause) (rise : ℕ) (got got_now : List (Option LinkNo × L)) (records : List Record) (cause : Cause) : Type 0 where
+pub record CallTells {B L : Type 0} (F : CommandWords) (H : HallWords B L) (is_read : Plan → Type 0) (spells : List Record → Type 0)
+    (chosen : Result Options Cause) (hall hall_now : B) (records : List Record) (cause : Cause) : Type 0 where
   pub plan : Plan
   pub read : IsTrue (was_read (kind_of cause)) → is_read plan
   pub legal : IsTrue (was_read (kind_of cause)) → IsLegal plan records
   pub storage : IsTrue (was_read (kind_of cause)) → IsWithinLimit plan records
-  pub leaves : (options : Options) → chosen ≡ Ok options → options.work ≡ Run → RunLeaves spells told gives may_fail history count idles closed (ask_of options plan) rise got got_now records cause
+  pub leaves : (options : Options) → chosen ≡ Ok options → options.work ≡ Run
+      → RunLeaves spells H.Way.tells F.gives F.may_fail H.Way.history H.Way.count H.Way.idle_count H.Way.is_closed
+      (ask_of options plan) (H.idle_count hall_now - H.idle_count hall) (H.got hall) (H.got hall_now) records cause
   pub opened : (options : Options) → chosen ≡ Ok options → IsTrue (is_run_end (kind_of cause)) → OpensBy (run_options options) records
   pub collects : (options : Options) → chosen ≡ Ok options → IsTrue (is_run_end (kind_of cause)) → RunCollects plan (run_mode options.mode) records
-  pub waited : (options : Options) → chosen ≡ Ok options → IfWaited cause (WaitsInVain plan (run_options options) options.limits.idle rise records)
-  pub vain : told → (options : Options) → chosen ≡ Ok options
-      → IfWaited cause (λ wait. AreVain gives may_fail history count idles closed options.limits.idle plan (run_options options) (before_end records) got got_now)
+  pub waited : (options : Options) → chosen ≡ Ok options
+      → IfWaited cause (WaitsInVain plan (run_options options) options.limits.idle (H.idle_count hall_now - H.idle_count hall) records)
+  pub vain : H.Way.tells → (options : Options) → chosen ≡ Ok options
+      → IfWaited cause (λ wait. AreVain F.gives F.may_fail H.Way.history H.Way.count H.Way.idle_count H.Way.is_closed
+      options.limits.idle plan (run_options options) (before_end records) (H.got hall) (H.got hall_now))

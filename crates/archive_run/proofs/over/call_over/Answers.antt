@@ -12,8 +12,8 @@ returns-in_default-clause-ends g c =
 -- over those that ask the archive first
 pub returns : goal.returns
 returns g c =
-    let ends = c.run_top-ended.ensures.ends in
-    let now = c.run_top-ended.new.runners in
+    let ends = c.makeflow_top-ended.ensures.ends in
+    let now = c.makeflow_top-ended.new.runners in
     let over = c.cover.new.over in
     let start : c.as_mut_slice.result.now ≡ c.args.runners.items = search rules in
     let long : length now ≡ over.len = search rules in
