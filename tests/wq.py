@@ -20,15 +20,21 @@ MOST_LINKS = 32
 WAIT = "touch ROOM/up.{0}; while [ ! -e ROOM/go ]; do sleep 0.05; done; echo {0} > o{0}"
 
 
+GIVEN = set()
+
+
 def free_port():
-    """A port at which nobody listens, from below those that the system gives to who dials."""
-    for port in random.sample(range(20_000, 30_000), 200):
+    """A port at which nobody listens, from below those that the system gives to who dials. None is given twice, since who got it may not
+    listen yet."""
+    for port in random.sample(range(20_000, 30_000), 5_000):
         with socket.socket() as it:
             try:
                 it.bind(("", port))
             except OSError:
                 continue
-            return port
+            if port not in GIVEN:
+                GIVEN.add(port)
+                return port
     raise OSError("no port is free")
 
 
