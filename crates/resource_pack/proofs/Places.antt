@@ -6,9 +6,9 @@ use Rattle.std.proofs.Math.ListN.{set}
 use Rattle.std.proofs.lemmas.List.Folds.{find_at}
 use Rattle.std.proofs.lemmas.List.Sums.{fails_before_first, passes_at_first, position_or_len_is}
 use Rattle.std.proofs.lemmas.Option.{slice_get_past, slice_get-get_or}
-use Rattle.std.proofs.lemmas.Bool.{ltb-true, ltb-false, eqb-true, and_parts}
+use Rattle.std.proofs.lemmas.Bool.{ltb-true, ltb-false, eqb-true}
 use Rattle.std.specs.Option.{option_map_or}
-use Rattle.run_history.specs.Links.{Load, has_room, leaves_amounts, leaves_bytes}
+use Rattle.run_history.specs.Links.{Load}
 use Rattle.resource_pack.specs.Packing.{PackedLink, is_link, is_load, link_in, with_link, without_link, without_load}
 
 -- where one is found, its place is inside
@@ -120,10 +120,3 @@ link-read k now items at held same is inside here =
 pub fits-some : {A : Type 0} (test : A → Bool) (o : Option A) → option_map_or test o false ≡ true → is_some o ≡ true
 fits-some test None h = h
 fits-some test (Some x) h = refl
-
--- a link with room runs fewer tasks than it may
-pub few-tasks : (packed : PackedLink) (load : Load) → has_room packed.link packed.row packed.loads load ≡ true → length packed.loads < 64
-few-tasks packed load room =
-    ltb-true (length packed.loads) 64
-    (and_parts (nat_lt (length packed.loads) 64) (leaves_amounts packed.link packed.row packed.loads load.needs)
-    (and_parts (nat_lt (length packed.loads) 64 && leaves_amounts packed.link packed.row packed.loads load.needs) (leaves_bytes packed.row.cache packed.loads load.bytes) room).0).0

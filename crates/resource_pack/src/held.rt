@@ -1,6 +1,6 @@
 //! One link and what runs on it.
-ghost use Rattle.std.specs.Prelude.{◌≡◌, ◌<◌, length, IfOk};
-ghost use Rattle.run_history.specs.Links.{has_room};
+ghost use Rattle.std.specs.Prelude.{◌≡◌, true, IfOk};
+ghost use Rattle.run_history.specs.Links.{has_room, taken_on};
 ghost use Rattle.resource_pack.specs.Occupancy.{stated_row};
 ghost use Rattle.resource_pack.specs.Packing.{empty_link, loaded, row_on, stating, unloaded};
 
@@ -27,6 +27,7 @@ impl Model for Held {
     ghost use Rattle.std.specs.Prelude.{◌≤◌, length};
     ghost use Rattle.std.specs.Vec.{vec_capacity};
     ghost use Rattle.resource_pack.specs.Packing.{PackedLink, row_on};
+    ghost use Rattle.resource_pack.specs.Used.{IsSmall, IsUsable};
 
     ghost Value = { PackedLink };
 
@@ -36,7 +37,8 @@ impl Model for Held {
       loads = h.loads.items;
     } };
 
-    ghost invariant = { λ h. (length h.loads.items ≤ 64) × (64 ≤ vec_capacity h.loads) };
+    ghost invariant = { λ h. (length h.loads.items ≤ 64) × (64 ≤ vec_capacity h.loads)
+        × IsSmall h.total × IsUsable h.link.0 h.loads.items };
 }
 
 impl Held {
@@ -98,8 +100,16 @@ impl Held {
         }
     }
 
+    // What runs there takes of the link together.
+    pub(crate) fn used(&self) -> Amounts
+        ensures { result ≡ taken_on self.now.link self.now.row.total self.now.loads }
+    {
+        occupied_by(&self.loads, self.link, self.total).amounts()
+    }
+
     pub(crate) fn take(&mut self, needs: Needs, bytes: u64)
-        requires { length self.old.loads < 64 }
+        requires { has_room self.old.link self.old.row self.old.loads
+            (record { needs = needs; bytes = bytes }) ≡ true }
         ensures { self.new ≡ loaded (record { needs = needs; bytes = bytes }) self.old }
     {
         let _ = self.loads.push(Load::new(needs, bytes));

@@ -2,6 +2,7 @@
 ghost use Rattle.std.specs.Prelude.{◌≡◌, ◌<◌, ◌-◌, ◌==◌};
 ghost use Rattle.run_history.specs.Links.{amounts_on, is_at_most, with_amounts};
 ghost use Rattle.resource_pack.specs.Occupancy.{has_room_beside, leaves_amounts_beside, leaves_bytes_beside, no_tasks, stated_row, with_task};
+ghost use Rattle.resource_pack.specs.Used.{IsSmall};
 
 use flow_types::{Amounts, LinkNo, Needs};
 use std::marker::Model;
@@ -75,6 +76,18 @@ impl Occupied {
         ensures { result ≡ (self.now.tasks == 0) }
     {
         self.tasks == 0
+    }
+
+    /// What these tasks take together. Condition: no amount is more than an amount can say.
+    pub(crate) fn amounts(&self) -> Amounts
+        requires { IsSmall self.now.amounts }
+        ensures { result ≡ self.now.amounts }
+    {
+        Amounts {
+            cores: self.cores as u32,
+            memory: self.memory as u32,
+            disk: self.disk as u32,
+        }
     }
 
     /// What these tasks leave of a total, none of an amount of which they take more.

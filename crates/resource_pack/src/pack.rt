@@ -1,6 +1,7 @@
 //! The links, and what runs on each.
 ghost use Rattle.std.specs.Prelude.{◌≡◌, ◌+◌, ◌≤◌, ◌<◌, ◌++◌, ◌∷◌, [], ℕ, length, IfSome, IsSome, Some, None, OnOk, OnErr, true, false};
 ghost use Rattle.std.specs.List.{position_or_len};
+ghost use Rattle.run_history.specs.Links.{taken_on};
 ghost use Rattle.resource_pack.specs.Packing.{PackedLink, empty_link, fits_on, has_load, is_link, link_in, loaded, row_on, stating, unloaded, with_link, without_link};
 
 use crate::held::Held;
@@ -73,6 +74,16 @@ impl Pack {
         ensures { result ≡ fits_on self.now link.0 (record { needs = needs; bytes = bytes }) }
     {
         self.links[place_of(&self.links, link)].has_room(needs, bytes)
+    }
+
+    /// What runs on the link takes of it together; of the whole of a link that is its present total.
+    /// It adds up what runs there.
+    pub fn used(&self, link: LinkNo) -> Amounts
+        requires { IsSome (link_in link.0 self.now) }
+        ensures { IfSome (link_in link.0 self.now)
+            (λ packed. result ≡ taken_on link.0 packed.row.total packed.loads) }
+    {
+        self.links[place_of(&self.links, link)].used()
     }
 
     /// The task runs on the link from now on.

@@ -4,7 +4,7 @@ use Rattle.std.specs.Option.{option_map_or}
 use Rattle.std.specs.List.{position_or_len}
 use Rattle.run_history.specs.Links.{Load, has_room}
 use Rattle.resource_pack.specs.Packing.{PackedLink, is_link, link_in, loaded}
-use Rattle.resource_pack.proofs.Places.{link-inside, link-written, link-read, fits-some, few-tasks}
+use Rattle.resource_pack.proofs.Places.{link-inside, link-written, link-read, fits-some}
 use Rattle.resource_pack.proofs.pack.Pack.take.Goals as goal
 
 pub index_mut-requires : goal.index_mut-requires
@@ -21,7 +21,7 @@ take-requires c =
     let held : PackedLink = c.index_mut.result.now in
     let found : link_in c.args.link.0 c.args.self.now ≡ Some held =
     link-read c.args.link.0 c.args.self.now c.self.inside.links.items c.place_of-at.result held c.self.view_is is inside c.index_mut.ensures.value in
-    few-tasks held load (sym (ap (λ o. option_map_or (λ packed. has_room packed.link packed.row packed.loads load) o false) found) ∙ c.requires)
+    sym (ap (λ o. option_map_or (λ packed. has_room packed.link packed.row packed.loads load) o false) found) ∙ c.requires
 
 pub returns : goal.returns
 returns c =
