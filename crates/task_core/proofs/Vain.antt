@@ -9,9 +9,10 @@ use Rattle.run_history.specs.declared.options.Options.{Options}
 use Rattle.run_history.specs.declared.moves.Move.{Move}
 use Rattle.run_history.specs.declared.answers.Stop.{Stop}
 use Rattle.run_history.specs.declared.answers.Stop.TheVariants as stops
+use Rattle.run_history.specs.Admissions.{Admitting, is_in_vain_by, sets_by, stop_by}
 use Rattle.run_history.specs.Links.{records_of}
 use Rattle.task_core.specs.declared.asking.Asked.TheVariants as asked
-use Rattle.task_core.specs.Admissions.{Admitting, asks_by, is_in_vain_by, sets_by, stop_by}
+use Rattle.task_core.specs.Admissions.{asks_by}
 use Rattle.task_core.specs.Known.{Known, can_start, has_storage, is_taken_by_one, known_from, ready, rules_of, running, wants}
 use Rattle.task_core.specs.Stands.{Stands}
 use Rattle.task_core.specs.States.{TableState, known_in}

@@ -1,106 +1,38 @@
--- What a claim and a stop answer where an admission has a say.
-use Rattle.std.specs.Prelude.{◌≡◌, ◌<◌, ◌≤◌, ℕ, Bool, true, false, not, ◌&&◌, ◌||◌, List, [], ◌∷◌, length, Option, Some, None, Result, Ok, Err, if◌then◌else◌, filter, is_none}
-use Rattle.std.specs.List.{list_any, list_all}
+-- What a table answers to claims and stops where an admission has a say, and what it leaves.
+use Rattle.std.specs.Prelude.{◌≡◌, ◌<◌, ◌≤◌, ℕ, Bool, true, false, ◌&&◌, List, length, Result, Ok, Err}
 use Rattle.flow_types.specs.declared.plan.Plan.{Plan}
+use Rattle.flow_types.specs.declared.numbers.AttemptNo.{AttemptNo}
 use Rattle.flow_types.specs.declared.numbers.LinkNo.{LinkNo}
 use Rattle.flow_types.specs.declared.numbers.RuleNo.{RuleNo}
 use Rattle.flow_types.specs.declared.records.Record.{Record}
 use Rattle.flow_types.specs.declared.records.Record.TheVariants as records
-use Rattle.flow_types.specs.Plans.{IsValid, is_empty, rule_numbers}
-use Rattle.run_history.specs.declared.options.Options.{Options}
 use Rattle.run_history.specs.declared.moves.Move.{Move}
 use Rattle.run_history.specs.declared.answers.Nothing.{Nothing}
-use Rattle.run_history.specs.declared.answers.Stop.{Stop}
-use Rattle.run_history.specs.declared.answers.Stop.TheVariants as stops
-use Rattle.run_history.specs.Answers.{claim_of, has_link, rule_no, startable_on, stop_of}
+use Rattle.run_history.specs.Admissions.{Admitting, claim_by}
 use Rattle.run_history.specs.History.{next_attempt}
-use Rattle.run_history.specs.Legal.{is_legal}
+use Rattle.run_history.specs.Legal.{is_allowed}
 use Rattle.run_history.specs.Links.{records_of}
-use Rattle.run_history.specs.Storage.{fits_storage, has_failed, ready_rules, running_rules, wanted}
-use Rattle.task_core.specs.declared.admissions.Refusal.{Refusal}
-use Rattle.task_core.specs.declared.admissions.Refusal.TheVariants as refusals
 use Rattle.task_core.specs.declared.asking.Asked.{Asked}
 use Rattle.task_core.specs.declared.asking.AskedFor.{AskedFor}
 use Rattle.task_core.specs.declared.asking.AskedFor.TheVariants as asked_for
 use Rattle.task_core.specs.declared.step.Reply.{Reply}
-use Rattle.task_core.specs.declared.step.Reply.TheVariants as replies
 use Rattle.task_core.specs.declared.table.Started.{Started}
 use Rattle.task_core.specs.Asked.{asks, asks_for}
 use Rattle.task_core.specs.Known.{Known}
 use Rattle.task_core.specs.States.{TableState}
 use Rattle.task_core.specs.Stands.{IsStill, Stands, logged}
-use Rattle.task_core.specs.Steps.{Replies}
-
--- Which rules are admitted, by plan, options and records.
-abbrev pub Admitting : Type 0
-Admitting = Plan → Options → List Record → ℕ → Bool
-
--- every rule is admitted
-abbrev pub all_admitted : Admitting
-all_admitted P O H r = true
-
--- the rules that a claim for link k may start and that are admitted
-abbrev pub admitted_on : Admitting → Plan → Options → List Move → ℕ → List ℕ
-admitted_on A P O M k = filter (A P O (records_of M)) (startable_on P O M k)
-
--- the answer of a claim with an admission, by that of one without and the rules that fit and are admitted: where one fits and none is admitted, the least that fits is named
-abbrev pub by_admitted : Result ℕ Nothing → List ℕ → Result ℕ Refusal
-by_admitted (Err why) admitted = Err (refusals.Nothing why)
-by_admitted (Ok first) [] = Err (refusals.NotAdmitted (rule_no first))
-by_admitted (Ok first) (r ∷ rs) = Ok r
-
--- What a claim for link k answers: its first cases are those of a claim without an admission, then comes that none of the rules that fit the link and the storage is admitted; else the least rule that fits both and is admitted is taken.
-abbrev pub claim_by : Admitting → Plan → Options → List Move → Option Stop → ℕ → Result ℕ Refusal
-claim_by A P O M stop k = by_admitted (claim_of P O M stop k) (admitted_on A P O M k)
-
--- rule r is admitted and fits the storage
-abbrev pub may_be_stored : Admitting → Plan → Options → List Record → ℕ → Bool
-may_be_stored A P O H r = A P O H r && fits_storage P H r
-
--- Waiting is in vain: no attempt runs, no file is wanted, and some admitted ready rule fits the storage but none that does fits a live link that it may run on.
-abbrev pub is_in_vain_by : Admitting → Plan → Options → List Move → Bool
-is_in_vain_by A P O M =
-    let H : List Record = records_of M in
-    is_empty (running_rules P H) && is_none (wanted P O.mode H)
-    && list_any (may_be_stored A P O H) (ready_rules P H)
-    && list_all (λ r. not (may_be_stored A P O H r) || not (has_link P O M r)) (ready_rules P H)
-
--- The stop that stands after one was asked for: the first stays, and one for waiting is set only where waiting is in vain.
-abbrev pub stop_by : Admitting → Plan → Options → List Move → Option Stop → Stop → Option Stop
-stop_by A P O M (Some first) why = Some first
-stop_by A P O M None stops.Halt = Some stops.Halt
-stop_by A P O M None (stops.Waited idles) = if is_in_vain_by A P O M then Some (stops.Waited idles) else None
-
--- The stop is set where none stands: one at once always, one for waiting where waiting is in vain.
-abbrev pub sets_by : Admitting → Plan → Options → List Move → Stop → Bool
-sets_by A P O M stops.Halt = true
-sets_by A P O M (stops.Waited idles) = is_in_vain_by A P O M
+use Rattle.task_core.specs.Steps.{Replies, claimed}
 
 -- What a claim answers, and where the table stands then.
-abbrev pub ClaimsBy : Admitting → TableState → List Move → LinkNo → Result Started Refusal → TableState → Type 0
+abbrev pub ClaimsBy : Admitting → TableState → List Move → LinkNo → Result Started Nothing → TableState → Type 0
 ClaimsBy A t M link (Ok started) after =
     (claim_by A t.plan t.options M t.stop link.0 ≡ Ok started.rule.0) × (started.attempt.0 ≡ next_attempt (records_of M))
     × ((moment : ℕ) → Stands after (logged M (records.Started moment started.rule started.attempt link))) × IsStill t after
 ClaimsBy A t M link (Err why) after = (claim_by A t.plan t.options M t.stop link.0 ≡ Err why) × (after ≡ t)
 
--- the reply where a claim takes no rule
-abbrev pub refused : Refusal → Reply
-refused (refusals.Nothing why) = replies.Nothing why
-refused (refusals.NotAdmitted rule) = replies.NotAdmitted rule
-
--- the reply to a claim
-abbrev pub replied : Result Started Refusal → Reply
-replied (Ok started) = replies.Claimed started.rule started.attempt
-replied (Err why) = refused why
-
 -- The reply to a claim, and where the table stands then.
 abbrev pub RepliesBy : Admitting → TableState → List Move → LinkNo → Reply → TableState → Type 0
-RepliesBy A t M link said after = Replies replied (λ answer. ClaimsBy A t M link answer after) said
-
--- a chosen rule by its number
-abbrev pub chosen : Result RuleNo Refusal → Result ℕ Refusal
-chosen (Ok rule) = Ok rule.0
-chosen (Err why) = Err why
+RepliesBy A t M link said after = Replies claimed (λ answer. ClaimsBy A t M link answer after) said
 
 -- this holds of rule r, and it is admitted
 abbrev pub asks_by : Admitting → Known → List Record → Asked → ℕ → Bool
@@ -114,25 +46,13 @@ asks_for_by A K H k asked r = asks_for K k asked r && A K.plan K.options H r
 abbrev pub NoneBefore : Known → ℕ → ℕ → Type 0
 NoneBefore K k first = (first ≤ length K.plan.rules) × ((r : ℕ) → r < first → asks_for K k asked_for.Startable r ≡ false)
 
--- Where no rule runs or has failed, no file is wanted and some ready rule fits the storage, a ready rule that fits the storage is admitted.
-abbrev pub AdmitsOne : Admitting → (Plan → Type 0) → Type 0
-AdmitsOne A of = (P : Plan) (O : Options) (digest : List ℕ) (H : List Record) → of P → IsValid P → is_legal P digest H ≡ true
-    → is_empty (running_rules P H) ≡ true → list_any (has_failed H) (rule_numbers P) ≡ false → is_none (wanted P O.mode H) ≡ true
-    → list_any (fits_storage P H) (ready_rules P H) ≡ true → list_any (may_be_stored A P O H) (ready_rules P H) ≡ true
+-- Whether the start of the rule on the link, with the number of the next attempt and whatever its moment, may stand behind the records of these moves.
+abbrev pub IsStartAllowed : Plan → List Move → RuleNo → LinkNo → Bool → Type 0
+IsStartAllowed P M rule link allowed =
+    (digest : List ℕ) (moment : ℕ) (attempt : AttemptNo) → attempt.0 ≡ next_attempt (records_of M) → is_allowed P digest (records_of M) (records.Started moment rule attempt link) ≡ allowed
 
--- what a claim without an admission answers
-abbrev pub as_ever : Result ℕ Nothing → Result ℕ Refusal
-as_ever (Ok r) = Ok r
-as_ever (Err why) = Err (refusals.Nothing why)
-
--- Where every rule is admitted, a claim answers as without an admission.
-abbrev pub EveryClaim : Type 0
-EveryClaim = (P : Plan) (O : Options) (M : List Move) (stop : Option Stop) (k : ℕ) → claim_by all_admitted P O M stop k ≡ as_ever (claim_of P O M stop k)
-
--- Where every rule is admitted, a stop is set as without an admission.
-abbrev pub EveryStop : Type 0
-EveryStop = (P : Plan) (O : Options) (M : List Move) (stop : Option Stop) (why : Stop) → stop_by all_admitted P O M stop why ≡ stop_of P O M stop why
-
--- A rule that is claimed is admitted.
-abbrev pub ClaimsAdmitted : Type 0
-ClaimsAdmitted = (A : Admitting) (P : Plan) (O : Options) (M : List Move) (stop : Option Stop) (k r : ℕ) → claim_by A P O M stop k ≡ Ok r → A P O (records_of M) r ≡ true
+-- What the taking in of a start answers: the table stands behind it, with the number of the next attempt and whatever its moment, or nothing changes.
+abbrev pub Takes : TableState → List Move → RuleNo → LinkNo → Bool → TableState → Type 0
+Takes t M rule link true after =
+    ((moment : ℕ) (attempt : AttemptNo) → attempt.0 ≡ next_attempt (records_of M) → Stands after (logged M (records.Started moment rule attempt link))) × IsStill t after
+Takes t M rule link false after = after ≡ t

@@ -3,24 +3,14 @@ ghost use Rattle.std.specs.Prelude.{◌≡◌, ◌<◌, ℕ, IfOk, List, length}
 ghost use Rattle.flow_types.specs.Plans.{IsValid};
 ghost use Rattle.flow_types.specs.declared.plan.Plan.{Plan as PlanValue};
 ghost use Rattle.run_history.specs.declared.moves.Move.{Move};
+ghost use Rattle.run_history.specs.Admissions.{AdmitsOne, Admitting, Claimable, ClaimsAdmitted};
+ghost use Rattle.run_history.specs.Admissions.{EveryClaim, EveryStop};
 ghost use Rattle.run_history.specs.Links.{records_of};
-ghost use Rattle.task_core.specs.Admissions.{AdmitsOne, Admitting, ClaimsAdmitted, EveryClaim};
-ghost use Rattle.task_core.specs.Admissions.{EveryStop};
 ghost use Rattle.task_core.specs.Stands.{Stands};
 
 use crate::table::Table;
 use flow_types::{Memory, Plan, RuleNo};
-use run_history::Nothing;
 use std::alloc::Global;
-
-/// Why a claim takes no rule where an admission has a say.
-#[derive(Clone, Copy, Debug, PartialEq, Eq)]
-pub enum Refusal {
-    /// As without an admission.
-    Nothing(Nothing),
-    /// Rules fit the link and the storage, and none of them is admitted; this is the least.
-    NotAdmitted { rule: RuleNo },
-}
 
 /// Says which rules may start. It stands for one plan or for every plan, and answers exactly what
 /// its type admits by the plan, the options and the records.
@@ -61,7 +51,7 @@ pub trait Policy: Send + Sync + Drop {
 pub struct AdmitAll;
 
 impl Admission for AdmitAll {
-    ghost use Rattle.task_core.specs.Admissions.{all_admitted};
+    ghost use Rattle.run_history.specs.Admissions.{all_admitted};
 
     ghost admitted = { all_admitted };
 
@@ -99,4 +89,9 @@ pub fn every_stop()
 /// A rule that is claimed is admitted.
 pub fn claims_admitted()
     ensures { ClaimsAdmitted }
+{}
+
+/// A rule that is claimed is one that a claim may take there.
+pub fn claims_claimable()
+    ensures { Claimable }
 {}

@@ -2,33 +2,24 @@
 ghost use Rattle.std.specs.Prelude.{◌≡◌, ◌<◌, List, IfOk, Some, false, find, is_some, length, true};
 ghost use Rattle.flow_types.specs.declared.plan.Plan.{Plan as PlanValue};
 ghost use Rattle.run_history.specs.declared.moves.Move.{Move};
+ghost use Rattle.run_history.specs.Admissions.{claim_by, is_in_vain_by, sets_by, stop_by};
 ghost use Rattle.run_history.specs.Links.{records_of};
 ghost use Rattle.task_core.specs.declared.asking.AskedFor.TheVariants.{Startable};
 ghost use Rattle.task_core.specs.declared.step.Reply.TheVariants as replies;
-ghost use Rattle.task_core.specs.Admissions.{NoneBefore, RepliesBy, asks_by, asks_for_by, chosen};
-ghost use Rattle.task_core.specs.Admissions.{claim_by, is_in_vain_by, refused, sets_by, stop_by};
+ghost use Rattle.task_core.specs.Admissions.{NoneBefore, RepliesBy, asks_by, asks_for_by};
 ghost use Rattle.task_core.specs.Asked.{asks_for};
 ghost use Rattle.task_core.specs.Known.{can_start, has_storage, leaves_places, number_in, rules_of};
 ghost use Rattle.task_core.specs.States.{HasAnswer, known_in};
 ghost use Rattle.task_core.specs.Stands.{Stands};
-ghost use Rattle.task_core.specs.Surveys.{IsBeside};
+ghost use Rattle.task_core.specs.Surveys.{IsBeside, claimed};
 
-use crate::admissions::{Admission, Refusal};
+use crate::admissions::Admission;
 use crate::asking::{Asked, AskedFor};
 use crate::loads::Beside;
 use crate::step::Reply;
 use crate::table::{Started, Table};
 use flow_types::{LinkNo, RuleNo};
-use run_history::Stop;
-
-fn refused(why: Refusal) -> Reply
-    ensures { result ≡ refused why }
-{
-    match why {
-        Refusal::Nothing(nothing) => Reply::Nothing(nothing),
-        Refusal::NotAdmitted { rule } => Reply::NotAdmitted { rule },
-    }
-}
+use run_history::{Nothing, Stop};
 
 impl Table {
     /// Claims a rule for a link: the least ready one that may run there, fits the link and the
@@ -49,7 +40,7 @@ impl Table {
                 let Started { rule, attempt } = self.start(rule, link);
                 Reply::Claimed { rule, attempt }
             }
-            Err(why) => refused(why),
+            Err(why) => Reply::Nothing(why),
         }
     }
 
@@ -58,10 +49,10 @@ impl Table {
         &self,
         link: LinkNo,
         admission: &mut A,
-    ) -> Result<RuleNo, Refusal>
+    ) -> Result<RuleNo, Nothing>
         requires stands { A.stands_for admission.old self.now.plan }
         ensures choice { (moves : List Move) → Stands self.now moves
-            → chosen result
+            → claimed result
             ≡ claim_by A.admitted self.now.plan self.now.options moves self.now.stop link.0 }
         ensures stays { (P : PlanValue) → A.stands_for admission.old P
             → A.stands_for admission.new P }
@@ -70,10 +61,10 @@ impl Table {
     }
 
     // What a claim for the link answers.
-    fn chosen_by<A: Admission>(&self, link: LinkNo, admission: &mut A) -> Result<RuleNo, Refusal>
+    fn chosen_by<A: Admission>(&self, link: LinkNo, admission: &mut A) -> Result<RuleNo, Nothing>
         requires stands { A.stands_for admission.old self.now.plan }
         ensures choice { (moves : List Move) → Stands self.now moves
-            → chosen result
+            → claimed result
             ≡ claim_by A.admitted self.now.plan self.now.options moves self.now.stop link.0 }
         ensures inside { IfOk result (λ rule. rule.0 < length self.now.plan.rules) }
         ensures starts { IfOk result (λ rule. can_start (known_in self.now) rule.0 ≡ true) }
@@ -85,12 +76,12 @@ impl Table {
     {
         let first = match self.claim_answer(link) {
             Ok(rule) => rule,
-            Err(nothing) => return Err(Refusal::Nothing(nothing)),
+            Err(nothing) => return Err(nothing),
         };
         let beside = self.beside(link);
         match self.first_by_for(&beside, first, admission) {
             Some(rule) => Ok(rule),
-            None => Err(Refusal::NotAdmitted { rule: first }),
+            None => Err(Nothing::NotAdmitted { rule: first }),
         }
     }
 

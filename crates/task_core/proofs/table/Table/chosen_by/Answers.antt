@@ -4,7 +4,8 @@ use Rattle.flow_types.specs.declared.numbers.LinkNo.{LinkNo}
 use Rattle.run_history.specs.declared.answers.Nothing.{Nothing}
 use Rattle.run_history.specs.Links.{records_of}
 use Rattle.task_core.specs.declared.asking.AskedFor.TheVariants.{Startable}
-use Rattle.task_core.specs.Admissions.{Admitting, NoneBefore, asks_for_by}
+use Rattle.run_history.specs.Admissions.{Admitting}
+use Rattle.task_core.specs.Admissions.{NoneBefore, asks_for_by}
 use Rattle.task_core.specs.Known.{number_in, rules_of}
 use Rattle.task_core.specs.States.{TableState, known_in}
 use Rattle.task_core.specs.Surveys.{claimed}

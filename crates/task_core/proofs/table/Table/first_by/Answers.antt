@@ -1,6 +1,7 @@
 use Rattle.std.proofs.Common.{◌≡◌, ◌<◌, ◌+◌, ◌-◌, ◌∙◌, Some, None, ap, length, sym, arith}
 use Rattle.run_history.specs.Links.{records_of}
-use Rattle.task_core.specs.Admissions.{Admitting, asks_by}
+use Rattle.run_history.specs.Admissions.{Admitting}
+use Rattle.task_core.specs.Admissions.{asks_by}
 use Rattle.task_core.specs.Asked.{asks, least_candidate}
 use Rattle.task_core.specs.Known.{Known, number_in}
 use Rattle.task_core.specs.States.{known_in}

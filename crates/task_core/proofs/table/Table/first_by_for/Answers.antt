@@ -3,7 +3,8 @@ use Rattle.std.specs.Prelude.{unwrap_or}
 use Rattle.flow_types.specs.declared.numbers.RuleNo.{RuleNo}
 use Rattle.run_history.specs.Links.{records_of}
 use Rattle.task_core.specs.declared.asking.AskedFor.TheVariants.{Startable}
-use Rattle.task_core.specs.Admissions.{Admitting, asks_for_by}
+use Rattle.run_history.specs.Admissions.{Admitting}
+use Rattle.task_core.specs.Admissions.{asks_for_by}
 use Rattle.task_core.specs.Asked.{asks_for, least_candidate}
 use Rattle.task_core.specs.Known.{Known, number_in}
 use Rattle.task_core.specs.States.{known_in}

@@ -2,7 +2,8 @@ use Rattle.std.proofs.Common.{◌≡◌, ◌∙◌, Bool, None, true, false, not
 use Rattle.std.specs.Prelude.{find, is_some}
 use Rattle.run_history.specs.Links.{records_of}
 use Rattle.task_core.specs.declared.asking.Asked.TheVariants as asked
-use Rattle.task_core.specs.Admissions.{Admitting, asks_by}
+use Rattle.run_history.specs.Admissions.{Admitting}
+use Rattle.task_core.specs.Admissions.{asks_by}
 use Rattle.task_core.specs.Known.{Known, rules_of, wants}
 use Rattle.task_core.specs.States.{TableState, known_in}
 use Rattle.task_core.proofs.Collecting.{number-file}
