@@ -563,6 +563,17 @@ def lines_ends():
                 peer.tell(result(asked[1], b"abc"))
                 it.ends("the run", started, 0, COMPLETE, ONE_RUN)
 
+        with Lines("a worker that is silent for longer than a minute is left under an idle limit of 70", {"in": "abc"}, ONE, {"out": b"abc"}) as it:
+            started = it.master("--idle-limit", "70")
+            with Peer(it, hello(ONE_CORE, MEBI)) as peer:
+                peer.next_task()
+                begun = time.monotonic()
+                it.wait("its loss", lambda: it.is_logged("lost 0 0"), seconds=150)
+                it.note("the loss", [] if 60 < time.monotonic() - begun < 90 else ["it was left at another time"])
+                worker = it.worker("--cores", "1")
+                it.ends("the run", started, 0, COMPLETE, LOST_ONCE)
+            it.byes(worker)
+
     with Lines("a port that is in use", {"in": "abc"}, ONE, {}) as it, socket.create_server(("", it.port)):
         it.note("the run", outcome(it.begin(("-T", "wq", "-p", str(it.port), "flow")), 5, NETWORK_FAULT))
 

@@ -158,9 +158,9 @@ impl<F: Commands, L: Link<F>, T: Terms + Trust> Seat<F, L, T> {
         }
     }
 
-    // A second has gone by: what was said goes on, and where something runs and nothing was said for
-    // a minute a word is said that the peer passes over. It fails where the peer took no byte for so
-    // many seconds.
+    // A second has gone by: what was said goes on, and where something runs, nothing was said for a
+    // minute and no idle limit was given, a word is said that the peer passes over. It fails where
+    // the peer took no byte for so many seconds.
     fn tend(&mut self, alloc: Global, limit: u32) -> Result<(), Leave>
         ensures link { self.new.link ≡ self.old.link }
         ensures attempts { self.new.attempts ≡ self.old.attempts }
@@ -184,7 +184,7 @@ impl<F: Commands, L: Link<F>, T: Terms + Trust> Seat<F, L, T> {
             Ok(()) => {}
             Err(leave) => return Err(leave),
         }
-        if self.pulse.is_silent() && !self.attempts.is_empty() {
+        if self.pulse.wants_word(limit) && !self.attempts.is_empty() {
             return self.probe(alloc);
         }
         Ok(())

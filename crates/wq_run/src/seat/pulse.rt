@@ -14,6 +14,10 @@ const LONGEST: u32 = 60;
 /// system notices one that is gone.
 const SILENCE: u32 = 60;
 
+/// The idle limit where none was given. A lower one finds by itself who is gone, and counts anew
+/// behind each word.
+const NO_LIMIT: u32 = 1_000_000_000;
+
 /// What a peer offers.
 #[derive(Clone, Copy)]
 pub(crate) struct Offer {
@@ -116,9 +120,9 @@ impl Pulse {
         self.silent = self.silent.saturating_add(1);
     }
 
-    /// Whether nothing was said for a minute.
-    pub fn is_silent(&self) -> bool {
-        self.silent >= SILENCE
+    /// Whether nothing was said for a minute, and no idle limit was given.
+    pub fn wants_word(&self, limit: u32) -> bool {
+        limit >= NO_LIMIT && self.silent >= SILENCE
     }
 
     /// Whether it is to be given nothing now: it rests, or it is sick and something runs there.
