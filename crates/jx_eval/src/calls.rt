@@ -13,9 +13,9 @@ use crate::frame::{Call, Frame};
 use crate::operand::Operand;
 use crate::state::{State, Step};
 use crate::visible::Visible;
+use jx_functions::applied;
 use jx_meaning::{EvalFault, Function, JxScope};
 use jx_syntax::JxValue;
-use jx_values::applied;
 use std::alloc::Global;
 
 /// The values of arguments, which aren't copied.

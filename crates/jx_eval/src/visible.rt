@@ -6,9 +6,9 @@ ghost use Rattle.jx_eval.specs.Machine.{bound_on};
 
 use crate::frame::Bound;
 use crate::state::last_of;
+use jx_functions::Names;
 use jx_meaning::JxScope;
 use jx_syntax::JxValue;
-use jx_values::Names;
 
 /// The names that loops bind, the outermost first, and those of the scope.
 #[derive(Drop)]

@@ -9,11 +9,3 @@ pub mod Sums
 pub mod Places
 pub mod Cuts
 pub mod Keys
-pub mod Joining
-pub mod Drafting
-pub mod Showing
-pub mod Calls
-pub mod Marks
-pub mod Finding
-pub mod Filling
-pub mod Ranging

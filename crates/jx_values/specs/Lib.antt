@@ -2,6 +2,3 @@ pub mod Kinds
 pub mod Sizes
 pub mod Found
 pub mod Ends
-pub mod Pieces
-pub mod Drafts
-pub mod Spots

@@ -1,12 +1,7 @@
 //! Room for the texts that an evaluation makes.
 ghost use Rattle.std.specs.Prelude.{◌≡◌, IfOk};
-ghost use Rattle.jx_meaning.specs.Answers.{Gives};
-ghost use Rattle.jx_meaning.specs.Numbers.{Answer};
-ghost use Rattle.jx_meaning.specs.Values.{plain};
 
 use flow_types::{Memory, Text};
-use jx_meaning::EvalFault;
-use jx_syntax::JxValue;
 use std::alloc::Global;
 use std::cell::Cell;
 
@@ -45,18 +40,5 @@ impl Texts {
     {
         self.reserve(text.as_str().len())?;
         text.copy(alloc)
-    }
-
-    /// The answer, for which room is taken where it is a text.
-    pub(crate) fn counted(&self, answer: Result<JxValue, EvalFault>) -> Result<JxValue, EvalFault>
-        ensures { (a : Answer) → Gives plain answer a → Gives plain result a }
-    {
-        match &answer {
-            Ok(JxValue::Text(text)) => match self.reserve(text.as_str().len()) {
-                Ok(()) => answer,
-                Err(_) => Err(EvalFault::Memory),
-            },
-            _ => answer,
-        }
     }
 }
