@@ -1,64 +1,35 @@
-//! Scripts of calls over the outside in memory: a site, a sink and two runners.
+//! The outside in memory, and an archive of results over it.
 //!
-//! Each case begins with new ones. Its lines are calls, in the words of `site_calls.rt`,
-//! `sink_calls.rt` and `runner_calls.rt`, and each is answered on a line. `''` stands for a text
-//! without bytes.
+//! The title of a case begins with `outside` or `archive`, and a colon. Each case begins with new
+//! objects, and its lines are calls: `calls.rt` and `archive.rt` tell which, and which are answered.
 #![tactic(auto)]
 
-mod runner_calls;
-mod sink_calls;
-mod site_calls;
-mod words;
+mod archive;
+mod calls;
 
-use crate::runner_calls::of_runner;
-use crate::sink_calls::of_sink;
-use crate::site_calls::of_site;
-use crate::words::first;
-use cases::{read_cases, read_input};
-use mem_outside::{Blank, MemSink, MemSite, TableRunner};
-use std::alloc::{AllocError, Global};
+use anyhow::{Result, bail};
+use cases::{Case, read_cases, read_input};
+use std::alloc::Global;
 use std::str;
+use std::sync::Wait;
 
-// What a script calls.
-#[derive(Drop)]
-struct Scene {
-    site: MemSite,
-    sink: MemSink,
-    runner: TableRunner<Blank>,
-}
-
-impl Scene {
-    fn new(alloc: Global) -> Scene {
-        Scene {
-            site: MemSite::new(alloc),
-            sink: MemSink::new(alloc),
-            runner: TableRunner::new(alloc),
-        }
-    }
-
-    fn answer(&mut self, alloc: Global, line: &str) -> Result<String, AllocError> {
-        let (object, call) = first(line);
-        match object {
-            "site" => of_site(alloc, &mut self.site, call),
-            "sink" => of_sink(alloc, &mut self.sink, call),
-            "runner" => of_runner(alloc, &mut self.runner, call),
-            _ => String::from_str(alloc, "no object"),
-        }
+fn answer<W: Wait + Sync>(rt: &W, alloc: Global, case: &Case) -> Result<String> {
+    let body = case.body(alloc)?;
+    let text = str::from_utf8(&body)?;
+    match case.title.split_once(':') {
+        Some(("outside", _)) => Ok(calls::answers(alloc, text)?),
+        Some(("archive", _)) => Ok(archive::answers(rt, alloc, text)?),
+        _ => bail!("bad case: {}", case.title),
     }
 }
 
-fn main(rt: HostRuntime) -> anyhow::Result<()> {
+fn main(rt: HostRuntime) -> Result<()> {
     let alloc = rt.alloc();
     let text = read_input(&rt)?;
     for case in read_cases(alloc, &text)?.iter() {
         let title = case.title.as_str();
-        println!(rt; "== {title}")?;
-        let mut scene = Scene::new(alloc);
-        let body = case.body(alloc)?;
-        for line in str::from_utf8(&body)?.lines() {
-            let text = scene.answer(alloc, line)?;
-            println!(rt; "{text}")?;
-        }
+        let shown = answer(&rt, alloc, case)?;
+        print!(rt; "== {title}\n{shown}")?;
     }
     Ok(())
 }

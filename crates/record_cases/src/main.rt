@@ -1,91 +1,37 @@
-//! Records of the log, read from their bytes and written again.
+//! Records of the log, and the types that all crates share.
 //!
-//! A line of a case has a kind byte and a body in hex, with blanks where they help. It is answered
-//! by the record and by the bytes that are written of it, or by the place at which it is refused. A
-//! line `cuts HEX` is answered by the places at which the beginnings of those bytes are refused,
-//! the shortest first.
+//! The title of a case begins with `call` or `record`, and a colon. Below `call` each line is a call
+//! of the base crates that wants memory, made with enough of it, in the words of the files of
+//! `calls`, and is answered on a line. Below `record` a line has a kind byte and a body in hex, with
+//! blanks where they help, and is answered by the record and by the bytes that are written of it, or
+//! by the place at which it is refused; a line `cuts HEX` is answered by the places at which the
+//! beginnings of those bytes are refused, the shortest first.
 #![tactic(auto)]
 
-mod text;
+mod calls;
+mod records;
 
-use crate::text::shown_record;
-use cases::{read_cases, read_input};
-use hex::FromHexError;
-use log_records::{RecordFault, read_record, write_record};
-use std::alloc::{AllocError, Global};
+use anyhow::{Result, bail};
+use cases::{Case, read_cases, read_input};
+use std::alloc::Global;
 use std::str;
 
-// The bytes that a line spells, none where it spells none.
-fn bytes_of(alloc: Global, line: &str) -> Result<Option<Vec<u8>>, AllocError> {
-    let mut digits = String::new(alloc);
-    for part in line.split_whitespace() {
-        digits.push_str(part)?;
-    }
-    match hex::decode(alloc, digits.as_str()) {
-        Ok(bytes) => Ok(Some(bytes)),
-        Err(FromHexError::OutOfMemory) => Err(AllocError),
-        Err(_) => Ok(None),
+fn answer(alloc: Global, case: &Case) -> Result<String> {
+    let body = case.body(alloc)?;
+    match case.title.split_once(':') {
+        Some(("call", _)) => Ok(calls::answers(alloc, &body)?),
+        Some(("record", _)) => Ok(records::answers(alloc, str::from_utf8(&body)?)?),
+        _ => bail!("bad case: {}", case.title),
     }
 }
 
-fn shown_fault(alloc: Global, fault: RecordFault) -> Result<String, AllocError> {
-    match fault {
-        RecordFault::Bad { at } => format!(in alloc; "refused at {at}"),
-        RecordFault::Memory => Err(AllocError),
-    }
-}
-
-// The record of these bytes and, on a second line, what is written of it.
-fn shown(alloc: Global, bytes: &[u8]) -> Result<String, AllocError> {
-    match read_record(alloc, bytes) {
-        Ok(record) => {
-            let text = shown_record(alloc, &record)?;
-            let Ok(written) = write_record(alloc, &record) else {
-                return Err(AllocError);
-            };
-            let written = hex::encode(alloc, written.as_slice())?;
-            format!(in alloc; "{text}\n{written}")
-        }
-        Err(fault) => shown_fault(alloc, fault),
-    }
-}
-
-// Where each beginning of these bytes is refused.
-fn shown_cuts(alloc: Global, bytes: &[u8]) -> Result<String, AllocError> {
-    let mut text = String::from_str(alloc, "cuts")?;
-    for len in 0..bytes.len() {
-        match read_record(alloc, &bytes[..len]) {
-            Ok(_) => text.push_str(" read")?,
-            Err(RecordFault::Bad { at }) => text.push_str(format!(in alloc; " {at}")?.as_str())?,
-            Err(RecordFault::Memory) => return Err(AllocError),
-        }
-    }
-    Ok(text)
-}
-
-fn answer(alloc: Global, line: &str) -> Result<String, AllocError> {
-    let (cuts, digits) = match line.strip_prefix("cuts ") {
-        Some(digits) => (true, digits),
-        None => (false, line),
-    };
-    match bytes_of(alloc, digits)? {
-        Some(bytes) if cuts => shown_cuts(alloc, &bytes),
-        Some(bytes) => shown(alloc, &bytes),
-        None => String::from_str(alloc, "no hex"),
-    }
-}
-
-fn main(rt: HostRuntime) -> anyhow::Result<()> {
+fn main(rt: HostRuntime) -> Result<()> {
     let alloc = rt.alloc();
     let text = read_input(&rt)?;
     for case in read_cases(alloc, &text)?.iter() {
         let title = case.title.as_str();
-        println!(rt; "== {title}")?;
-        let body = case.body(alloc)?;
-        for line in str::from_utf8(&body)?.lines() {
-            let text = answer(alloc, line)?;
-            println!(rt; "{text}")?;
-        }
+        let shown = answer(alloc, case)?;
+        print!(rt; "== {title}\n{shown}")?;
     }
     Ok(())
 }
