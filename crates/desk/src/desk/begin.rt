@@ -12,6 +12,7 @@ ghost use Rattle.desk.specs.State.{Takes};
 
 use super::Desk;
 use crate::entry::log_entry;
+use crate::inputs::ShelfSite;
 use crate::room::{LONGEST_CLOSING, open_ends};
 use crate::{StartFault, StartRefused, Terms, Trouble};
 use flow_types::{Memory, Record, Rows};
@@ -71,7 +72,7 @@ impl<F: Commands, S: Site, T: Terms> Desk<F, S, T> {
                 records,
                 steps,
                 trouble: Trouble::Fine,
-                site,
+                site: ShelfSite::new(alloc, site),
                 of: PhantomData,
             }),
             Err(Fault::Failed) => {

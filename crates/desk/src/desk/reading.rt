@@ -14,7 +14,7 @@ ghost use Rattle.desk.specs.Room.{KeepsAmple};
 ghost use Rattle.desk.specs.State.{IsFine};
 
 use super::Desk;
-use crate::inputs::{buffer_of, content_in, read_logged};
+use crate::inputs::{buffer_of, content_in};
 use crate::{InputRefused, Terms, Trouble};
 use flow_types::{Bytes, Content, FileNo, Memory};
 use outside::{Commands, Fault, Site};
@@ -75,7 +75,7 @@ impl<F: Commands, S: Site, T: Terms> Desk<F, S, T> {
             return Err(InputRefused::Memory);
         };
         let row = &self.table.plan().files.as_slice()[file.0 as usize];
-        match read_logged(buffer, &mut self.site, &row.name, logged) {
+        match self.site.read_logged(alloc, buffer, &row.name, logged) {
             Ok(Ok(bytes)) => Ok(bytes),
             Ok(Err(found)) => Err(InputRefused::Damaged {
                 file,
@@ -96,7 +96,9 @@ impl<F: Commands, S: Site, T: Terms> Desk<F, S, T> {
     }
 
     /// The content of a file, as it was logged, or what stands in its place. Memory that is wanting
-    /// for it alone doesn't end the desk's work, and nothing has changed. Condition: the file is
+    /// for it alone doesn't end the desk's work, and nothing has changed. A content of 64 KiB to 64
+    /// MiB is copied once as it is read, and that copy is kept, 128 MiB of them together; while it
+    /// is kept, a call makes a copy of it, and neither reads nor hashes. Condition: the file is
     /// present.
     pub fn read_input(&mut self, alloc: Global, file: FileNo) -> Result<Bytes, InputRefused>
         requires present { is_present self.old.plan (records_of self.old.moves) file.0 ≡ true }
