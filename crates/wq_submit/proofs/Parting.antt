@@ -1,5 +1,5 @@
 -- Peers that are gone, and those that live.
-use Rattle.std.proofs.Common.{◌≡◌, ◌≤◌, ◌<◌, ◌+◌, ◌∙◌, ℕ, zero, suc, Bool, true, false, List, [], ◌∷◌, length, get_or, drop, refl, ap, arith}
+use Rattle.std.proofs.Common.{◌≡◌, ◌≤◌, ◌<◌, ◌+◌, ◌∙◌, ◌⊎◌, inl, inr, ℕ, zero, suc, Bool, true, false, cond, List, [], ◌∷◌, ◌++◌, length, get_or, drop, refl, ap, arith}
 use Rattle.std.specs.Prelude.{remove}
 use Rattle.std.specs.List.{AllByRecursion}
 use Rattle.task_book.proofs.Sizes.{next_item}
@@ -27,3 +27,14 @@ little_by s false is = rw is (omega arith)
 
 pub live_little : {L : Type 0} (s : SeatState L) → length (live_of (s ∷ [])) ≤ 1
 live_little s = little_by s s.gone refl
+
+-- ---- a peer comes
+
+ways_more : {L : Type 0} (seats : List (SeatState L)) (s : SeatState L) → ways_of (seats ++ s ∷ []) ≡ ways_of seats ++ s.peer.way ∷ []
+ways_more [] s = refl
+ways_more (x ∷ seats) s = ap (λ (ways : List _). x.peer.way ∷ ways) (ways_more seats s)
+
+-- where there was memory for it
+pub ways_pushed : {L : Type 0} (ok : Bool) (old new : List (SeatState L)) (s : SeatState L) → new ≡ cond ok (old ++ s ∷ []) old → (ways_of new ≡ ways_of old) ⊎ (ways_of new ≡ ways_of old ++ s.peer.way ∷ [])
+ways_pushed {L} true old new s is = inr (ap (λ (xs : List (SeatState L)). ways_of xs) is ∙ ways_more old s)
+ways_pushed {L} false old new s is = inl (ap (λ (xs : List (SeatState L)). ways_of xs) is)

@@ -9,6 +9,7 @@ ghost use Rattle.wq_submit.specs.Queues.{IsIdleHall, IsSameWork, RunBefore};
 ghost use Rattle.wq_submit.specs.Rounds.{AreServed, Comes, EndsRight, GoesOnAs, IsQuiet, IsRead, IsServed, MeetsAs, ReadsAt, live_of, was_idle, ways_of};
 ghost use Rattle.wq_submit.specs.Shown.{ShowsEnds};
 
+use crate::least::Refused;
 use crate::seat::{Look, Seat, Turn};
 use flow_types::{AttemptNo, Memory, Needs};
 use links::{Came, Hall, Link};
@@ -303,6 +304,14 @@ fn attempt_of(next: u128) -> Option<AttemptNo>
     }
 }
 
+// Whether a task of these needs and so many bytes of inputs fits no peer, since that one didn't.
+fn is_refused(refused: Option<Refused>, needs: Needs, bytes: u64) -> bool {
+    match refused {
+        Some(other) => other.covers(needs, bytes),
+        None => false,
+    }
+}
+
 impl<F: Commands, L: Link<F>> Company<F, L> {
     /// Nobody has come, and no attempt was made.
     pub fn new(alloc: Global) -> Company<F, L>
@@ -395,14 +404,22 @@ impl<F: Commands, L: Link<F>> Company<F, L> {
         )
     }
 
-    // Places the task at a place of the book, where it waits and fits a peer.
+    // Whether a task of these needs fits a peer, if it takes no bytes in.
+    fn has_room(&self, needs: Needs) -> bool {
+        self.place_for(needs, 0).is_some()
+    }
+
+    // Places the task at a place of the book, where it waits and fits a peer. It answers whether one
+    // that waits may fit a peer still: one of the least needs of all does, or this one did.
     fn place_at(
         &mut self,
         alloc: Global,
         files: &Files,
         book: &mut Book,
         at: usize,
-    ) -> Result<(), Memory>
+        least: Needs,
+        refused: &mut Option<Refused>,
+    ) -> Result<bool, Memory>
         ensures work { IsSameWork book.old book.new }
         ensures ends { EndsOn book.old.held book.new.held }
         ensures before { RunBefore self.old.next book.old.held
@@ -415,18 +432,32 @@ impl<F: Commands, L: Link<F>> Company<F, L> {
             → AllByRecursion L.honest (ways_of self.new.seats) }
     {
         let Some(task) = book.waiting(at) else {
-            return Ok(());
+            return Ok(true);
         };
         let needs = task.needs;
         let bytes = files.bytes_of(task.inputs.as_slice());
-        match self.place_for(needs, bytes) {
-            Some(place) => self.begin_at(alloc, files, book, at, place, bytes),
-            None => Ok(()),
+        if is_refused(*refused, needs, bytes) {
+            return Ok(true);
+        }
+        let Some(place) = self.place_for(needs, bytes) else {
+            *refused = Some(Refused::new(needs, bytes));
+            return Ok(self.has_room(least));
+        };
+        match self.begin_at(alloc, files, book, at, place, bytes) {
+            Ok(()) => Ok(true),
+            Err(_) => Err(Memory),
         }
     }
 
-    /// Places each waiting task that fits a peer, on the one that came first.
-    pub fn place_all(&mut self, alloc: Global, files: &Files, book: &mut Book) -> Result<(), Memory>
+    /// Places each waiting task that fits a peer, on the one that came first. No task that waits
+    /// needs less than the least.
+    pub fn place_all(
+        &mut self,
+        alloc: Global,
+        files: &Files,
+        book: &mut Book,
+        least: Needs,
+    ) -> Result<(), Memory>
         ensures work { IsSameWork book.old book.new }
         ensures ends { EndsOn book.old.held book.new.held }
         ensures before { RunBefore self.old.next book.old.held
@@ -439,9 +470,11 @@ impl<F: Commands, L: Link<F>> Company<F, L> {
             → AllByRecursion L.honest (ways_of self.new.seats) }
     {
         let from = book.first_waiting();
+        let mut refused = None;
         for at in from..book.count() {
-            match self.place_at(alloc, files, book, at) {
-                Ok(()) => {}
+            match self.place_at(alloc, files, book, at, least, &mut refused) {
+                Ok(true) => {}
+                Ok(false) => return Ok(()),
                 Err(_) => return Err(Memory),
             }
         }
@@ -603,6 +636,7 @@ pub(crate) fn dismiss<F: Commands, H: Hall<F>>(
 ) -> bool
     ensures listens { H.listens hall.old → H.listens hall.new }
     ensures faults { H.count hall.new ≡ H.count hall.old }
+    ensures idles { H.idle_count hall.new ≡ H.idle_count hall.old }
     ensures back { result ≡ true → length (H.got hall.new)
         ≡ length (H.got hall.old) + length company.old.seats }
 {

@@ -7,7 +7,8 @@ ghost use Rattle.task_book.specs.Submissions.{file_refusal, submit_refusal};
 ghost use Rattle.wq_submit.specs.Queues.{IsTrusted};
 
 use crate::company::{Company, dismiss};
-use flow_types::{Bytes, FileNo};
+use crate::least::least_of;
+use flow_types::{Bytes, FileNo, Needs};
 use links::{Hall, Link};
 use outside::Commands;
 use std::alloc::Global;
@@ -27,6 +28,10 @@ pub struct Queue<F: Commands, H: Hall<F>> {
     pub(crate) company: Company<F, H::Way>,
     // For how many seconds a worker may be silent while a task runs there, or take nothing.
     pub(crate) limit: u64,
+    // No task that is held needs less.
+    pub(crate) least: Needs,
+    // How many milliseconds ago each link was asked, as a call begins.
+    pub(crate) millis: u64,
     pub(crate) of: PhantomData<H>,
 }
 
@@ -62,6 +67,8 @@ impl<F: Commands, H: Hall<F>> Queue<F, H> {
             book: Book::new(alloc),
             company: Company::new(alloc),
             limit: MOST_SILENCE,
+            least: Needs::Whole,
+            millis: 0,
             of: PhantomData,
         }
     }
@@ -98,6 +105,15 @@ impl<F: Commands, H: Hall<F>> Queue<F, H> {
         self.files.add(content)
     }
 
+    // What the tasks that are held and one of these needs need at the least.
+    fn least_with(&self, needs: Needs) -> Needs {
+        if self.book.count() == 0 {
+            needs
+        } else {
+            least_of(self.least, needs)
+        }
+    }
+
     /// Takes a task, and answers its id.
     pub fn submit(&mut self, task: Submission) -> Result<TaskId, SubmitRefused>
         ensures ok { IfOk result (λ id. (id ≡ next_id self.old.kept)
@@ -110,6 +126,7 @@ impl<F: Commands, H: Hall<F>> Queue<F, H> {
         ensures trusted { IsTrusted H.Way.tells F.gives F.may_fail H.Way.honest self.old
             → IsTrusted H.Way.tells F.gives F.may_fail H.Way.honest self.new }
     {
+        self.least = self.least_with(task.needs);
         self.book.submit(&self.files, task)
     }
 
@@ -132,6 +149,7 @@ impl<F: Commands, H: Hall<F>> Queue<F, H> {
     pub fn dismiss(self, hall: &mut H) -> bool
         ensures listens { H.listens hall.old → H.listens hall.new }
         ensures faults { H.count hall.new ≡ H.count hall.old }
+        ensures idles { H.idle_count hall.new ≡ H.idle_count hall.old }
         ensures back { result ≡ true
             → length (H.got hall.new) ≡ length (H.got hall.old) + length self.ways }
     {
@@ -141,6 +159,8 @@ impl<F: Commands, H: Hall<F>> Queue<F, H> {
             book: _,
             mut company,
             limit: _,
+            least: _,
+            millis: _,
             of: _,
         } = self;
         dismiss::<F, H>(&mut company, alloc, hall)

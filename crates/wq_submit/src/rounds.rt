@@ -71,8 +71,16 @@ impl<F: Commands, H: Hall<F>> Queue<F, H> {
         part::<F, H>(&mut self.company, self.alloc, hall);
     }
 
-    // Where as many links are kept as may, those that are gone are handed back.
-    fn make_room(&mut self, hall: &mut H)
+    // The next call goes on with these milliseconds since each link was asked.
+    fn keep_pace(&mut self, millis: u64)
+        ensures { self.new ≡ self.old }
+    {
+        self.millis = if millis < TURN { millis } else { 0 };
+    }
+
+    // A round begins so many milliseconds after each link was asked. Where as many links are kept as
+    // may, those that are gone are handed back.
+    fn make_room(&mut self, hall: &mut H, millis: u64)
         ensures listens { H.listens hall.old → H.listens hall.new }
         ensures honest { H.honest hall.old → H.honest hall.new }
         ensures faults { H.count hall.new ≡ H.count hall.old }
@@ -82,6 +90,7 @@ impl<F: Commands, H: Hall<F>> Queue<F, H> {
         ensures trusted { IsTrusted H.Way.tells F.gives F.may_fail H.Way.honest self.old
             → IsTrusted H.Way.tells F.gives F.may_fail H.Way.honest self.new }
     {
+        self.keep_pace(millis);
         if self.company.count() >= MOST_KEPT {
             self.part(hall);
         }
@@ -131,7 +140,7 @@ impl<F: Commands, H: Hall<F>> Queue<F, H> {
         }
         if self
             .company
-            .place_all(self.alloc, &self.files, &mut self.book)
+            .place_all(self.alloc, &self.files, &mut self.book, self.least)
             .is_err()
         {
             return Err(Memory);
@@ -288,11 +297,14 @@ impl<F: Commands, H: Hall<F>> Queue<F, H> {
             → IsTrusted H.Way.tells F.gives F.may_fail H.Way.honest self.new × H.honest hall.new }
         ensures cause { IsHallFault (H.count hall.old) (H.count hall.new) result }
         ensures rises { H.count hall.old ≤ H.count hall.new }
+        ensures later { H.idle_count hall.old ≤ H.idle_count hall.new }
     {
         let before = hall.faults();
-        let mut pace = Pace { millis: TURN };
+        let mut pace = Pace {
+            millis: self.millis,
+        };
         for _ in rt.forever() {
-            self.make_room(hall);
+            self.make_room(hall, pace.millis);
             match self.step(hall, &mut pace, before) {
                 Some(answer) => return answer,
                 None => {}
@@ -319,6 +331,7 @@ impl<F: Commands, H: Hall<F>> Queue<F, H> {
             → IsTrusted H.Way.tells F.gives F.may_fail H.Way.honest self.new × H.honest hall.new }
         ensures cause { IsHallFault (H.count hall.old) (H.count hall.new) result }
         ensures rises { H.count hall.old ≤ H.count hall.new }
+        ensures later { H.idle_count hall.old ≤ H.idle_count hall.new }
     {
         self.part(hall);
         match self.at_once() {

@@ -3,11 +3,13 @@ ghost use Rattle.std.specs.Prelude.{◌≡◌, [], ◌∷◌, ◌++◌, None, So
 ghost use Rattle.wq_submit.specs.Rounds.{id_of};
 
 mod asking;
+mod health;
 mod reading;
 mod tending;
 
 use crate::run::{Again, Run};
 use flow_types::{Amounts, AttemptNo, LinkNo, Needs};
+use health::Health;
 use links::Link;
 use outside::Commands;
 use peers::Peer;
@@ -40,6 +42,7 @@ pub(crate) struct Seat<F: Commands, L: Link<F>> {
     quiet: u32,
     // So many turns ago something came.
     silent: u64,
+    health: Health,
 }
 
 impl<F: Commands, L: Link<F>> Model for Seat<F, L> {
@@ -79,6 +82,7 @@ impl<F: Commands, L: Link<F>> Seat<F, L> {
             is_full: false,
             quiet: 0,
             silent: 0,
+            health: Health::new(),
         }
     }
 
@@ -105,15 +109,19 @@ impl<F: Commands, L: Link<F>> Seat<F, L> {
         occupied
     }
 
-    /// Whether a task of these needs and so many bytes of inputs fits it. One that hasn't taken all
-    /// that was sent is given nothing more.
+    // Whether it can be given something more: it has taken all that was sent, and doesn't rest.
+    fn is_open(&self) -> bool {
+        self.peer.behind() == 0 && !self.health.is_resting(self.runs.is_empty())
+    }
+
+    /// Whether a task of these needs and so many bytes of inputs fits it.
     pub fn fits(&self, needs: Needs, bytes: u64) -> bool
         ensures live { result ≡ true → self.now.gone ≡ false }
     {
         match self.stated {
             Some(stated) => {
                 !self.gone
-                    && self.peer.behind() == 0
+                    && self.is_open()
                     && self
                         .occupied(stated.total)
                         .has_room(AWAY, stated, needs, bytes)
@@ -130,6 +138,20 @@ impl<F: Commands, L: Link<F>> Seat<F, L> {
             self.silent = 0;
         }
         self.quiet = 0;
+    }
+
+    // An attempt came to no end there.
+    fn note_lost(&mut self)
+        ensures { self.new ≡ self.old }
+    {
+        self.health.lose();
+    }
+
+    // An attempt came to its end there.
+    fn note_ended(&mut self)
+        ensures { self.new ≡ self.old }
+    {
+        self.health.recover();
     }
 
     // One attempt more runs there, where there is room and memory for it. It answers whether it does.

@@ -73,6 +73,7 @@ impl<F: Commands, L: Link<F>> Seat<F, L> {
             return;
         };
         self.close(attempt);
+        self.note_ended();
         let _ = book.end(id, attempt, outcome);
     }
 
@@ -88,6 +89,7 @@ impl<F: Commands, L: Link<F>> Seat<F, L> {
             return;
         };
         self.close(attempt);
+        self.note_lost();
         let _ = book.wait_again(id, attempt);
     }
 

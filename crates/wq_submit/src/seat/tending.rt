@@ -42,6 +42,7 @@ impl<F: Commands, L: Link<F>> Seat<F, L> {
     {
         self.quiet = self.quiet.saturating_add(1);
         self.silent = self.silent.saturating_add(1);
+        self.health.beat();
     }
 
     // Says a word that the peer passes over.

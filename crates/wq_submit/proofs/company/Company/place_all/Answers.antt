@@ -39,3 +39,18 @@ returns-in-Err-clause-served g c tells before all = c.place_at.ensures.served te
 
 pub returns-in-Err-clause-honest : goal.returns-in-Err-clause-honest
 returns-in-Err-clause-honest g c fair = c.place_at.ensures.honest (c.loop-at.invariant.honest fair)
+
+pub returns-in-Ok-false-clause-work : goal.returns-in-Ok-false-clause-work
+returns-in-Ok-false-clause-work g c = work_then c.args.book.now c.loop-at.book c.place_at.new.book c.loop-at.invariant.work c.place_at.ensures.work
+
+pub returns-in-Ok-false-clause-ends : goal.returns-in-Ok-false-clause-ends
+returns-in-Ok-false-clause-ends g c a o t end = c.loop-at.invariant.ends a o t (c.place_at.ensures.ends a o t end)
+
+pub returns-in-Ok-false-clause-before : goal.returns-in-Ok-false-clause-before
+returns-in-Ok-false-clause-before g c before = c.place_at.ensures.before (c.loop-at.invariant.before before)
+
+pub returns-in-Ok-false-clause-served : goal.returns-in-Ok-false-clause-served
+returns-in-Ok-false-clause-served g c tells before all = c.place_at.ensures.served tells (c.loop-at.invariant.before before) (c.loop-at.invariant.served tells before all)
+
+pub returns-in-Ok-false-clause-honest : goal.returns-in-Ok-false-clause-honest
+returns-in-Ok-false-clause-honest g c fair = c.place_at.ensures.honest (c.loop-at.invariant.honest fair)

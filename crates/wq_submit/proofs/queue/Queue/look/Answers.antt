@@ -47,3 +47,6 @@ returns-in-Some-step-clause-cause g c = fault_wider (g.H.Hall.count c.args.hall.
 
 pub returns-in-Some-step-clause-rises : goal.returns-in-Some-step-clause-rises
 returns-in-Some-step-clause-rises g c = omega (arith, c.loop.invariant.low, c.loop.invariant.high, c.make_room.ensures.faults, c.step.ensures.rises)
+
+pub returns-in-Some-step-clause-later : goal.returns-in-Some-step-clause-later
+returns-in-Some-step-clause-later g c = omega (arith, c.loop.invariant.later, c.make_room.ensures.idles, c.step.ensures.later)

@@ -40,3 +40,9 @@ returns-in-None-clause-trusted g c fair trusted = c.look.ensures.trusted (c.part
 
 pub returns-in-Some-clause-trusted : goal.returns-in-Some-clause-trusted
 returns-in-Some-clause-trusted g c fair trusted = (c.at_once.ensures.trusted (c.part.ensures.trusted trusted), c.part.ensures.honest fair)
+
+pub returns-in-Some-clause-later : goal.returns-in-Some-clause-later
+returns-in-Some-clause-later g c = omega (arith, c.part.ensures.idles)
+
+pub returns-in-None-clause-later : goal.returns-in-None-clause-later
+returns-in-None-clause-later g c = omega (arith, c.part.ensures.idles, c.look.ensures.later)

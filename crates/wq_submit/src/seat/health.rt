@@ -1,0 +1,55 @@
+//! How a peer has done of late, by which it is given more or not. No contract speaks of it: it
+//! decides when something is asked, and never what is true of it.
+
+/// So many attempts in a row that came to no end make a peer sick.
+const SICK: u32 = 3;
+
+/// The most turns that a sick peer rests, which are seconds.
+const LONGEST: u32 = 60;
+
+/// How a peer has done of late.
+#[derive(Drop)]
+pub(super) struct Health {
+    // How many attempts in a row came to no end there.
+    lost: u32,
+    // How many turns it rests still, and how many the next time.
+    rests: u32,
+    next: u32,
+}
+
+impl Health {
+    /// A peer that was asked for nothing yet.
+    pub fn new() -> Health {
+        Health {
+            lost: 0,
+            rests: 0,
+            next: 1,
+        }
+    }
+
+    /// An attempt came to no end there.
+    pub fn lose(&mut self) {
+        self.lost = self.lost.saturating_add(1);
+        if self.lost >= SICK {
+            self.rests = self.next;
+            self.next = self.next.saturating_mul(2).min(LONGEST);
+        }
+    }
+
+    /// An attempt came to its end there.
+    pub fn recover(&mut self) {
+        self.lost = 0;
+        self.rests = 0;
+        self.next = 1;
+    }
+
+    /// A second has gone by.
+    pub fn beat(&mut self) {
+        self.rests = self.rests.saturating_sub(1);
+    }
+
+    /// Whether it is to be given nothing now: it rests, or it is sick and something runs there.
+    pub fn is_resting(&self, is_idle: bool) -> bool {
+        self.rests > 0 || self.lost >= SICK && !is_idle
+    }
+}
