@@ -2,8 +2,9 @@
 # which nothing is proved. make programs: the programs into bin/.
 # make install PREFIX=FOLDER: the programs into FOLDER/bin, their manual pages into
 # FOLDER/share/man/man1, and completions for bash, which are made of these pages, into
-# FOLDER/share/bash-completion/completions. The programs are those with a manual page: crates, and
-# scripts in scripts/. The other crates with a main hold cases.
+# FOLDER/share/bash-completion/completions, and the module work_queue.py into FOLDER/lib/python. The
+# programs are those with a manual page: crates, and scripts in scripts/. The other crates with a main
+# hold cases.
 
 PREFIX ?= /usr/local
 PROGRAMS := $(patsubst man/%.1,%,$(wildcard man/*.1))
@@ -29,6 +30,8 @@ try:
 install: $(BUILT)
 	@mkdir -p "$(DESTDIR)$(PREFIX)/bin"
 	@install -m 755 $(BUILT) "$(DESTDIR)$(PREFIX)/bin"
+	@mkdir -p "$(DESTDIR)$(PREFIX)/lib/python"
+	@install -m 644 scripts/work_queue.py "$(DESTDIR)$(PREFIX)/lib/python"
 	@mkdir -p "$(DESTDIR)$(PREFIX)/share/man/man1"
 	@install -m 644 man/*.1 "$(DESTDIR)$(PREFIX)/share/man/man1"
 	@mkdir -p "$(DESTDIR)$(PREFIX)/share/bash-completion/completions"
