@@ -1,5 +1,5 @@
 -- Lines of held tasks, whose ids rise, and marks before which no task is in some stage.
-use Rattle.std.proofs.Common.{◌≡◌, ◌≤◌, ◌<◌, ◌⊎◌, inl, inr, ℕ, zero, suc, ◌+◌, Bool, true, false, cond, List, [], ◌∷◌, ◌++◌, length, get_or, take, Option, Some, None, Result, Ok, Err, refl, sym, ap, subst, ◌∙◌, arith}
+use Rattle.std.proofs.Common.{◌≡◌, ◌≤◌, ◌<◌, ◌⊎◌, ⊎_elim, inl, inr, ℕ, zero, suc, ◌+◌, Bool, true, false, cond, List, [], ◌∷◌, ◌++◌, length, get_or, drop, take, Option, Some, None, Result, Ok, Err, refl, sym, ap, subst, ◌∙◌, arith}
 use Rattle.std.specs.Prelude.{◌==◌, ◌&&◌, IfSome, position, slice_get, slice_set, remove}
 use Rattle.std.specs.List.{AllByRecursion}
 use Rattle.std.specs.List.Sorted.{IsBinarySearchResult, IsPartitionPoint}
@@ -80,6 +80,60 @@ module _ {A : Type 0} (p : A → Bool) where
   clear_all n [] le all = refl
   clear_all zero (y ∷ xs) le all = absurd (omega (arith, le))
   clear_all (suc n) (y ∷ xs) le all = there p y xs all.0 ∙ ap next (clear_all n xs (omega (arith, le)) all.1)
+
+  -- none from this place on passes
+  abbrev pub Over : ℕ → List A → Type 0
+  Over n xs = AllByRecursion (λ (x : A). p x ≡ false) (drop n xs)
+
+  pub over_none : (n : ℕ) → Over n []
+  over_none zero = tt
+  over_none (suc n) = tt
+
+  pub over_high : (n m : ℕ) (xs : List A) → n ≤ m → Over n xs → Over m xs
+  over_high zero zero xs le all = all
+  over_high zero (suc m) [] le all = tt
+  over_high zero (suc m) (x ∷ xs) le all = over_high zero m xs (omega arith) all.1
+  over_high (suc n) zero xs le all = absurd (omega (arith, le))
+  over_high (suc n) (suc m) [] le all = tt
+  over_high (suc n) (suc m) (x ∷ xs) le all = over_high n m xs (omega (arith, le)) all
+
+  pub over_more : (n : ℕ) (xs : List A) (y : A) → (p y ≡ true → length xs < n) → Over n xs → Over n (xs ++ y ∷ [])
+  over_more zero [] y high all = (fails_by y (p y) refl (λ e. let less = high e in omega (arith, less)), tt)
+  over_more zero (x ∷ xs) y high all = (all.0, over_more zero xs y (λ e. let less = high e in omega (arith, less)) all.1)
+  over_more (suc n) [] y high all = over_none n
+  over_more (suc n) (x ∷ xs) y high all = over_more n xs y (λ e. let less = high e in omega (arith, less)) all
+
+  pub over_removed : (n at : ℕ) (xs : List A) → Over n xs → Over n (remove xs at)
+  over_removed n zero [] all = over_none n
+  over_removed n (suc at) [] all = over_none n
+  over_removed zero zero (x ∷ xs) all = all.1
+  over_removed zero (suc at) (x ∷ xs) all = (all.0, over_removed zero at xs all.1)
+  over_removed (suc n) zero (x ∷ xs) all = over_high n (suc n) xs (omega arith) all
+  over_removed (suc n) (suc at) (x ∷ xs) all = over_removed n at xs all
+
+  pub over_set : (n at : ℕ) (xs : List A) (y : A) → (p y ≡ true → at < n) → Over n xs → Over n (slice_set xs at y)
+  over_set n zero [] y high all = over_none n
+  over_set n (suc at) [] y high all = over_none n
+  over_set zero zero (x ∷ xs) y high all = (fails_by y (p y) refl (λ e. let less = high e in omega (arith, less)), all.1)
+  over_set zero (suc at) (x ∷ xs) y high all = (all.0, over_set zero at xs y (λ e. let less = high e in omega (arith, less)) all.1)
+  over_set (suc n) zero (x ∷ xs) y high all = all
+  over_set (suc n) (suc at) (x ∷ xs) y high all = over_set n at xs y (λ e. let less = high e in omega (arith, less)) all
+
+  pub over_long : (n : ℕ) (xs : List A) → length xs ≤ n → Over n xs
+  over_long n [] le = over_none n
+  over_long zero (x ∷ xs) le = absurd (omega (arith, le))
+  over_long (suc n) (x ∷ xs) le = over_long n xs (omega (arith, le))
+
+  -- none passes before a mark nor from it on, so none does
+  pub none_here : (n : ℕ) (xs : List A) → Clear n xs → Over n xs → AllByRecursion (λ (x : A). p x ≡ false) xs
+  none_here zero xs clear over = over
+  none_here (suc n) [] clear over = tt
+  none_here (suc n) (x ∷ xs) clear over = (clear.0, none_here n xs clear.1 over)
+
+  pub over_of : (n : ℕ) (xs : List A) → AllByRecursion (λ (x : A). p x ≡ false) xs → Over n xs
+  over_of zero xs all = all
+  over_of (suc n) [] all = tt
+  over_of (suc n) (x ∷ xs) all = over_of n xs all.1
 
 -- ---- ids
 
@@ -188,7 +242,7 @@ searched_none n held (Err at) rise is k e =
 
 -- ---- whole lines
 
-none_all : {A : Type 0} (q : A → Bool) (xs : List A) → AllByRecursion (λ (x : A). q x ≡ false) xs → position q xs ≡ None
+pub none_all : {A : Type 0} (q : A → Bool) (xs : List A) → AllByRecursion (λ (x : A). q x ≡ false) xs → position q xs ≡ None
 none_all q [] all = refl
 none_all q (x ∷ xs) all = there q x xs all.0 ∙ ap next (none_all q xs all.1)
 
@@ -243,11 +297,37 @@ ended_place p e [] clear is less = absurd (omega (arith, less))
 ended_place p zero (x ∷ held) clear is less = here p x held is
 ended_place p (suc e) (x ∷ held) clear is less = there p x held clear.0 ∙ ap next (ended_place p e held clear.1 is (omega (arith, less)))
 
-pub line_none : IsLine [] 0 0
-line_none = record { rise = tt; waits = tt; waits_within = omega arith; ended = tt; ended_within = omega arith }
+-- the ended ones, as a test of held ones
+abbrev pub Ends : Held → Bool
+Ends h = is_end h.stage
 
-pub line_pushed : (held : List Held) (n e : ℕ) (task : Held) → IsLine held n e → AllByRecursion (λ (h : Held). h.id.0 < task.id.0) held → IsLine (held ++ task ∷ []) n e
-line_pushed held n e task is below =
+-- the places of a line from which on none ended, by its last mark
+pub behind_last : (last to : ℕ) (held : List Held) → (last < length held → to ≡ last + 1) → (length held ≤ last → to ≡ length held) → Over Ends (suc last) held → Over Ends to held
+behind_last last to held next all over =
+    ⊎_elim (λ (less : last < length held). let same : to ≡ suc last = let is = next less in omega (arith, is) in subst (λ (k : ℕ). Over Ends k held) (sym same) over)
+    (λ (le : length held ≤ last). let same = all le in over_long Ends to held (omega (arith, same)))
+    (below_or last (length held))
+
+pub behind_within : (last to n : ℕ) → (last < n → to ≡ last + 1) → (n ≤ last → to ≡ n) → to ≤ n
+behind_within last to n next all =
+    ⊎_elim (λ (less : last < n). let is = next less in omega (arith, is, less)) (λ (le : n ≤ last). let same = all le in omega (arith, same)) (below_or last n)
+
+-- where the first mark is behind all places at which one may have ended, none has
+pub none_ended : (held : List Held) (last to e : ℕ) → (last < length held → to ≡ last + 1) → (length held ≤ last → to ≡ length held) → Over Ends (suc last) held → Clear Ends e held → to ≤ e
+    → AllByRecursion (λ (h : Held). is_end h.stage ≡ false) held
+none_ended held last to e next all over clear le = none_here Ends e held clear (over_high Ends to e held le (behind_last last to held next all over))
+
+pub line_none : IsLine [] 0 0 0
+line_none = record { rise = tt; waits = tt; waits_within = omega arith; ended = tt; ended_within = omega arith; behind = tt }
+
+-- the marks of the ended ones have moved on
+pub line_marked : (held : List Held) (n e l f m : ℕ) → IsLine held n e l → Clear Ends f held → f ≤ length held → Over Ends (suc m) held → IsLine held n f m
+line_marked held n e l f m is clear within over =
+    record { rise = is.rise; waits = is.waits; waits_within = is.waits_within; ended = clear; ended_within = within; behind = over }
+
+pub line_pushed : (held : List Held) (n e l m : ℕ) (task : Held) → IsLine held n e l → AllByRecursion (λ (h : Held). h.id.0 < task.id.0) held → l ≤ m → (is_end task.stage ≡ true → length held ≤ m)
+    → IsLine (held ++ task ∷ []) n e m
+line_pushed held n e l m task is below high there =
     let long = length-append held (task ∷ []) in
     let n_in = is.waits_within in
     let e_in = is.ended_within in
@@ -257,6 +337,7 @@ line_pushed held n e task is below =
       waits_within = omega (arith, long, n_in);
       ended = clear_more (λ (h : Held). is_end h.stage) e held task e_in is.ended;
       ended_within = omega (arith, long, e_in);
+      behind = over_more Ends (suc m) held task (λ e. let le = there e in omega (arith, le)) (over_high Ends (suc l) (suc m) held (omega (arith, high)) is.behind);
     }
 
 clear_left_by : (p : Held → Bool) (n m at : ℕ) (held : List Held) → (at < n) ⊎ (n ≤ at) → (at < n → m + 1 ≡ n) → (n ≤ at → m ≡ n) → Clear p n held → Clear p m (remove held at)
@@ -270,9 +351,9 @@ within_left : (n m at l k : ℕ) → (at < n) ⊎ (n ≤ at) → (at < n → m +
 within_left n m at l k (inl low) behind before less one le = let same = behind low in omega (arith, same, one, le)
 within_left n m at l k (inr high) behind before less one le = let same = before high in omega (arith, same, one, less, high)
 
-pub line_left : (held : List Held) (n e m f at : ℕ) (h : Held) → slice_get held at ≡ Some h → IsLine held n e → (at < n → m + 1 ≡ n) → (n ≤ at → m ≡ n) → (at < e → f + 1 ≡ e) → (e ≤ at → f ≡ e)
-    → IsLine (remove held at) m f
-line_left held n e m f at h is line behind before behind_e before_e =
+pub line_left : (held : List Held) (n e l m f at : ℕ) (h : Held) → slice_get held at ≡ Some h → IsLine held n e l → (at < n → m + 1 ≡ n) → (n ≤ at → m ≡ n) → (at < e → f + 1 ≡ e) → (e ≤ at → f ≡ e)
+    → IsLine (remove held at) m f l
+line_left held n e l m f at h is line behind before behind_e before_e =
     let less = slice_get_within held at h is in
     let one = less_long held at h is in
     record {
@@ -281,11 +362,12 @@ line_left held n e m f at h is line behind before behind_e before_e =
       waits_within = within_left n m at (length held) (length (remove held at)) (below_or at n) behind before less one line.waits_within;
       ended = clear_left_by (λ (h : Held). is_end h.stage) e f at held (below_or at e) behind_e before_e line.ended;
       ended_within = within_left e f at (length held) (length (remove held at)) (below_or at e) behind_e before_e less one line.ended_within;
+      behind = over_removed Ends (suc l) at held line.behind;
     }
 
-pub line_staged : (held : List Held) (n e m f at : ℕ) (stage : Stage) (p : Option Held) → slice_get held at ≡ p → IsLine held n e → m ≤ n → f ≤ e → (is_waiting stage ≡ true → m ≤ at)
-    → (is_end stage ≡ true → f ≤ at) → IsLine (staged_by held at stage p) m f
-line_staged held n e m f at stage None is line le_m le_f low_m low_f =
+pub line_staged : (held : List Held) (n e l m f k at : ℕ) (stage : Stage) (p : Option Held) → slice_get held at ≡ p → IsLine held n e l → m ≤ n → f ≤ e → l ≤ k → (is_waiting stage ≡ true → m ≤ at)
+    → (is_end stage ≡ true → f ≤ at) → (is_end stage ≡ true → at ≤ k) → IsLine (staged_by held at stage p) m f k
+line_staged held n e l m f k at stage None is line le_m le_f le_k low_m low_f high =
     let n_in = line.waits_within in
     let e_in = line.ended_within in
     record {
@@ -294,8 +376,9 @@ line_staged held n e m f at stage None is line le_m le_f low_m low_f =
       waits_within = omega (arith, n_in, le_m);
       ended = clear_less (λ (h : Held). is_end h.stage) e f held le_f line.ended;
       ended_within = omega (arith, e_in, le_f);
+      behind = over_high Ends (suc l) (suc k) held (omega (arith, le_k)) line.behind;
     }
-line_staged held n e m f at stage (Some h) is line le_m le_f low_m low_f =
+line_staged held n e l m f k at stage (Some h) is line le_m le_f le_k low_m low_f high =
     let n_in = line.waits_within in
     let e_in = line.ended_within in
     let long = as_long held at (staged stage h) in
@@ -305,13 +388,9 @@ line_staged held n e m f at stage (Some h) is line le_m le_f low_m low_f =
       waits_within = omega (arith, n_in, le_m, long);
       ended = clear_set (λ (x : Held). is_end x.stage) f at held (staged stage h) low_f (clear_less (λ (x : Held). is_end x.stage) e f held le_f line.ended);
       ended_within = omega (arith, e_in, le_f, long);
+      behind = over_set Ends (suc k) at held (staged stage h) (λ e. let le = high e in omega (arith, le)) (over_high Ends (suc l) (suc k) held (omega (arith, le_k)) line.behind);
     }
 
 -- with the list as it came to be
-pub line_is : (held new : List Held) (n e : ℕ) → new ≡ held → IsLine held n e → IsLine new n e
-line_is held new n e same is = subst (λ (x : List Held). IsLine x n e) (sym same) is
-
-pub line_after : (held : List Held) (n e : ℕ) (task : Held) (b : Bool) → IsLine held n e → AllByRecursion (λ (h : Held). h.id.0 < task.id.0) held
-    → IsLine (cond b (held ++ task ∷ []) held) n e
-line_after held n e task true is below = line_pushed held n e task is below
-line_after held n e task false is below = is
+pub line_is : (held new : List Held) (n e l : ℕ) → new ≡ held → IsLine held n e l → IsLine new n e l
+line_is held new n e l same is = subst (λ (x : List Held). IsLine x n e l) (sym same) is

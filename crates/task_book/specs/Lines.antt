@@ -1,5 +1,5 @@
 -- Held tasks in a line, in the order of their ids.
-use Rattle.std.specs.Prelude.{◌≡◌, ◌≤◌, ◌+◌, ℕ, Bool, false, true, List, [], ◌∷◌, length, take, Option, None, Some}
+use Rattle.std.specs.Prelude.{◌≡◌, ◌≤◌, ◌+◌, ℕ, suc, Bool, false, true, List, [], ◌∷◌, length, drop, take, Option, None, Some}
 use Rattle.std.specs.List.{AllByRecursion}
 use Rattle.task_book.specs.declared.task.Held.{Held}
 use Rattle.task_book.specs.declared.task.Stage.{Stage}
@@ -33,10 +33,15 @@ AreFrom n (h ∷ held) = (n ≤ h.id.0) × AreFrom (h.id.0 + 1) held
 abbrev pub NoneBefore : (Stage → Bool) → ℕ → List Held → Type 0
 NoneBefore test n held = AllByRecursion (λ h. test h.stage ≡ false) (take n held)
 
--- Ids rise. No task before the first mark waits, and none before the second came to its end.
-pub record IsLine (held : List Held) (waits_from ended_from : ℕ) : Type 0 where
+-- No task behind this place is in such a stage.
+abbrev pub NoneBehind : (Stage → Bool) → ℕ → List Held → Type 0
+NoneBehind test n held = AllByRecursion (λ h. test h.stage ≡ false) (drop (suc n) held)
+
+-- Ids rise. No task before the first mark waits, none before the second came to its end, and none behind the third.
+pub record IsLine (held : List Held) (waits_from ended_from ended_last : ℕ) : Type 0 where
   pub rise : AreFrom 0 held
   pub waits : NoneBefore is_waiting waits_from held
   pub waits_within : waits_from ≤ length held
   pub ended : NoneBefore is_end ended_from held
   pub ended_within : ended_from ≤ length held
+  pub behind : NoneBehind is_end ended_last held

@@ -20,6 +20,8 @@ pub struct Line {
     waits_from: usize,
     // No task before this place came to its end.
     ended_from: usize,
+    // Nor one behind this place.
+    ended_last: usize,
 }
 
 impl Model for Line {
@@ -31,7 +33,7 @@ impl Model for Line {
 
     ghost view = { λ l. l.tasks.items };
 
-    ghost invariant = { λ l. IsLine l.tasks.items l.waits_from l.ended_from };
+    ghost invariant = { λ l. IsLine l.tasks.items l.waits_from l.ended_from l.ended_last };
 }
 
 pub(crate) fn is_end(stage: &Stage) -> bool
@@ -56,20 +58,26 @@ fn is_run(stage: &Stage, attempt: AttemptNo) -> bool
     }
 }
 
-// Where the first task stands, from a place on, that came to its end; or how many tasks there are.
-fn ended_from(tasks: &VecDeque<Held>, from: usize) -> usize
+// Where the first task stands, from a place on and before another, that came to its end; else that
+// other place, or the first where it stands behind it.
+fn ended_between(tasks: &VecDeque<Held>, from: usize, to: usize) -> usize
     requires none { NoneBefore is_end from tasks.now.items }
-    requires within { from ≤ length tasks.now.items }
+    requires start { from ≤ length tasks.now.items }
+    requires within { to ≤ length tasks.now.items }
     ensures none { NoneBefore is_end result tasks.now.items }
     ensures within { result ≤ length tasks.now.items }
-    ensures ended { IfSome (slice_get tasks.now.items result) (λ h. is_end h.stage ≡ true) }
+    ensures ended { result < to
+        → IfSome (slice_get tasks.now.items result) (λ h. is_end h.stage ≡ true) }
 {
-    for at in from..tasks.len() {
+    if to <= from {
+        return from;
+    }
+    for at in from..to {
         if is_end(&tasks[at].stage) {
             return at;
         }
     }
-    tasks.len()
+    to
 }
 
 // Where the first task stands, from a place on, that waits; or how many tasks there are.
@@ -103,6 +111,22 @@ fn mark_with(mark: usize, at: usize, passes: bool) -> usize
     if passes { mark.min(at) } else { mark }
 }
 
+// A mark behind which none passes, once the task at a place is in a stage that passes, or isn't.
+fn last_with(mark: usize, at: usize, passes: bool) -> usize
+    ensures high { mark ≤ result }
+    ensures there { passes ≡ true → at ≤ result }
+{
+    if passes { mark.max(at) } else { mark }
+}
+
+// The place behind a mark, but no more than the count.
+fn behind(mark: usize, count: usize) -> usize
+    ensures next { mark < count → result ≡ mark + 1 }
+    ensures all { count ≤ mark → result ≡ count }
+{
+    if mark < count { mark + 1 } else { count }
+}
+
 // The task is in this stage from now on.
 fn set_stage(task: &mut Held, stage: Stage)
     ensures { task.new ≡ staged stage task.old }
@@ -128,6 +152,7 @@ impl Line {
             tasks: VecDeque::new(alloc),
             waits_from: 0,
             ended_from: 0,
+            ended_last: 0,
         }
     }
 
@@ -173,10 +198,12 @@ impl Line {
         ensures place { result ≡ place_ended self.old }
         ensures same { self.new ≡ self.old }
     {
-        self.ended_from = ended_from(&self.tasks, self.ended_from);
-        if self.ended_from < self.tasks.len() {
+        let to = behind(self.ended_last, self.tasks.len());
+        self.ended_from = ended_between(&self.tasks, self.ended_from, to);
+        if self.ended_from < to {
             Some(self.ended_from)
         } else {
+            self.ended_last = 0;
             None
         }
     }
@@ -197,8 +224,13 @@ impl Line {
         ensures ok { OnOk result (self.new ≡ self.old ++ task ∷ []) }
         ensures err { OnErr result (self.new ≡ self.old) }
     {
+        let at = self.tasks.len();
+        let last = last_with(self.ended_last, at, is_end(&task.stage));
         match self.tasks.push_back(task) {
-            Ok(()) => Ok(()),
+            Ok(()) => {
+                self.ended_last = last;
+                Ok(())
+            }
             Err(_) => Err(Memory),
         }
     }
@@ -223,6 +255,7 @@ impl Line {
     {
         self.waits_from = mark_with(self.waits_from, at, is_waiting(&stage));
         self.ended_from = mark_with(self.ended_from, at, is_end(&stage));
+        self.ended_last = last_with(self.ended_last, at, is_end(&stage));
         stage_in(&mut self.tasks, at, stage);
     }
 }

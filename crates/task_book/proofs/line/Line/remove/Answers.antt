@@ -15,8 +15,8 @@ invariant_of-self c =
     let there : slice_get items at ≡ Some task = slice_get-get_or items at task less ∙ ap (λ (h : Held). Some h) (sym c.in-Some.ensures.value) in
     let m = c.mark_without-self-inside in
     let f = c.mark_without-self-inside-2 in
-    line_is (remove items at) c.remove.new.self.items m.result f.result c.in-Some.ensures.items
-    (line_left items i.waits_from i.ended_from m.result f.result at task there c.self.invariant m.ensures.behind m.ensures.before f.ensures.behind f.ensures.before)
+    line_is (remove items at) c.remove.new.self.items m.result f.result i.ended_last c.in-Some.ensures.items
+    (line_left items i.waits_from i.ended_from i.ended_last m.result f.result at task there c.self.invariant m.ensures.behind m.ensures.before f.ensures.behind f.ensures.before)
 
 pub returns-clause-task : goal.returns-clause-task
 returns-clause-task c =
