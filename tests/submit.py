@@ -315,6 +315,16 @@ def submit_lines():
         served.ends("the end", 0, {"held": 0})
         it.byes(worker)
 
+    rounds = [b"%d" % at for at in range(8)]
+    with Crew("an input that changes and keeps its size", {"in": rounds[0]}, {f"o{at}": body for at, body in enumerate(rounds)}) as it:
+        served, worker = Served(it), it.worker()
+        for at, body in enumerate(rounds):
+            it.put("in", body)
+            line = served.task("cat in > out", f"o{at}", inputs={"in": it.path("in")})
+            served.answers(f"task {at}", {"line": line, "status": 0})
+        served.ends("the end", 0, {"held": 0})
+        it.byes(worker)
+
     for words in [(), ("0",), ("65536",), ("x",), ("9123", "9123"), (b"\xff",)]:
         with Crew(f"{SERVE}: the words {words}") as it:
             it.note("the call", outcome(it.begin(words, SERVE), 2, '{"stopped":"usage"}\n'))

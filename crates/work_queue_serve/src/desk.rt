@@ -10,6 +10,7 @@ use std::collections::BTreeMap;
 use std::fs::File;
 use std::rt::Files;
 use std::str;
+use std::time::Clock;
 use wq_submit::{Queue, Ready, Submission, SubmitRefused, TaskId};
 
 /// The most bytes of a task's outputs together.
@@ -34,6 +35,7 @@ pub struct Desk<F: Commands, H: Hall<F>> {
 }
 
 impl<F: Commands, H: Hall<F>> Desk<F, H> {
+    /// One of which nothing was asked yet.
     pub fn new(alloc: Global) -> Self {
         Desk {
             alloc,
@@ -46,7 +48,7 @@ impl<F: Commands, H: Hall<F>> Desk<F, H> {
     }
 
     /// Takes the next line.
-    pub fn take<R: Files<File = File> + AllocGlobal, O: Sink>(
+    pub fn take<R: Files<File = File> + Clock + AllocGlobal, O: Sink>(
         &mut self,
         rt: &R,
         out: &mut O,
@@ -88,7 +90,7 @@ impl<F: Commands, H: Hall<F>> Desk<F, H> {
     }
 
     // An input, whose file is taken in.
-    fn port_of<R: Files<File = File> + AllocGlobal>(
+    fn port_of<R: Files<File = File> + Clock + AllocGlobal>(
         &mut self,
         rt: &R,
         place: &Place,
@@ -113,7 +115,7 @@ impl<F: Commands, H: Hall<F>> Desk<F, H> {
     }
 
     // Submits a task. The answer is that it is refused; a task that is held has one later.
-    fn submit<R: Files<File = File> + AllocGlobal>(
+    fn submit<R: Files<File = File> + Clock + AllocGlobal>(
         &mut self,
         rt: &R,
         asked: Asked,

@@ -9,6 +9,7 @@ use std::alloc::Global;
 use std::fs::File;
 use std::rt::Files;
 use std::sync::Wait;
+use std::time::Clock;
 use wq_submit::{QueueCame, WaitFault};
 
 /// How many milliseconds it rests while no task is held. A request ends the rest.
@@ -57,7 +58,7 @@ fn take_all<F, W, H, O>(
 ) -> Result<bool, Halt>
 where
     F: Commands,
-    W: Wait + Files<File = File> + AllocGlobal,
+    W: Wait + Files<File = File> + Clock + AllocGlobal,
     H: Hall<F>,
     O: Sink,
 {
@@ -84,7 +85,7 @@ fn wait_once<F, W, H, O>(
 ) -> Result<bool, Halt>
 where
     F: Commands,
-    W: Wait + Files<File = File> + AllocGlobal,
+    W: Wait + Files<File = File> + Clock + AllocGlobal,
     H: Hall<F>,
     O: Sink,
     requires listens { H.listens hall.old }
@@ -111,7 +112,7 @@ fn serve_all<F, W, H, O>(
 ) -> Result<(), Halt>
 where
     F: Commands,
-    W: Wait + Files<File = File> + AllocGlobal,
+    W: Wait + Files<File = File> + Clock + AllocGlobal,
     H: Hall<F>,
     O: Sink,
     requires listens { H.listens hall.old }
@@ -144,7 +145,7 @@ pub fn serve<F, W, H, O>(
 ) -> Result<(), Halt>
 where
     F: Commands,
-    W: Wait + Files<File = File> + AllocGlobal,
+    W: Wait + Files<File = File> + Clock + AllocGlobal,
     H: Hall<F>,
     O: Sink,
 {
