@@ -1,5 +1,5 @@
 -- What a message from below means, by its place and its word.
-use Rattle.std.proofs.Common.{◌≡◌, ◌⊎◌, inl, inr, ℕ, ◌<◌, ◌≤◌, get_or, List, [], ◌∷◌, Option, Some, None, Result, Err, refl, sym, subst, arith}
+use Rattle.std.proofs.Common.{◌≡◌, ◌⊎◌, inl, inr, ℕ, ◌<◌, ◌≤◌, get_or, List, [], ◌∷◌, Option, Some, None, Result, Err, refl, sym, ap, ◌∙◌, subst, arith}
 use Rattle.std.specs.Prelude.{length, slice_get, slice_set}
 use Rattle.std.proofs.lemmas.Option.{slice_get_cases}
 use Rattle.flow_types.specs.declared.lists.Memory.{Memory}
@@ -12,7 +12,7 @@ use Rattle.link_session.specs.Sessions.{Comes, State, Told, told}
 use Rattle.foreman_core.specs.declared.acts.ForemanActs.{ForemanActs}
 use Rattle.foreman_core.specs.declared.links.Below.{Below}
 use Rattle.foreman_core.specs.Answers.{Leads}
-use Rattle.foreman_core.specs.Drafts.{Drafted, led_of}
+use Rattle.foreman_core.specs.Drafts.{Drafted, led_of, resumed}
 use Rattle.foreman_core.specs.Foremen.{Foreman, place_of_link, totals}
 use Rattle.foreman_core.specs.Steps.{greeted, heard_at, heard_where, hears_down, in_session, on_told, restated, settled}
 
@@ -34,6 +34,13 @@ abbrev pub Means : List Below → ℕ → Message → Result Word SessionFault �
 Means links on m answer new =
     (b : Below) → slice_get links on ≡ Some b
     → ((answer ≡ (told b.session m).answer) × (new ≡ slice_set links on (in_session b (told b.session m).state))) ⊎ (answer ≡ Err faults.Memory)
+
+-- The worker is given the session in which the message was heard.
+pub means_by : (links : List Below) (on : ℕ) (m : Message) (own session : State) (answer : Result Word SessionFault) → ((b : Below) → slice_get links on ≡ Some b → own ≡ b.session) → Comes (told own m) own answer session
+    → Means links on m answer (resumed links on session (slice_get links on))
+means_by links on m own session answer is (inl said) b got =
+    inl (said.0 ∙ ap (λ s. (told s m).answer) (is b got), ap (resumed links on session) got ∙ ap (λ s. slice_set links on (in_session b s)) (said.1 ∙ ap (λ s. (told s m).state) (is b got)))
+means_by links on m own session answer is (inr wants) b got = inr wants.0
 
 told_by_it : (f : Foreman) (k : LinkNo) (on : ℕ) (m : Message) (b : Below) (answer : Result Word SessionFault) (links : List Below) (r : Result ForemanActs Memory) (new : Foreman)
     → ((answer ≡ (told b.session m).answer) × (links ≡ slice_set f.links on (in_session b (told b.session m).state))) ⊎ (answer ≡ Err faults.Memory) → (answer ≡ (let fault : Result Word SessionFault = Err faults.Memory in fault) → ⊥)
@@ -57,7 +64,6 @@ hears_by f k on m answer links r new lt means told_it leads = by (slice_get f.li
 pub restated_by : (f : Foreman) (links others : List Below) (r : Result ForemanActs Memory) (new : Foreman) → links ≡ others → Leads (restated (record f { links = links })) f r new → Leads (restated (record f { links = others })) f r new
 restated_by f links others r new is leads = subst (λ ls. Leads (restated (record f { links = ls })) f r new) is leads
 
-pub restated_drafted : (f : Foreman) (links : List Below) (d : Drafted) (r : Result ForemanActs Memory) (new : Foreman)
-    → d ≡ (let drafted : Drafted = record { attempts = f.attempts; links = links; next = f.next; up = totals (record f { links = links }) ∷ []; down = [] } in drafted)
-    → Leads (settled (led_of f.cache d)) f r new → Leads (restated (record f { links = links })) f r new
-restated_drafted f links d r new is leads = subst (λ x. Leads (settled (led_of f.cache x)) f r new) is leads
+pub restated_drafted : (f : Foreman) (d : Drafted) (r : Result ForemanActs Memory) (new : Foreman) → d ≡ (let drafted : Drafted = record { next = f.next; up = totals f ∷ []; down = [] } in drafted)
+    → Leads (settled (led_of f.cache f.attempts f.links d)) f r new → Leads (restated f) f r new
+restated_drafted f d r new is leads = subst (λ x. Leads (settled (led_of f.cache f.attempts f.links x)) f r new) is leads

@@ -7,3 +7,5 @@ pub mod Loads
 pub mod Drafts
 pub mod Losing
 pub mod Hearing
+pub mod Undoing
+pub mod Ending

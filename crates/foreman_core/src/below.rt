@@ -1,19 +1,18 @@
 //! A foreman that hears its workers.
-ghost use Rattle.std.specs.Prelude.{◌≡◌, ◌<◌, ◌⊎◌, [], length, nat_lt, slice_get, slice_set, if◌then◌else◌, Err, IfOk, Some};
-ghost use Rattle.link_session.specs.declared.word.SessionFault.TheVariants as faults;
+ghost use Rattle.std.specs.Prelude.{◌≡◌, ◌<◌, length, nat_lt, slice_get, slice_set, if◌then◌else◌, IfOk, Some};
 ghost use Rattle.link_session.specs.Sessions.{told};
-ghost use Rattle.foreman_core.specs.declared.links.Below.{Below as Worker};
+ghost use Rattle.foreman_core.specs.declared.links.Upstream.{Upstream as Attempt};
 ghost use Rattle.foreman_core.specs.Answers.{HearsDown, Leads};
+ghost use Rattle.foreman_core.specs.Drafts.{resumed};
 ghost use Rattle.foreman_core.specs.Foremen.{joined, most_links};
-ghost use Rattle.foreman_core.specs.Steps.{drops, ends_at, greeted, heard_at, hears_down, in_session, kept_at, new_session, on_word, outcome_in, puts_again, restated, restates_at, sending, stated_at, with_attempt};
+ghost use Rattle.foreman_core.specs.Steps.{drops, ends_at, greeted, heard_at, hears_down, kept_at, new_session, on_word, outcome_in, puts_again, restated, restates_at, stated_at, with_attempt};
 
 use crate::acts::ForemanActs;
-use crate::copies::{attempts_of, links_of, renumber};
+use crate::copies::renumber;
 use crate::draft::Draft;
 use crate::foreman::ForemanCore;
-use crate::links::{Below, find_at, find_link, join};
-use crate::pins::release;
-use crate::sending::{send_all, tell};
+use crate::links::{Below, Spot, Upstream, exchange_in, find_at, find_link, join, resume_in};
+use crate::sending::send_all;
 use flow_types::{Amounts, AttemptNo, FileNo, LinkNo, Memory, Message, Outcome, Rows};
 use link_session::{Session, SessionFault, Word};
 use std::alloc::Global;
@@ -32,19 +31,6 @@ fn outcome_of(alloc: Global, message: &View<'_>) -> Result<Outcome, Memory>
     }
 }
 
-// What a message of the worker at a place means.
-fn hear_at(links: &mut Vec<Below>, on: usize, message: &View<'_>) -> Result<Word, SessionFault>
-    requires { on < length links.old.items }
-    ensures count { length links.new.items ≡ length links.old.items }
-    ensures told { (b : Worker) → slice_get links.old.items on ≡ Some b
-        → ((result ≡ (told b.session message.now).answer)
-        × (links.new.items
-        ≡ slice_set links.old.items on (in_session b (told b.session message.now).state)))
-        ⊎ (result ≡ Err faults.Memory) }
-{
-    links[on].session.on_message(message)
-}
-
 // The worker at a place states something else from now on.
 fn state_at(links: &mut [Below], on: usize, total: Amounts, largest: Amounts, cache: u64)
     requires { on < length links.old }
@@ -56,79 +42,72 @@ fn state_at(links: &mut [Below], on: usize, total: Amounts, largest: Amounts, ca
     b.cache = cache;
 }
 
+// The same in a list of workers.
+fn state_in(links: &mut Vec<Below>, on: usize, total: Amounts, largest: Amounts, cache: u64)
+    requires { on < length links.old.items }
+    ensures { links.new.items
+        ≡ stated_at links.old.items on (slice_get links.old.items on) total largest cache }
+{
+    state_at(links, on, total, largest, cache);
+}
+
+// The attempt at a place is placed here.
+#[tactic(auto, using(crate::proofs::Undoing::respotted_past))]
+fn respot(attempts: &mut Vec<Upstream>, at: usize, spot: Option<Spot>)
+    ensures { (u : Attempt) → slice_get attempts.old.items at ≡ Some u → attempts.new.items
+        ≡ slice_set attempts.old.items at (record { task = u.task; spot = spot }) }
+{
+    if at < attempts.len() {
+        attempts[at].spot = spot;
+    }
+}
+
 impl ForemanCore {
-    // Nothing is done but that the sessions are these.
-    fn keep_links(&mut self, links: Vec<Below>) -> ForemanActs
-        ensures acts { result ≡ sending [] [] }
-        ensures foreman { self.new ≡ record self.old { links = links.items } }
-    {
-        self.links = links;
-        ForemanActs::none(self.alloc)
-    }
-
-    // The attempt at a place ended below.
-    fn end_at(
-        &mut self,
-        links: Vec<Below>,
-        at: usize,
-        outcome: Outcome,
-    ) -> Result<ForemanActs, Memory>
-        requires { at < length self.old.attempts }
-        ensures { Leads (ends_at (record self.old { links = links.items }) outcome at
-            (slice_get self.old.attempts at)) self.old result self.new }
-    {
-        let mut attempts = attempts_of(self.alloc, &self.attempts)?;
-        let ended = attempts.remove(at);
-        let mut draft = Draft::of(self.alloc, attempts, links, self.next);
-        let attempt = ended.task.attempt;
-        tell(&mut draft.up, Message::Done { attempt, outcome })?;
-        let acts = self.finish(draft)?;
-        release(&mut self.cache, &ended);
-        Ok(acts)
-    }
-
     // An attempt ended below.
     fn end(
         &mut self,
-        links: Vec<Below>,
         link: LinkNo,
         number: AttemptNo,
         outcome: Outcome,
     ) -> Result<ForemanActs, Memory>
-        ensures { Leads (with_attempt (record self.old { links = links.items }) link number
-            (ends_at (record self.old { links = links.items }) outcome)) self.old result self.new }
+        ensures { Leads (with_attempt self.old link number (ends_at self.old outcome)) self.old
+            result self.new }
     {
-        match find_at(&self.attempts, link, number) {
-            Some(at) => self.end_at(links, at, outcome),
-            None => Ok(self.keep_links(links)),
-        }
+        let Some(at) = find_at(&self.attempts, link, number) else {
+            return Ok(ForemanActs::none(self.alloc));
+        };
+        let attempt = self.attempts[at].task.attempt;
+        let mut draft = Draft::of(self.alloc, self.next);
+        draft.tell(Message::Done { attempt, outcome })?;
+        self.end_at(draft, at)
     }
 
     // The attempt at a place came to no end below.
-    fn keep_at(&mut self, links: Vec<Below>, at: usize) -> Result<ForemanActs, Memory>
+    fn keep_at(&mut self, at: usize) -> Result<ForemanActs, Memory>
         requires { at < length self.old.attempts }
-        ensures { Leads (kept_at (record self.old { links = links.items }) at
-            (slice_get self.old.attempts at)) self.old result self.new }
+        ensures { Leads (kept_at self.old at (slice_get self.old.attempts at)) self.old result
+            self.new }
     {
-        let mut attempts = attempts_of(self.alloc, &self.attempts)?;
-        attempts[at].spot = None;
-        let draft = Draft::of(self.alloc, attempts, links, self.next);
-        self.finish(draft)
+        let draft = Draft::of(self.alloc, self.next);
+        let spot = self.attempts[at].spot;
+        respot(&mut self.attempts, at, None);
+        match self.finish(draft) {
+            Ok(acts) => Ok(acts),
+            Err(_) => {
+                respot(&mut self.attempts, at, spot);
+                Err(Memory)
+            }
+        }
     }
 
     // An attempt came to no end below.
-    fn keep(
-        &mut self,
-        links: Vec<Below>,
-        link: LinkNo,
-        number: AttemptNo,
-    ) -> Result<ForemanActs, Memory>
-        ensures { Leads (with_attempt (record self.old { links = links.items }) link number
-            (kept_at (record self.old { links = links.items }))) self.old result self.new }
+    fn keep_on(&mut self, link: LinkNo, number: AttemptNo) -> Result<ForemanActs, Memory>
+        ensures { Leads (with_attempt self.old link number (kept_at self.old)) self.old result
+            self.new }
     {
         match find_at(&self.attempts, link, number) {
-            Some(at) => self.keep_at(links, at),
-            None => Ok(self.keep_links(links)),
+            Some(at) => self.keep_at(at),
+            None => Ok(ForemanActs::none(self.alloc)),
         }
     }
 
@@ -153,95 +132,119 @@ impl ForemanCore {
     // The worker lacks these inputs of an attempt.
     fn put_again(
         &mut self,
-        links: Vec<Below>,
         link: LinkNo,
         number: AttemptNo,
         files: &[FileNo],
     ) -> Result<ForemanActs, Memory>
-        ensures { Leads (with_attempt (record self.old { links = links.items }) link number
-            (λ at u. puts_again (record self.old { links = links.items }) link number files.now u))
-            self.old result self.new }
+        ensures { Leads (with_attempt self.old link number
+            (λ at u. puts_again self.old link number files.now u)) self.old result self.new }
     {
         match find_at(&self.attempts, link, number) {
-            Some(at) => {
-                let acts = self.put_at(at, link, number, files)?;
-                self.links = links;
-                Ok(acts)
-            }
-            None => Ok(self.keep_links(links)),
+            Some(at) => self.put_at(at, link, number, files),
+            None => Ok(ForemanActs::none(self.alloc)),
         }
     }
 
-    // The workers are these from now on, and what they are together is told.
-    fn state_anew(&mut self, links: Vec<Below>) -> Result<ForemanActs, Memory>
-        ensures { Leads (restated (record self.old { links = links.items })) self.old result
-            self.new }
+    // What the workers are together is told.
+    fn state_anew(&mut self) -> Result<ForemanActs, Memory>
+        ensures { Leads (restated self.old) self.old result self.new }
     {
-        let attempts = attempts_of(self.alloc, &self.attempts)?;
-        let mut draft = Draft::of(self.alloc, attempts, links, self.next);
-        draft.state(self.cache.cap())?;
+        let mut draft = Draft::of(self.alloc, self.next);
+        draft.state(&self.links, self.cache.cap())?;
         self.finish(draft)
     }
 
     // The worker at a place states something else from now on.
     fn restate(
         &mut self,
-        links: Vec<Below>,
         on: usize,
         total: Amounts,
         largest: Amounts,
         cache: u64,
     ) -> Result<ForemanActs, Memory>
-        requires { on < length links.items }
-        ensures { Leads (restates_at (record self.old { links = links.items }) on total largest
-            cache) self.old result self.new }
+        requires { on < length self.old.links }
+        ensures { Leads (restates_at self.old on total largest cache) self.old result self.new }
     {
-        let mut links = links;
-        state_at(&mut links, on, total, largest, cache);
-        self.state_anew(links)
+        let b = &self.links[on];
+        let (total_before, largest_before, cache_before) = (b.total, b.largest, b.cache);
+        state_in(&mut self.links, on, total, largest, cache);
+        match self.state_anew() {
+            Ok(acts) => Ok(acts),
+            Err(_) => {
+                state_in(
+                    &mut self.links,
+                    on,
+                    total_before,
+                    largest_before,
+                    cache_before,
+                );
+                Err(Memory)
+            }
+        }
     }
 
-    // What a word of a worker's session means, once the sessions are these.
+    // What a word of a worker's session means, once the session is as it is then.
     fn on_word(
         &mut self,
-        links: Vec<Below>,
         link: LinkNo,
         on: usize,
         message: &View<'_>,
         word: Word,
     ) -> Result<ForemanActs, Memory>
-        requires { on < length links.items }
-        ensures { Leads (on_word (record self.old { links = links.items }) link on message.now word)
-            self.old result self.new }
+        requires { on < length self.old.links }
+        ensures { Leads (on_word self.old link on message.now word) self.old result self.new }
     {
         match word {
             Word::Changed {
                 total,
                 largest,
                 cache,
-            } => self.restate(links, on, total, largest, cache),
+            } => self.restate(on, total, largest, cache),
             Word::Finish(number) => {
                 let outcome = outcome_of(self.alloc, message)?;
-                self.end(links, link, number, outcome)
+                self.end(link, number, outcome)
             }
-            Word::Fail(number, why) => self.end(links, link, number, Outcome::Failed(why)),
-            Word::Lose(number) => self.keep(links, link, number),
-            Word::PutAgain { attempt, files } => {
-                self.put_again(links, link, attempt, files.as_slice())
-            }
-            Word::Joined { .. } | Word::Stale(_) => Ok(self.keep_links(links)),
+            Word::Fail(number, why) => self.end(link, number, Outcome::Failed(why)),
+            Word::Lose(number) => self.keep_on(link, number),
+            Word::PutAgain { attempt, files } => self.put_again(link, attempt, files.as_slice()),
+            Word::Joined { .. } | Word::Stale(_) => Ok(ForemanActs::none(self.alloc)),
         }
     }
 
-    // A message of the worker at a place.
+    // The worker at a place has this session from now on, and this is what its word means. Without
+    // memory it has its own again.
+    fn turn(
+        &mut self,
+        link: LinkNo,
+        on: usize,
+        session: Session,
+        message: &View<'_>,
+        word: Word,
+    ) -> Result<ForemanActs, Memory>
+        requires { on < length self.old.links }
+        ensures { Leads (on_word (record self.old {
+          links = resumed self.old.links on session (slice_get self.old.links on);
+        }) link on message.now word) self.old result self.new }
+    {
+        let own = exchange_in(&mut self.links, on, session);
+        match self.on_word(link, on, message, word) {
+            Ok(acts) => Ok(acts),
+            Err(_) => {
+                resume_in(&mut self.links, on, own);
+                Err(Memory)
+            }
+        }
+    }
+
+    // A message of the worker at a place. It is heard in a copy of its session.
     fn hear(&mut self, link: LinkNo, on: usize, message: &View<'_>) -> Result<ForemanActs, Memory>
         requires { on < length self.old.links }
         ensures { Leads (heard_at self.old link on message.now (slice_get self.old.links on))
             self.old result self.new }
     {
-        let mut links = links_of(self.alloc, &self.links)?;
-        match hear_at(&mut links, on, message) {
-            Ok(word) => self.on_word(links, link, on, message, word),
+        let mut session = self.links[on].session.copy()?;
+        match session.on_message(message) {
+            Ok(word) => self.turn(link, on, session, message, word),
             Err(SessionFault::Unexpected) => self.leave(link),
             Err(SessionFault::Memory) => Err(Memory),
         }
@@ -252,9 +255,14 @@ impl ForemanCore {
         ensures { Leads (restated (record self.old { links = joined b self.old.links })) self.old
             result self.new }
     {
-        let mut links = links_of(self.alloc, &self.links)?;
-        join(&mut links, b)?;
-        self.state_anew(links)
+        let on = join(&mut self.links, b)?;
+        match self.state_anew() {
+            Ok(acts) => Ok(acts),
+            Err(_) => {
+                let _joined = self.links.remove(on);
+                Err(Memory)
+            }
+        }
     }
 
     // A worker joins, unless as many are there as may be.
@@ -307,7 +315,10 @@ impl ForemanCore {
 
     /// What the foreman does on a message from the worker at a link. A first message has to be a
     /// Hello; where it isn't, where 32 other workers are there, and where a worker speaks out of
-    /// turn, the link is to be left, and is lost. Without memory nothing changes.
+    /// turn, the link is to be left, and is lost. Without memory nothing changes. It costs one copy
+    /// of this worker's session, and one of a worker's session for each task that is sent to it
+    /// then: 31 other workers that hold much make no message dearer. Where the link is lost it costs
+    /// what `on_lost` does.
     pub fn on_down(&mut self, link: LinkNo, message: &View<'_>) -> Result<ForemanActs, PeerFault>
         ensures { HearsDown (hears_down self.old link message.now) self.old result self.new }
     {

@@ -1,8 +1,7 @@
-//! Equal copies of tasks, attempts and workers.
+//! Equal copies of tasks.
 ghost use Rattle.std.specs.Prelude.{◌≡◌, IfOk};
 ghost use Rattle.foreman_core.specs.Steps.{renumbered};
 
-use crate::links::{Below, Upstream};
 use flow_types::{AttemptNo, Memory, Pair, Port, Rows, Task, Want};
 use std::alloc::Global;
 
@@ -65,46 +64,4 @@ pub(crate) fn renumber(alloc: Global, task: &Task, number: AttemptNo) -> Result<
         inputs,
         outputs,
     })
-}
-
-/// Equal attempts.
-pub(crate) fn attempts_of(alloc: Global, attempts: &[Upstream]) -> Result<Vec<Upstream>, Memory>
-    ensures { IfOk result (λ copies. copies.items ≡ attempts.now) }
-{
-    let mut copies = Vec::new(alloc);
-    for u in attempts {
-        let task = renumber(alloc, &u.task, u.task.attempt)?;
-        let spot = u.spot;
-        if copies.push(Upstream { task, spot }).is_err() {
-            return Err(Memory);
-        }
-    }
-    Ok(copies)
-}
-
-fn copy_of(b: &Below) -> Result<Below, Memory>
-    ensures { IfOk result (λ copy. copy ≡ b.now) }
-{
-    let session = b.session.copy()?;
-    Ok(Below {
-        link: b.link,
-        total: b.total,
-        largest: b.largest,
-        cache: b.cache,
-        session,
-    })
-}
-
-/// Equal workers.
-pub(crate) fn links_of(alloc: Global, links: &[Below]) -> Result<Vec<Below>, Memory>
-    ensures { IfOk result (λ copies. copies.items ≡ links.now) }
-{
-    let mut copies = Vec::new(alloc);
-    for b in links {
-        let copy = copy_of(b)?;
-        if copies.push(copy).is_err() {
-            return Err(Memory);
-        }
-    }
-    Ok(copies)
 }

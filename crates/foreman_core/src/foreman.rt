@@ -1,15 +1,16 @@
 //! The foreman.
-ghost use Rattle.std.specs.Prelude.{◌≡◌, ◌<◌, length, slice_get, IfOk};
+ghost use Rattle.std.specs.Prelude.{◌≡◌, ◌<◌, ◌∷◌, [], ◌++◌, length, remove, slice_get, IfOk, Some};
+ghost use Rattle.foreman_core.specs.declared.links.Upstream.{Upstream as Attempt};
 ghost use Rattle.foreman_core.specs.Answers.{HearsUp, Leads};
-ghost use Rattle.foreman_core.specs.Drafts.{drafted, led_of};
-ghost use Rattle.foreman_core.specs.Foremen.{new_foreman, totals};
-ghost use Rattle.foreman_core.specs.Steps.{cancels, cancels_at, hears_put, hears_task, hears_up, misses, settled, takes};
+ghost use Rattle.foreman_core.specs.Drafts.{led_of};
+ghost use Rattle.foreman_core.specs.Foremen.{kept, new_foreman, totals};
+ghost use Rattle.foreman_core.specs.Steps.{cancels, cancels_at, closed_by, closed_on, hears_put, hears_task, hears_up, holding, misses, quiet, released, settled, takes};
 ghost use Rattle.worker_core.specs.Workers.{goes_up};
 
 use crate::acts::ForemanActs;
-use crate::copies::{attempts_of, links_of, renumber};
-use crate::draft::Draft;
-use crate::links::{Below, Upstream, find};
+use crate::copies::renumber;
+use crate::draft::{Draft, without};
+use crate::links::{Below, Spot, Upstream, close_in, find, find_link, resume_in};
 use crate::pins::release;
 use crate::totals::stated;
 use flow_types::{AttemptNo, Bytes, Key, Memory, Message, Task};
@@ -65,42 +66,35 @@ impl ForemanCore {
         stated(self.links.as_slice(), self.cache.cap())
     }
 
-    // A step on copies, with nothing to be sent yet.
-    pub(crate) fn draft(&self) -> Result<Draft, Memory>
-        ensures { IfOk result (λ draft. draft ≡ drafted self.now) }
-    {
-        let attempts = attempts_of(self.alloc, &self.attempts)?;
-        let links = links_of(self.alloc, &self.links)?;
-        Ok(Draft::of(self.alloc, attempts, links, self.next))
-    }
-
-    // The step is done.
-    fn commit(&mut self, draft: Draft) -> ForemanActs
-        ensures acts { result ≡ (led_of self.old.cache draft).acts }
-        ensures foreman { self.new ≡ (led_of self.old.cache draft).foreman }
-    {
-        let Draft {
-            alloc: _,
-            attempts,
-            links,
-            next,
-            up,
-            down,
-        } = draft;
-        self.attempts = attempts;
-        self.links = links;
-        self.next = next;
-        ForemanActs::sending(up, down)
-    }
-
     // What isn't placed is placed where it fits, and the step is done.
     pub(crate) fn finish(&mut self, draft: Draft) -> Result<ForemanActs, Memory>
-        ensures step { Leads (settled (led_of self.old.cache draft)) self.old result self.new }
+        ensures step { Leads (settled (led_of self.old.cache self.old.attempts self.old.links
+            draft)) self.old result self.new }
         ensures cache { self.new.cache ≡ self.old.cache }
     {
         let mut draft = draft;
-        draft.settle(&self.cache)?;
-        Ok(self.commit(draft))
+        draft.settle(&self.cache, &mut self.attempts, &mut self.links)?;
+        Ok(draft.done(&mut self.next))
+    }
+
+    // The attempt at a place ends: the others are placed where they fit, and its pins go back.
+    pub(crate) fn end_at(&mut self, draft: Draft, at: usize) -> Result<ForemanActs, Memory>
+        requires { at < length self.old.attempts }
+        ensures { (u : Attempt) → slice_get self.old.attempts at ≡ Some u
+            → Leads (holding (settled (led_of self.old.cache (remove self.old.attempts at)
+            self.old.links draft)) (released self.old.cache.rows u)) self.old result self.new }
+    {
+        let mut draft = draft;
+        let ended = without(
+            &mut draft,
+            &self.cache,
+            &mut self.attempts,
+            &mut self.links,
+            at,
+        )?;
+        let acts = draft.done(&mut self.next);
+        release(&mut self.cache, &ended);
+        Ok(acts)
     }
 
     // Keeps a content. One for which there is no room is dropped.
@@ -113,13 +107,32 @@ impl ForemanCore {
         }
     }
 
+    // One more attempt behind the others, which is placed where it fits.
+    fn keep(&mut self, task: &Task) -> Result<ForemanActs, Memory>
+        ensures step { Leads (settled (quiet (record self.old {
+          attempts = self.old.attempts ++ kept task.now ∷ [];
+        }))) self.old result self.new }
+        ensures cache { self.new.cache ≡ self.old.cache }
+    {
+        let count = self.attempts.len();
+        let task = renumber(self.alloc, task, task.attempt)?;
+        if self.attempts.push(Upstream { task, spot: None }).is_err() {
+            return Err(Memory);
+        }
+        match self.finish(Draft::of(self.alloc, self.next)) {
+            Ok(acts) => Ok(acts),
+            Err(_) => {
+                self.attempts.truncate(count);
+                Err(Memory)
+            }
+        }
+    }
+
     // Takes an attempt whose inputs are held.
     fn take(&mut self, task: &Task) -> Result<ForemanActs, Memory>
         ensures { Leads (takes self.old task.now) self.old result self.new }
     {
-        let mut draft = self.draft()?;
-        draft.keep(task)?;
-        let acts = self.finish(draft)?;
+        let acts = self.keep(task)?;
         pin_all(&mut self.cache, task.run, task.inputs.as_slice());
         Ok(acts)
     }
@@ -152,17 +165,61 @@ impl ForemanCore {
         }
     }
 
+    // The same, once the attempt is closed in the session of the worker at another place.
+    fn end_on(
+        &mut self,
+        draft: Draft,
+        at: usize,
+        on: usize,
+        number: AttemptNo,
+    ) -> Result<ForemanActs, Memory>
+        requires attempt { at < length self.old.attempts }
+        requires worker { on < length self.old.links }
+        ensures { (u : Attempt) → slice_get self.old.attempts at ≡ Some u
+            → Leads (holding (settled (led_of self.old.cache (remove self.old.attempts at)
+            (closed_by self.old.links number on (slice_get self.old.links on)) draft))
+            (released self.old.cache.rows u)) self.old result self.new }
+    {
+        let session = self.links[on].session.copy()?;
+        close_in(&mut self.links, on, number);
+        match self.end_at(draft, at) {
+            Ok(acts) => Ok(acts),
+            Err(_) => {
+                resume_in(&mut self.links, on, session);
+                Err(Memory)
+            }
+        }
+    }
+
+    // The same, once the attempt is closed where it is placed.
+    fn end_placed(&mut self, draft: Draft, at: usize, spot: Spot) -> Result<ForemanActs, Memory>
+        requires { at < length self.old.attempts }
+        ensures { (u : Attempt) → slice_get self.old.attempts at ≡ Some u
+            → Leads (holding (settled (led_of self.old.cache (remove self.old.attempts at)
+            (closed_on self.old.links (Some spot)) draft)) (released self.old.cache.rows u))
+            self.old result self.new }
+    {
+        match find_link(&self.links, spot.link) {
+            Some(on) => self.end_on(draft, at, on, spot.number),
+            None => self.end_at(draft, at),
+        }
+    }
+
     // The attempt at a place goes back as not run, and is cancelled where it is placed.
     fn cancel_at(&mut self, at: usize) -> Result<ForemanActs, Memory>
         requires { at < length self.old.attempts }
         ensures { Leads (cancels_at self.old at (slice_get self.old.attempts at)) self.old result
             self.new }
     {
-        let mut draft = self.draft()?;
-        let ended = draft.cancel(at)?;
-        let acts = self.finish(draft)?;
-        release(&mut self.cache, &ended);
-        Ok(acts)
+        let mut draft = Draft::of(self.alloc, self.next);
+        draft.tell_not_run(&self.attempts[at])?;
+        match self.attempts[at].spot {
+            Some(spot) => {
+                draft.cancel(spot)?;
+                self.end_placed(draft, at, spot)
+            }
+            None => self.end_at(draft, at),
+        }
     }
 
     fn cancel(&mut self, attempt: AttemptNo) -> Result<ForemanActs, Memory>
@@ -175,7 +232,8 @@ impl ForemanCore {
     }
 
     /// What the foreman does on a message from its parent. A message that only goes up is
-    /// unexpected. Without memory nothing changes.
+    /// unexpected. Without memory nothing changes. It costs one copy of a worker's session for each
+    /// task and each Cancel that is sent to it, and touches no other worker's session.
     pub fn on_up(&mut self, message: Message) -> Result<ForemanActs, PeerFault>
         ensures { HearsUp (goes_up message) (hears_up self.old message) self.old result self.new }
     {

@@ -12,6 +12,7 @@ mod links;
 mod lost;
 mod parting;
 mod pins;
+mod placed;
 mod room;
 mod sending;
 mod totals;

@@ -1,10 +1,13 @@
 //! A foreman's workers, and the attempts from above.
-ghost use Rattle.std.specs.Prelude.{◌≡◌, ◌<◌, length, nat_lt, position, slice_get, IfSome, OnOk, Some};
-ghost use Rattle.foreman_core.specs.Foremen.{is_at, joined, place_of, place_of_link};
-ghost use Rattle.foreman_core.specs.Steps.{closed_by, closed_on};
+ghost use Rattle.std.specs.Prelude.{◌≡◌, ◌<◌, ◌≤◌, insert, length, nat_lt, position, remove, slice_get, IfOk, IfSome, OnErr, OnOk, Some};
+ghost use Rattle.foreman_core.specs.declared.links.Below.{Below as Worker};
+ghost use Rattle.foreman_core.specs.Drafts.{resumed};
+ghost use Rattle.foreman_core.specs.Foremen.{is_at, joined, joined_at, place_of, place_of_link};
+ghost use Rattle.foreman_core.specs.Steps.{closed_by};
 
 use flow_types::{Amounts, AttemptNo, LinkNo, Memory, Task};
 use link_session::Session;
+use std::mem::replace;
 
 /// Where an attempt is placed, and its number there.
 #[derive(Clone, Copy)]
@@ -64,6 +67,42 @@ pub(crate) fn find_link(links: &[Below], link: LinkNo) -> Option<usize>
     links.iter().position(|b| b.link.0 == link.0)
 }
 
+/// Gives the worker at a place this session, and its own comes back.
+pub(crate) fn exchange(links: &mut [Below], on: usize, session: Session) -> Session
+    requires { on < length links.old }
+    ensures links { links.new ≡ resumed links.old on session (slice_get links.old on) }
+    ensures own { (b : Worker) → slice_get links.old on ≡ Some b → result ≡ b.session }
+{
+    replace(&mut links[on].session, session)
+}
+
+/// The same in a list of workers.
+pub(crate) fn exchange_in(links: &mut Vec<Below>, on: usize, session: Session) -> Session
+    requires { on < length links.old.items }
+    ensures links { links.new.items
+        ≡ resumed links.old.items on session (slice_get links.old.items on) }
+    ensures own { (b : Worker) → slice_get links.old.items on ≡ Some b → result ≡ b.session }
+{
+    exchange(links, on, session)
+}
+
+/// The worker at a place has this session.
+#[tactic(auto, using(crate::proofs::Undoing::resumed_past))]
+pub(crate) fn resume(links: &mut [Below], on: usize, session: Session)
+    ensures { links.new ≡ resumed links.old on session (slice_get links.old on) }
+{
+    if on < links.len() {
+        links[on].session = session;
+    }
+}
+
+/// The same in a list of workers.
+pub(crate) fn resume_in(links: &mut Vec<Below>, on: usize, session: Session)
+    ensures { links.new.items ≡ resumed links.old.items on session (slice_get links.old.items on) }
+{
+    resume(links, on, session);
+}
+
 fn close_at(links: &mut [Below], on: usize, number: AttemptNo)
     requires { on < length links.old }
     ensures { links.new ≡ closed_by links.old number on (slice_get links.old on) }
@@ -71,13 +110,12 @@ fn close_at(links: &mut [Below], on: usize, number: AttemptNo)
     let _open = links[on].session.cancel(number);
 }
 
-/// Closes an attempt where it is placed.
-pub(crate) fn close(links: &mut [Below], spot: Spot)
-    ensures { links.new ≡ closed_on links.old (Some spot) }
+/// Closes an attempt in the session of the worker at a place.
+pub(crate) fn close_in(links: &mut Vec<Below>, on: usize, number: AttemptNo)
+    requires { on < length links.old.items }
+    ensures { links.new.items ≡ closed_by links.old.items number on (slice_get links.old.items on) }
 {
-    if let Some(on) = find_link(links, spot.link) {
-        close_at(links, on, spot.number);
-    }
+    close_at(links, on, number);
 }
 
 // Where the first worker stands with a link above this one.
@@ -88,16 +126,29 @@ fn find_above(links: &[Below], link: LinkNo) -> Option<usize>
     links.iter().position(|other| link.0 < other.link.0)
 }
 
-/// One more worker, ascending by link.
-pub(crate) fn join(links: &mut Vec<Below>, b: Below) -> Result<(), Memory>
-    ensures { OnOk result (links.new.items ≡ joined b links.old.items) }
+// Where a worker at a link is to stand among these, ascending by link.
+fn rank(links: &[Below], link: LinkNo) -> usize
+    ensures joined { (b : Worker) → insert links.now result b
+        ≡ joined_at b links.now (position (λ other. nat_lt link.0 other.link.0) links.now) }
+    ensures within { result ≤ length links.now }
 {
-    let done = match find_above(links, b.link) {
-        Some(on) => links.insert(on, b),
-        None => links.push(b),
-    };
-    match done {
-        Ok(()) => Ok(()),
-        Err(_) => Err(Memory),
+    match find_above(links, link) {
+        Some(on) => on,
+        None => links.len(),
     }
+}
+
+/// One more worker, ascending by link, and where it stands.
+#[tactic(auto, using(crate::proofs::Undoing::remove_inserted))]
+pub(crate) fn join(links: &mut Vec<Below>, b: Below) -> Result<usize, Memory>
+    ensures joined { OnOk result (links.new.items ≡ joined b links.old.items) }
+    ensures place { IfOk result (λ on. on < length links.new.items) }
+    ensures without { IfOk result (λ on. remove links.new.items on ≡ links.old.items) }
+    ensures err { OnErr result (links.new.items ≡ links.old.items) }
+{
+    let on = rank(links, b.link);
+    if links.insert(on, b).is_err() {
+        return Err(Memory);
+    }
+    Ok(on)
 }

@@ -1,66 +1,106 @@
 //! A foreman whose links are lost.
-ghost use Rattle.std.specs.Prelude.{◌≡◌, filter, IfOk};
+ghost use Rattle.std.specs.Prelude.{◌≡◌, IfOk, OnErr};
+ghost use Rattle.std.specs.Vec.{vec_capacity};
 ghost use Rattle.foreman_core.specs.Answers.{Leads};
-ghost use Rattle.foreman_core.specs.Drafts.{lost_draft};
-ghost use Rattle.foreman_core.specs.Foremen.{is_forsaken};
+ghost use Rattle.foreman_core.specs.Drafts.{led_of, parted};
+ghost use Rattle.foreman_core.specs.Foremen.{others};
 ghost use Rattle.foreman_core.specs.Steps.{drops, lost, loses};
 
 use crate::acts::ForemanActs;
-use crate::draft::Draft;
+use crate::draft::{Draft, put_back};
 use crate::foreman::ForemanCore;
-use crate::links::{Upstream, find_link};
-use crate::parting::{gone_of, others_of, stay_of};
+use crate::links::{Below, Upstream, find_link};
+use crate::parting::{gone_of, stay_of};
 use crate::pins::release_all;
 use flow_types::{LinkNo, Memory};
+use std::alloc::Global;
+use worker_cache::Cache;
 
-/// A step on what a lost link leaves, and the attempts that no worker is left for.
-#[derive(Drop)]
-pub(crate) struct Leaving {
-    pub(crate) draft: Draft,
-    pub(crate) gone: Vec<Upstream>,
+// The totals of these workers go up, and what is gone, and the other attempts are placed where they
+// fit. Without memory the workers are as before.
+fn part(
+    alloc: Global,
+    next: u128,
+    cache: &Cache,
+    gone: &[Upstream],
+    stay: &mut Vec<Upstream>,
+    links: &mut Vec<Below>,
+) -> Result<Draft, Memory>
+    ensures parted { IfOk result (λ draft. led_of cache.now stay.new.items links.new.items draft
+        ≡ parted (record {
+          cache = cache.now;
+          attempts = stay.old.items;
+          links = links.old.items;
+          next = next;
+        }) gone.now) }
+    ensures err { OnErr result (links.new.items ≡ links.old.items) }
+    ensures capacity { vec_capacity links.new ≡ vec_capacity links.old }
+{
+    let mut draft = Draft::of(alloc, next);
+    draft.state(links, cache.cap())?;
+    draft.tell_all(gone)?;
+    draft.settle(cache, stay, links)?;
+    Ok(draft)
+}
+
+// The same without the workers at a link. Without memory they stand there again.
+fn part_from(
+    alloc: Global,
+    next: u128,
+    cache: &Cache,
+    gone: &[Upstream],
+    stay: &mut Vec<Upstream>,
+    links: &mut Vec<Below>,
+    link: LinkNo,
+) -> Result<Draft, Memory>
+    ensures parted { IfOk result (λ draft. led_of cache.now stay.new.items links.new.items draft
+        ≡ parted (record {
+          cache = cache.now;
+          attempts = stay.old.items;
+          links = others link links.old.items;
+          next = next;
+        }) gone.now) }
+    ensures err { OnErr result (links.new.items ≡ links.old.items) }
+    ensures capacity { vec_capacity links.new ≡ vec_capacity links.old }
+{
+    let Some(on) = find_link(links, link) else {
+        return part(alloc, next, cache, gone, stay, links);
+    };
+    let lost = links.remove(on);
+    match part_from(alloc, next, cache, gone, stay, links, link) {
+        Ok(draft) => Ok(draft),
+        Err(_) => {
+            put_back(links, on, lost);
+            Err(Memory)
+        }
+    }
 }
 
 impl ForemanCore {
-    // The step of a lost link, before anything is placed anew.
-    fn without(&self, link: LinkNo) -> Result<Leaving, Memory>
-        ensures draft { IfOk result (λ left. left.draft ≡ lost_draft self.now link) }
-        ensures gone { IfOk result (λ left. left.gone.items
-            ≡ filter (is_forsaken self.now link) self.now.attempts) }
-    {
-        let others = others_of(self.alloc, &self.links, link)?;
-        let gone = gone_of(
-            self.alloc,
-            &self.cache,
-            &self.links,
-            &others,
-            &self.attempts,
-        )?;
-        let stay = stay_of(
-            self.alloc,
-            &self.cache,
-            &self.links,
-            &others,
-            &self.attempts,
-            link,
-        )?;
-        let mut draft = Draft::of(self.alloc, stay, others, self.next);
-        draft.state(self.cache.cap())?;
-        draft.tell_all(&gone)?;
-        Ok(Leaving { draft, gone })
-    }
-
     // The worker at a link is gone.
     fn lose(&mut self, link: LinkNo) -> Result<ForemanActs, Memory>
         ensures { Leads (lost self.old link) self.old result self.new }
     {
-        let Leaving { draft, gone } = self.without(link)?;
-        let acts = self.finish(draft)?;
+        let gone = gone_of(self.alloc, &self.cache, &self.links, link, &self.attempts)?;
+        let mut stay = stay_of(self.alloc, &self.cache, &self.links, link, &self.attempts)?;
+        let draft = part_from(
+            self.alloc,
+            self.next,
+            &self.cache,
+            &gone,
+            &mut stay,
+            &mut self.links,
+            link,
+        )?;
+        self.attempts = stay;
+        let acts = draft.done(&mut self.next);
         release_all(&mut self.cache, &gone);
         Ok(acts)
     }
 
     /// What the foreman does where a link is lost. Where no worker is at it, nothing. Without
-    /// memory nothing changes.
+    /// memory nothing changes. It costs one copy of each attempt, and one of a worker's session for
+    /// each task that is sent to it then.
     pub fn on_lost(&mut self, link: LinkNo) -> Result<ForemanActs, Memory>
         ensures { Leads (loses self.old link) self.old result self.new }
     {

@@ -3,21 +3,12 @@ ghost use Rattle.std.specs.Prelude.{◌≡◌, [], ◌∷◌, ◌++◌, filter, 
 ghost use Rattle.std.specs.List.{list_any};
 ghost use Rattle.foreman_core.specs.Foremen.{could_hold, is_last, off_link, others};
 
-use crate::copies::{links_of, renumber};
+use crate::copies::renumber;
 use crate::links::{Below, Spot, Upstream};
 use crate::room::{could_hold, is_placed_at};
 use flow_types::{LinkNo, Memory, Task};
 use std::alloc::Global;
 use worker_cache::Cache;
-
-/// Equal workers, but that at the link.
-pub(crate) fn others_of(alloc: Global, links: &[Below], link: LinkNo) -> Result<Vec<Below>, Memory>
-    ensures { IfOk result (λ copies. copies.items ≡ others link links.now) }
-{
-    let mut copies = links_of(alloc, links)?;
-    copies.retain(|b| b.link.0 != link.0);
-    Ok(copies)
-}
 
 // Whether some worker could hold the task.
 fn any_holds(cache: &Cache, task: &Task, links: &[Below]) -> Result<bool, Memory>
@@ -32,14 +23,36 @@ fn any_holds(cache: &Cache, task: &Task, links: &[Below]) -> Result<bool, Memory
     Ok(false)
 }
 
-// Whether some worker could hold the task, and none of the others.
-fn is_last(cache: &Cache, links: &[Below], others: &[Below], task: &Task) -> Result<bool, Memory>
-    ensures { IfOk result (λ last. last ≡ is_last cache.now.rows links.now others.now task.now) }
+// Whether some worker could hold the task, but that at the link.
+fn any_other_holds(
+    cache: &Cache,
+    task: &Task,
+    links: &[Below],
+    link: LinkNo,
+) -> Result<bool, Memory>
+    ensures { IfOk result (λ holds. holds
+        ≡ list_any (could_hold cache.now.rows task.now) (others link links.now)) }
+{
+    for b in links {
+        if b.link.0 == link.0 {
+            continue;
+        }
+        if could_hold(cache, task, b)? {
+            return Ok(true);
+        }
+    }
+    Ok(false)
+}
+
+// Whether some worker could hold the task, and none but that at the link.
+fn is_last(cache: &Cache, links: &[Below], link: LinkNo, task: &Task) -> Result<bool, Memory>
+    ensures { IfOk result (λ last. last
+        ≡ is_last cache.now.rows links.now (others link links.now) task.now) }
 {
     if !any_holds(cache, task, links)? {
         return Ok(false);
     }
-    let other = any_holds(cache, task, others)?;
+    let other = any_other_holds(cache, task, links, link)?;
     Ok(!other)
 }
 
@@ -60,20 +73,21 @@ fn add(
     }
 }
 
-/// The attempts that no worker could hold any more, once only the others are left.
+/// The attempts that no worker could hold any more, once that at the link is gone.
 pub(crate) fn gone_of(
     alloc: Global,
     cache: &Cache,
     links: &[Below],
-    others: &[Below],
+    link: LinkNo,
     attempts: &[Upstream],
 ) -> Result<Vec<Upstream>, Memory>
     ensures { IfOk result (λ gone. gone.items
-        ≡ filter (λ u. is_last cache.now.rows links.now others.now u.task) attempts.now) }
+        ≡ filter (λ u. is_last cache.now.rows links.now (others link links.now) u.task)
+        attempts.now) }
 {
     let mut gone = Vec::new(alloc);
     for u in attempts {
-        if is_last(cache, links, others, &u.task)? {
+        if is_last(cache, links, link, &u.task)? {
             add(alloc, &mut gone, u, u.spot)?;
         }
     }
@@ -92,16 +106,16 @@ pub(crate) fn stay_of(
     alloc: Global,
     cache: &Cache,
     links: &[Below],
-    others: &[Below],
-    attempts: &[Upstream],
     link: LinkNo,
+    attempts: &[Upstream],
 ) -> Result<Vec<Upstream>, Memory>
     ensures { IfOk result (λ stay. stay.items ≡ map (off_link link)
-        (filter (λ u. not (is_last cache.now.rows links.now others.now u.task)) attempts.now)) }
+        (filter (λ u. not (is_last cache.now.rows links.now (others link links.now) u.task))
+        attempts.now)) }
 {
     let mut stay = Vec::new(alloc);
     for u in attempts {
-        if !is_last(cache, links, others, &u.task)? {
+        if !is_last(cache, links, link, &u.task)? {
             add(alloc, &mut stay, u, spot_off(link, u))?;
         }
     }
