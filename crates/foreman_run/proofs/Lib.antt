@@ -5,6 +5,7 @@ pub mod Honest
 pub mod Going
 pub mod Hosted
 pub mod Saying
+pub mod Telling
 pub mod Losses
 pub mod Tying
 pub mod Workers

@@ -3,7 +3,6 @@ use Rattle.std.proofs.Common.{◌≡◌, ◌≤◌, ◌<◌, ℕ, ◌+◌, Bool,
 use Rattle.std.specs.Prelude.{◌⊎◌}
 use Rattle.std.proofs.lemmas.List.{length-append}
 use Rattle.byteorder.specs.Endian.{big_bytes}
-use Rattle.byteorder.specs.Numbers.{length-bytes_high_first}
 use Rattle.flow_types.specs.declared.messages.Message.{Message}
 use Rattle.flow_types.specs.declared.messages.Message.TheVariants as messages
 use Rattle.flow_types.specs.declared.numbers.Amounts.{Amounts}
@@ -17,13 +16,14 @@ use Rattle.outside.specs.Causes.{HasCause}
 use Rattle.outside.specs.declared.fault.Fault.{Fault}
 use Rattle.outside.specs.declared.fault.Fault.TheVariants as outside
 use Rattle.peer_run.proofs.Going.{frames_more}
+use Rattle.peer_run.proofs.Sizes.{len, offer_len, spelled_len}
 use Rattle.peer_run.specs.Ends.{Advanced}
 use Rattle.peer_run.specs.Works.{EarState}
 use Rattle.peers.proofs.Frames.{carried_heard}
 use Rattle.wq_frames.proofs.Fronts.{fronts}
 use Rattle.wq_frames.specs.Frames.{front, part, whole}
 use Rattle.wq_messages.specs.Heads.{head_of}
-use Rattle.wq_messages.specs.Spelling.{amounts_bytes, fields_of, offer_bytes, spelling}
+use Rattle.wq_messages.specs.Spelling.{offer_bytes, spelling}
 use Rattle.wq_messages.specs.Views.{shown}
 use Rattle.wq_messages.specs.declared.heads.Head.{Head}
 use Rattle.wq_messages.specs.declared.heads.Head.TheVariants as heads
@@ -37,41 +37,9 @@ use Rattle.foreman_run.proofs.Losses.{refused_append}
 
 -- ---- how long a hello's frame is
 
-len : (n x : ℕ) → length (big_bytes n x) ≡ n
-len n x = length-bytes_high_first n x
-
-amounts_len : (a : Amounts) → length (amounts_bytes a) ≡ 12
-amounts_len a =
-    omega (
-      arith,
-      length-append (big_bytes 4 a.cores) (big_bytes 4 a.memory ++ big_bytes 4 a.disk),
-      length-append (big_bytes 4 a.memory) (big_bytes 4 a.disk),
-      len 4 a.cores,
-      len 4 a.memory,
-      len 4 a.disk,
-    )
-
-offer_len : (total largest : Amounts) (cache : ℕ) → length (offer_bytes total largest cache) ≡ 32
-offer_len total largest cache =
-    omega (
-      arith,
-      length-append (amounts_bytes total) (amounts_bytes largest ++ big_bytes 8 cache),
-      length-append (amounts_bytes largest) (big_bytes 8 cache),
-      amounts_len total,
-      amounts_len largest,
-      len 8 cache,
-    )
-
 hello_len : (total largest : Amounts) (cache : ℕ) → length (spelling (messages.Hello total largest cache)) ≡ 35
 hello_len total largest cache =
-    omega (
-      arith,
-      length-append (big_bytes 1 1) (fields_of (messages.Hello total largest cache)),
-      length-append (big_bytes 2 1) (offer_bytes total largest cache),
-      len 1 1,
-      len 2 1,
-      offer_len total largest cache,
-    )
+    omega (arith, spelled_len (messages.Hello total largest cache), length-append (big_bytes 2 1) (offer_bytes total largest cache), len 2 1, offer_len total largest cache)
 
 framed_len : (total largest : Amounts) (cache : ℕ) → length (framed (messages.Hello total largest cache)) ≡ 39
 framed_len total largest cache =

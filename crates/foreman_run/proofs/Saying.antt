@@ -1,7 +1,7 @@
 -- Several messages that are said one after the other.
-use Rattle.std.proofs.Common.{◌≡◌, ◌≤◌, ◌<◌, ℕ, zero, suc, ◌+◌, List, [], ◌∷◌, ◌++◌, length, take, drop, get_or, Result, Ok, Err, refl, sym, ap, ◌∙◌, subst, append_assoc, append-nil, arith}
+use Rattle.std.proofs.Common.{◌≡◌, ◌≤◌, ℕ, ◌+◌, List, [], ◌∷◌, ◌++◌, length, Result, Ok, Err, refl, sym, ap, ◌∙◌, subst, append_assoc, append-nil, arith}
 use Rattle.std.specs.Prelude.{OnOk}
-use Rattle.std.proofs.lemmas.List.{length-append, take_more, take-append-drop}
+use Rattle.std.proofs.lemmas.List.{length-append}
 use Rattle.flow_types.specs.declared.job.Failure.{Failure}
 use Rattle.flow_types.specs.declared.job.Job.{Job}
 use Rattle.byteorder.specs.Endian.{big_bytes}
@@ -12,23 +12,21 @@ use Rattle.flow_types.specs.declared.messages.Message.TheVariants as messages
 use Rattle.flow_types.specs.Serial.{Function}
 use Rattle.links.specs.declared.passing.Passed.{Passed}
 use Rattle.links.specs.Passings.{Transmits, received_in, sent_in}
-use Rattle.links.specs.Peers.{IsRightLink, MaySay, Says}
+use Rattle.links.specs.Peers.{IsRightLink, MaySay}
 use Rattle.message_forms.proofs.Parses.{frames_append}
 use Rattle.message_forms.specs.Streams.{IsFramed, framed, frames_of}
 use Rattle.wq_messages.specs.Spelling.{IsKey, key_bytes, most_body, spelling}
 use Rattle.outside.specs.declared.fault.Fault.{Fault}
 use Rattle.peer_run.specs.Says.{Each, SaysAll, SendsAll}
-use Rattle.peer_run.proofs.Sends.{sends_one}
 use Rattle.peer_run.proofs.Sizes.{len, spelled_len}
 use Rattle.peers.specs.Sends.{put_head}
 use Rattle.peers.proofs.Sending.{put_parts}
-use Rattle.foreman_run.specs.Says.{Adds}
+use Rattle.foreman_run.specs.Says.{Adds, SaysOne}
 
--- what holds of each holds of the one at a place
-pub each_at : (P : Message → Type 0) (ms : List Message) (i : ℕ) (d : Message) → i < length ms → Each P ms → P (get_or ms i d)
-each_at P [] i d lt all = absurd (let h : ⊥ = omega (arith, lt) in h)
-each_at P (m ∷ ms) zero d lt all = all.0
-each_at P (m ∷ ms) (suc i) d lt all = each_at P ms i d (omega (arith, lt)) all.1
+-- what holds of each holds of the one behind some
+pub each_behind : (P : Message → Type 0) (past : List Message) (m : Message) (left : List Message) → Each P (past ++ m ∷ left) → P m
+each_behind P [] m left all = all.0
+each_behind P (x ∷ past) m left all = each_behind P past m left all.1
 
 abbrev pub done : Result (Unit {0}) Fault
 done = Ok tt
@@ -58,49 +56,60 @@ sends_less ms ns h0 h1 fault a = (
 )
 
 module _ (gives : Function) (may_fail : Job → Failure → Type 0) (tells : Type 0) where
-  -- So many of them were said.
-  pub record SaidSoFar (ms : List Message) (i : ℕ) (h0 h1 : List Passed) : Type 0 where
-    pub sent : tells → SendsAll done (take i ms) h0 h1
-    pub said : (said : List Message) → tells → IsRightLink gives may_fail h0 said → Each (MaySay gives may_fail (received_in h0)) ms → IsRightLink gives may_fail h1 (said ++ take i ms)
-
-  -- what a call that says one did
-  abbrev pub SaysOne : Message → List Passed → List Passed → Result (Unit {0}) Fault → Type 0
-  SaysOne m h1 h2 r =
-      ((said : List Message) → tells → IsRightLink gives may_fail h1 said → MaySay gives may_fail (received_in h1) m → Says gives may_fail m said h2 r)
-      × (tells → Transmits r (framed m) h1 h2)
+  -- These of them are left, and the others were said.
+  pub record SaidSoFar (ms left : List Message) (h0 h1 : List Passed) : Type 0 where
+    pub past : List Message
+    pub are : past ++ left ≡ ms
+    pub sent : tells → SendsAll done past h0 h1
+    pub said : (said : List Message) → tells → IsRightLink gives may_fail h0 said → Each (MaySay gives may_fail (received_in h0)) ms → IsRightLink gives may_fail h1 (said ++ past)
 
   -- None was said.
-  pub said_none : (ms : List Message) (h : List Passed) → SaidSoFar ms 0 h h
-  said_none ms h = record {
+  pub said_none : (ms left : List Message) (h : List Passed) → left ≡ ms → SaidSoFar ms left h h
+  said_none ms left h is = record {
+    past = [];
+    are = is;
     sent = λ t. (refl, sym (append-nil (sent_in h)));
     said = λ said t right may. subst (IsRightLink gives may_fail h) (sym (append-nil said)) right;
   }
 
-  may_now : (ms : List Message) (i : ℕ) (d : Message) (h0 h1 : List Passed) → i < length ms → SaidSoFar ms i h0 h1 → tells → Each (MaySay gives may_fail (received_in h0)) ms → MaySay gives may_fail (received_in h1) (get_or ms i d)
-  may_now ms i d h0 h1 lt s t may = subst (λ (b : List ℕ). MaySay gives may_fail b (get_or ms i d)) (sym (s.sent t).0) (each_at (MaySay gives may_fail (received_in h0)) ms i d lt may)
+  -- The next one may be said.
+  pub next_told : (P : Message → Type 0) (ms left rest : List Message) (m : Message) (h0 h1 : List Passed) → left ≡ m ∷ rest → SaidSoFar ms left h0 h1 → Each P ms → P m
+  next_told P ms left rest m h0 h1 is s all = each_behind P s.past m rest (subst (Each P) (sym (ap (λ (l : List Message). s.past ++ l) (sym is) ∙ s.are)) all)
+
+  may_now : (ms left rest : List Message) (m : Message) (h0 h1 : List Passed) → left ≡ m ∷ rest → SaidSoFar ms left h0 h1 → tells → Each (MaySay gives may_fail (received_in h0)) ms → MaySay gives may_fail (received_in h1) m
+  may_now ms left rest m h0 h1 is s t may =
+      subst (λ (b : List ℕ). MaySay gives may_fail b m) (sym (s.sent t).0) (next_told (MaySay gives may_fail (received_in h0)) ms left rest m h0 h1 is s may)
 
   -- One more was said.
-  pub said_more : (ms : List Message) (i : ℕ) (d : Message) (h0 h1 h2 : List Passed) → i < length ms → SaidSoFar ms i h0 h1 → SaysOne (get_or ms i d) h1 h2 done → SaidSoFar ms (i + 1) h0 h2
-  said_more ms i d h0 h1 h2 lt s one =
-      let m = get_or ms i d in
-      let more : take (i + 1) ms ≡ take i ms ++ m ∷ [] = take_more ms i d lt in
-      record {
-        sent = λ t. subst (λ (xs : List Message). SendsAll done xs h0 h2) (sym more) (sends_then (take i ms) (m ∷ []) h0 h1 h2 done (s.sent t) (sends_one done m h1 h2 (one.1 t)));
-        said = λ said t right may. subst (λ (xs : List Message). IsRightLink gives may_fail h2 xs) (append_assoc said (take i ms) (m ∷ []) ∙ ap (λ (xs : List Message). said ++ xs) (sym more))
-            (one.0 (said ++ take i ms) t (s.said said t right may) (may_now ms i d h0 h1 lt s t may));
-      }
+  pub said_more : (ms left rest : List Message) (m : Message) (h0 h1 h2 : List Passed) → left ≡ m ∷ rest → SaidSoFar ms left h0 h1 → SaysOne gives may_fail tells m h1 h2 done → SaidSoFar ms rest h0 h2
+  said_more ms left rest m h0 h1 h2 is s one = record {
+    past = s.past ++ m ∷ [];
+    are = append_assoc s.past (m ∷ []) rest ∙ ap (λ (l : List Message). s.past ++ l) (sym is) ∙ s.are;
+    sent = λ t. sends_then s.past (m ∷ []) h0 h1 h2 done (s.sent t) (one.sent t);
+    said = λ said t right may. subst (IsRightLink gives may_fail h2) (append_assoc said s.past (m ∷ []))
+        (one.said (said ++ s.past) t (s.said said t right may) (may_now ms left rest m h0 h1 is s t may));
+  }
 
   -- One was cut short: so are all of them.
-  pub said_short : (ms : List Message) (i : ℕ) (d : Message) (h0 h1 h2 : List Passed) (fault : Fault) → i < length ms → SaidSoFar ms i h0 h1 → (let r : Result (Unit {0}) Fault = Err fault in SaysOne (get_or ms i d) h1 h2 r)
+  pub said_short : (ms left rest : List Message) (m : Message) (h0 h1 h2 : List Passed) (fault : Fault) → left ≡ m ∷ rest → SaidSoFar ms left h0 h1
+      → (let r : Result (Unit {0}) Fault = Err fault in SaysOne gives may_fail tells m h1 h2 r)
       → (let r : Result (Unit {0}) Fault = Err fault in (tells → SendsAll r ms h0 h2)
       × ((said : List Message) → tells → IsRightLink gives may_fail h0 said → Each (MaySay gives may_fail (received_in h0)) ms → SaysAll gives may_fail ms said h2 r))
-  said_short ms i d h0 h1 h2 fault lt s one =
-      let m = get_or ms i d in
+  said_short ms left rest m h0 h1 h2 fault is s one =
       let r : Result (Unit {0}) Fault = Err fault in
-      let all : (take i ms ++ m ∷ []) ++ drop (i + 1) ms ≡ ms = ap (λ (xs : List Message). xs ++ drop (i + 1) ms) (sym (take_more ms i d lt)) ∙ take-append-drop (i + 1) ms in (
+      let all : (s.past ++ m ∷ []) ++ rest ≡ ms = append_assoc s.past (m ∷ []) rest ∙ ap (λ (l : List Message). s.past ++ l) (sym is) ∙ s.are in (
         (λ t. subst (λ (xs : List Message). SendsAll r xs h0 h2) all
-            (sends_less (take i ms ++ m ∷ []) (drop (i + 1) ms) h0 h2 fault (sends_then (take i ms) (m ∷ []) h0 h1 h2 r (s.sent t) (sends_one r m h1 h2 (one.1 t))))),
-        (λ said t right may. one.0 (said ++ take i ms) t (s.said said t right may) (may_now ms i d h0 h1 lt s t may)),
+            (sends_less (s.past ++ m ∷ []) rest h0 h2 fault (sends_then s.past (m ∷ []) h0 h1 h2 r (s.sent t) (one.sent t)))),
+        (λ said t right may. one.said (said ++ s.past) t (s.said said t right may) (may_now ms left rest m h0 h1 is s t may)),
+      )
+
+  -- All were said.
+  pub said_whole : (ms left : List Message) (h0 h1 : List Passed) → left ≡ [] → SaidSoFar ms left h0 h1
+      → (tells → SendsAll done ms h0 h1) × ((said : List Message) → tells → IsRightLink gives may_fail h0 said → Each (MaySay gives may_fail (received_in h0)) ms → IsRightLink gives may_fail h1 (said ++ ms))
+  said_whole ms left h0 h1 is s =
+      let all : s.past ≡ ms = sym (append-nil s.past) ∙ ap (λ (l : List Message). s.past ++ l) (sym is) ∙ s.are in (
+        (λ t. subst (λ (xs : List Message). SendsAll done xs h0 h1) all (s.sent t)),
+        (λ said t right may. subst (λ (xs : List Message). IsRightLink gives may_fail h1 (said ++ xs)) all (s.said said t right may)),
       )
 
 -- ---- a Put in two calls

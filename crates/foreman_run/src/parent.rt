@@ -57,7 +57,7 @@ pub(crate) fn perform<F: Commands, U: Link<F>, L: Link<F>>(
         leave: _,
         bye: _,
     } = acts;
-    if let Err(fault) = say_all(alloc, link, up.as_slice()) {
+    if let Err(fault) = say_all(alloc, link, up) {
         return Err(Stop::of(fault));
     }
     company.send_all(alloc, down);

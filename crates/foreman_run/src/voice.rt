@@ -1,18 +1,21 @@
 //! What a foreman says to its parent, and sends to its workers.
-ghost use Rattle.std.specs.Prelude.{◌≡◌, ◌≤◌, ◌+◌, [], List, Ok, IfOk, OnOk, length};
+ghost use Rattle.std.specs.Prelude.{◌≡◌, ◌≤◌, ◌<◌, ◌^◌, ◌+◌, ◌++◌, [], ℕ, List, Ok, IfOk, OnOk, flat_map, length};
+ghost use Rattle.byte_fields.specs.Spelling.{counted};
+ghost use Rattle.flow_types.specs.declared.job.Outcome.TheVariants as outcomes;
 ghost use Rattle.flow_types.specs.declared.messages.Message.{Message as Said};
 ghost use Rattle.flow_types.specs.declared.messages.Message.TheVariants as messages;
+ghost use Rattle.links.specs.declared.passing.Passed.{Passed};
 ghost use Rattle.links.specs.Passings.{received_in};
 ghost use Rattle.message_forms.specs.Streams.{IsFramed, frame, framed};
 ghost use Rattle.wq_messages.specs.Spelling.{HasCounts, IsKey, most_body, spelling};
 ghost use Rattle.peers.specs.Sends.{put_head};
-ghost use Rattle.foreman_run.specs.Says.{Adds};
+ghost use Rattle.foreman_run.specs.Says.{Adds, IsSaying, IsSayingBy, SaysOne, result_head};
 ghost use Rattle.links.specs.Peers.{IsRightLink, MaySay};
 ghost use Rattle.outside.specs.Causes.{HasCause};
 ghost use Rattle.peer_run.specs.Says.{CanBeTold, Each, SaysAll, SendsAll};
 
-use byte_fields::{put_counted, put_u8, put_u32, put_u64};
-use flow_types::{Bytes, Key, Memory, Message};
+use byte_fields::{put_bytes, put_counted, put_u8, put_u32, put_u64};
+use flow_types::{AttemptNo, Bytes, Key, Memory, Message, Outcome, Rows};
 use links::Link;
 use outside::{Commands, Fault};
 use peer_run::say;
@@ -108,25 +111,167 @@ pub(crate) fn send<F: Commands, L: Link<F>>(
     }
 }
 
+/// Contents of so many bytes are handed over as they stand. Shorter ones are copied into one piece.
+const LONG_CONTENT: usize = 65_536;
+
+// How many bytes these contents take, each behind its length.
+fn size_of(contents: &[Bytes]) -> u32
+    requires { length (flat_map counted contents.now) ≤ most_body }
+    ensures { result ≡ length (flat_map counted contents.now) }
+{
+    let mut size = 0;
+    for content in contents {
+        size += 4 + content.as_slice().len() as u32;
+    }
+    size
+}
+
+// All of a result's frame that stands before its contents: these are so many, of so many bytes.
+fn result_head(alloc: Global, attempt: AttemptNo, many: u32, size: u32) -> Result<Vec<u8>, Memory>
+    requires { 14 + size ≤ most_body }
+    ensures head { IfOk result (λ head. head.items ≡ result_head attempt many size) }
+    ensures fits { attempt.0 < 2 ^ 64 }
+{
+    let mut head = Vec::new(alloc);
+    put_u32(&mut head, 14 + size)?;
+    put_u8(&mut head, 4)?;
+    put_u64(&mut head, attempt.0)?;
+    put_u8(&mut head, 0)?;
+    put_u32(&mut head, many)?;
+    Ok(head)
+}
+
+// The next content goes behind this piece, which waits: with it, or at a later call.
+fn say_content<F: Commands, U: Link<F>>(
+    alloc: Global,
+    link: &mut U,
+    piece: Vec<u8>,
+    content: Bytes,
+) -> Result<Vec<u8>, Fault>
+    requires { length content < 2 ^ 32 }
+    ensures saying { (first : List Passed) (whole rest : List ℕ) → U.tells
+        → IsSaying F.gives F.may_fail first whole (piece.items ++ (counted content ++ rest))
+        (U.history link.old)
+        → IsSayingBy F.gives F.may_fail first whole (λ piece. piece.items ++ rest)
+        (U.history link.new) result }
+    ensures closed { U.is_closed link.new ≡ U.is_closed link.old }
+    ensures cause { HasCause (U.count link.old) (U.count link.new) result }
+{
+    let mut piece = piece;
+    put_u32(&mut piece, content.as_slice().len() as u32)?;
+    if content.as_slice().len() < LONG_CONTENT {
+        put_bytes(&mut piece, content.as_slice())?;
+        return Ok(piece);
+    }
+    match link.hand(Bytes::from_vec(piece)) {
+        Ok(()) => {}
+        Err(fault) => return Err(fault),
+    }
+    match link.hand(content) {
+        Ok(()) => Ok(Vec::new(alloc)),
+        Err(fault) => Err(fault),
+    }
+}
+
+// The contents go behind this piece, each behind its length.
+fn say_contents<F: Commands, U: Link<F>>(
+    alloc: Global,
+    link: &mut U,
+    head: Vec<u8>,
+    contents: Rows<Bytes>,
+) -> Result<(), Fault>
+    requires { length (flat_map counted contents) ≤ most_body }
+    ensures saying { (first : List Passed) (whole : List ℕ) → U.tells
+        → IsSaying F.gives F.may_fail first whole (head.items ++ flat_map counted contents)
+        (U.history link.old)
+        → IsSayingBy F.gives F.may_fail first whole (λ _. []) (U.history link.new) result }
+    ensures closed { U.is_closed link.new ≡ U.is_closed link.old }
+    ensures cause { HasCause (U.count link.old) (U.count link.new) result }
+{
+    let mut piece = head;
+    for content in contents.into_vec() {
+        match say_content(alloc, link, piece, content) {
+            Ok(more) => piece = more,
+            Err(fault) => return Err(fault),
+        }
+    }
+    link.hand(Bytes::from_vec(piece))
+}
+
+// Says that an attempt succeeded. Its long contents are handed over, and aren't copied.
+fn say_result<F: Commands, U: Link<F>>(
+    alloc: Global,
+    link: &mut U,
+    attempt: AttemptNo,
+    contents: Rows<Bytes>,
+) -> Result<(), Fault>
+    requires told { CanBeTold (messages.Done attempt (outcomes.Success contents)) }
+    ensures one { SaysOne F.gives F.may_fail U.tells
+        (messages.Done attempt (outcomes.Success contents)) (U.history link.old)
+        (U.history link.new) result }
+    ensures closed { U.is_closed link.new ≡ U.is_closed link.old }
+    ensures cause { HasCause (U.count link.old) (U.count link.new) result }
+{
+    let size = size_of(contents.as_slice());
+    let head = result_head(alloc, attempt, contents.len() as u32, size)?;
+    say_contents(alloc, link, head, contents)
+}
+
+// Says one message in one piece.
+fn say_plain<F: Commands, U: Link<F>>(
+    alloc: Global,
+    link: &mut U,
+    message: Message,
+) -> Result<(), Fault>
+    requires told { CanBeTold message }
+    ensures one { SaysOne F.gives F.may_fail U.tells message (U.history link.old)
+        (U.history link.new) result }
+    ensures closed { U.is_closed link.new ≡ U.is_closed link.old }
+    ensures cause { HasCause (U.count link.old) (U.count link.new) result }
+{
+    say(alloc, link, &message)
+}
+
+// Says one message.
+fn say_one<F: Commands, U: Link<F>>(
+    alloc: Global,
+    link: &mut U,
+    message: Message,
+) -> Result<(), Fault>
+    requires told { CanBeTold message }
+    ensures one { SaysOne F.gives F.may_fail U.tells message (U.history link.old)
+        (U.history link.new) result }
+    ensures closed { U.is_closed link.new ≡ U.is_closed link.old }
+    ensures cause { HasCause (U.count link.old) (U.count link.new) result }
+{
+    match message {
+        Message::Done {
+            attempt,
+            outcome: Outcome::Success(contents),
+        } => say_result(alloc, link, attempt, contents),
+        other => say_plain(alloc, link, other),
+    }
+}
+
 /// Says these messages, in order.
 pub(crate) fn say_all<F: Commands, U: Link<F>>(
     alloc: Global,
     link: &mut U,
-    messages: &[Message],
+    messages: Rows<Message>,
 ) -> Result<(), Fault>
-    requires told { Each CanBeTold messages.now }
+    requires told { Each CanBeTold messages }
     ensures said { (said : List Said) → U.tells
         → IsRightLink F.gives F.may_fail (U.history link.old) said
-        → Each (MaySay F.gives F.may_fail (received_in (U.history link.old))) messages.now
-        → SaysAll F.gives F.may_fail messages.now said (U.history link.new) result }
-    ensures sent { U.tells → SendsAll result messages.now (U.history link.old)
+        → Each (MaySay F.gives F.may_fail (received_in (U.history link.old))) messages
+        → SaysAll F.gives F.may_fail messages said (U.history link.new) result }
+    ensures sent { U.tells → SendsAll result messages (U.history link.old)
         (U.history link.new) }
-    ensures none { messages.now ≡ [] → result ≡ Ok tt }
+    ensures none { messages ≡ [] → result ≡ Ok tt }
     ensures closed { U.is_closed link.new ≡ U.is_closed link.old }
     ensures cause { HasCause (U.count link.old) (U.count link.new) result }
 {
-    for message in messages {
-        match say(alloc, link, message) {
+    for message in messages.into_vec() {
+        match say_one(alloc, link, message) {
             Ok(()) => {}
             Err(fault) => return Err(fault),
         }
