@@ -1,5 +1,5 @@
 -- Each call of a desk is a turn of it.
-use Rattle.std.proofs.Common.{◌≡◌, ◌≢◌, ◌≤◌, ◌+◌, ⊎_elim, inl, inr, ℕ, Bool, true, false, List, ◌++◌, Option, Some, Result, Ok, Err, MatchBool, refl, sym, ap, ◌∙◌, subst, arith, cond}
+use Rattle.std.proofs.Common.{◌≡◌, ◌≢◌, ◌≤◌, ◌+◌, ⊎_elim, inl, inr, ℕ, Bool, true, false, List, ◌++◌, Result, Ok, Err, MatchBool, refl, sym, ap, ◌∙◌, subst, arith, cond}
 use Rattle.std.specs.Prelude.{IsErrOf, count_by, is_some}
 use Rattle.std.proofs.lemmas.List.Sums.{sum_by-append}
 use Rattle.flow_types.specs.declared.numbers.Amounts.{Amounts}
@@ -8,6 +8,7 @@ use Rattle.flow_types.specs.declared.numbers.FileNo.{FileNo}
 use Rattle.flow_types.specs.declared.numbers.LinkNo.{LinkNo}
 use Rattle.flow_types.specs.declared.plan.Plan.{Plan}
 use Rattle.flow_types.specs.Plans.{makes}
+use Rattle.run_history.specs.declared.answers.Nothing.{Nothing}
 use Rattle.run_history.specs.declared.links.JoinRefused.{JoinRefused}
 use Rattle.run_history.specs.declared.links.JoinRefused.TheVariants as unjoined
 use Rattle.run_history.specs.declared.moves.Move.{Move}
@@ -27,7 +28,7 @@ use Rattle.desk.specs.declared.answers.ClaimRefused.{ClaimRefused}
 use Rattle.desk.specs.declared.answers.ClaimRefused.TheVariants as unclaimed
 use Rattle.desk.specs.declared.answers.InputRefused.{InputRefused}
 use Rattle.desk.specs.declared.answers.InputRefused.TheVariants as unread
-use Rattle.desk.specs.Claims.{Claims}
+use Rattle.desk.specs.Claims.{ClaimsAs}
 use Rattle.desk.specs.Collections.{IsUncollected}
 use Rattle.desk.specs.Goes.{Goes}
 use Rattle.desk.specs.Inputs.{Looks, Tells}
@@ -37,7 +38,7 @@ use Rattle.desk.specs.State.{CanLose, DeskState, IsCut, IsFine}
 use Rattle.desk.proofs.Collected.{freed}
 use Rattle.desk.proofs.Goings.{changes_goes, claims_goes, leaves_goes, looks_goes, same_goes}
 use Rattle.desk.proofs.Removing.{chosen-free}
-use Rattle.board.specs.Calls.{ChangesHere, ClaimsHere, LeavesHere, ReadsHere}
+use Rattle.board.specs.Calls.{ChangesHere, ClaimsHereAs, LeavesHere, ReadsHere}
 use Rattle.board.specs.Goes.{IsUnmade, OthersStay, Stay}
 
 module _ {S : Type 0} (tells : Type 0) (files : S → Files) (may_leave : S → Outcomes) (moment : S → ℕ) (images_since : S → ℕ → Files → Type 0) where
@@ -106,11 +107,11 @@ module _ {S : Type 0} where
   changes_site d link total largest cache (Err unjoined.Memory) after h = site_same d after h
 
   -- a claim, where the link lives
-  pub claimed_here : (count : S → ℕ) (d : DeskState S) (link : LinkNo) (moment : ℕ) (r : Result Claim ClaimRefused) (after : DeskState S) → ClaimsHere count d link moment r after → Goes d after
-  claimed_here count d link moment r after h = by_test (is_live d.options d.moves link.0) h
+  pub claimed_here : (count : S → ℕ) (d : DeskState S) (choice : Result ℕ Nothing) (link : LinkNo) (moment : ℕ) (r : Result Claim ClaimRefused) (after : DeskState S) → ClaimsHereAs count d choice link moment r after → Goes d after
+  claimed_here count d choice link moment r after h = by_test (is_live d.options d.moves link.0) h
     where
-      by_test : (b : Bool) → MatchBool b (Claims count d link moment r after) (IsErrOf r unclaimed.Memory × (after ≡ d)) → Goes d after
-      by_test true h = claims_goes count d link moment r after h
+      by_test : (b : Bool) → MatchBool b (ClaimsAs count d choice link moment r after) (IsErrOf r unclaimed.Memory × (after ≡ d)) → Goes d after
+      by_test true h = claims_goes count d choice link moment r after h
       by_test false h = same_goes d after h.1
 
   -- a link states other amounts, where it lives

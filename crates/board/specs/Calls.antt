@@ -1,5 +1,5 @@
 -- What a shared call is.
-use Rattle.std.specs.Prelude.{◌≡◌, ◌<◌, ◌^◌, ℕ, true, List, Option, Some, None, Result, IfOk, IfSome, IsErrOf, MatchBool, length}
+use Rattle.std.specs.Prelude.{◌≡◌, ◌<◌, ◌^◌, ℕ, List, Option, Some, None, Result, IfOk, IfSome, IsErrOf, MatchBool, length}
 use Rattle.flow_types.specs.declared.numbers.Amounts.{Amounts}
 use Rattle.flow_types.specs.declared.numbers.Content.{Content}
 use Rattle.flow_types.specs.declared.numbers.FileNo.{FileNo}
@@ -7,7 +7,9 @@ use Rattle.flow_types.specs.declared.numbers.LinkNo.{LinkNo}
 use Rattle.run_history.specs.declared.answers.Stop.{Stop}
 use Rattle.run_history.specs.declared.links.JoinRefused.{JoinRefused}
 use Rattle.run_history.specs.declared.links.JoinRefused.TheVariants as unjoined
-use Rattle.run_history.specs.Answers.{stop_of}
+use Rattle.run_history.specs.declared.answers.Nothing.{Nothing}
+use Rattle.run_history.specs.Admissions.{Admitting, claim_by, stop_by}
+use Rattle.run_history.specs.Answers.{claim_of, stop_of}
 use Rattle.run_history.specs.Laws.{IsPresent}
 use Rattle.run_history.specs.Links.{is_live, records_of}
 use Rattle.run_history.specs.Moves.{may_leave}
@@ -21,7 +23,7 @@ use Rattle.desk.specs.declared.answers.ClaimRefused.TheVariants as unclaimed
 use Rattle.desk.specs.declared.answers.CollectRefused.{CollectRefused}
 use Rattle.desk.specs.declared.answers.InputRefused.{InputRefused}
 use Rattle.desk.specs.declared.answers.InputRefused.TheVariants as unread
-use Rattle.desk.specs.Claims.{Claims}
+use Rattle.desk.specs.Claims.{ClaimsAs}
 use Rattle.desk.specs.Inputs.{Looks, Tells}
 use Rattle.desk.specs.Links.{Changes, Leaves}
 use Rattle.desk.specs.State.{DeskState, IsFine}
@@ -51,11 +53,24 @@ module _ {S : Type 0} where
   AreCounts d many much =
       (many ≡ length d.moves) × (many < 2 ^ 62) × (much ≡ complete_count d.plan (records_of d.moves))
 
-  -- A claim where the link lives; where it doesn't, the answer is want of memory, and nothing changes.
+  -- A claim with this choice where the link lives; where it doesn't, the answer is want of memory, and nothing changes.
+  abbrev pub ClaimsHereAs : (S → ℕ) → DeskState S → Result ℕ Nothing → LinkNo → ℕ → Result Claim ClaimRefused
+      → DeskState S → Type 0
+  ClaimsHereAs count found choice link moment reply after =
+      MatchBool (is_live found.options found.moves link.0) (ClaimsAs count found choice link moment reply after)
+      (IsErrOf reply unclaimed.Memory × (after ≡ found))
+
+  -- A claim where the link lives.
   abbrev pub ClaimsHere : (S → ℕ) → DeskState S → LinkNo → ℕ → Result Claim ClaimRefused → DeskState S → Type 0
   ClaimsHere count found link moment reply after =
-      MatchBool (is_live found.options found.moves link.0) (Claims count found link moment reply after)
-      (IsErrOf reply unclaimed.Memory × (after ≡ found))
+      ClaimsHereAs count found (claim_of found.plan found.options found.moves found.stop link.0) link moment reply after
+
+  -- The same where an admission has a say.
+  abbrev pub ClaimsByHere : Admitting → (S → ℕ) → DeskState S → LinkNo → ℕ → Result Claim ClaimRefused → DeskState S
+      → Type 0
+  ClaimsByHere A count found link moment reply after =
+      ClaimsHereAs count found (claim_by A found.plan found.options found.moves found.stop link.0) link moment reply
+      after
 
   -- A link states other amounts, where it lives; where it doesn't, the answer is want of memory, and nothing changes.
   abbrev pub ChangesHere : DeskState S → LinkNo → Amounts → Amounts → ℕ → Result (Unit {0}) JoinRefused → DeskState S
@@ -88,3 +103,8 @@ module _ {S : Type 0} where
   abbrev pub Stops : DeskState S → Stop → DeskState S → Type 0
   Stops found why after =
       after ≡ record found { stop = stop_of found.plan found.options found.moves found.stop why }
+
+  -- The same where an admission has a say.
+  abbrev pub StopsBy : Admitting → DeskState S → Stop → DeskState S → Type 0
+  StopsBy A found why after =
+      after ≡ record found { stop = stop_by A found.plan found.options found.moves found.stop why }

@@ -6,7 +6,6 @@ use Rattle.run_history.specs.Links.{records_of}
 use Rattle.run_history.specs.Storage.{complete_count}
 use Rattle.outside.specs.Disk.{Outcomes}
 use Rattle.outside.specs.Files.{Files}
-use Rattle.desk.specs.Kept.{ReadsStay, StaysBeside}
 use Rattle.desk.specs.State.{DeskState}
 use Rattle.desk.proofs.Goings.{goes_further, goes_more, goes_rises, goes_same}
 use Rattle.desk.proofs.Others.{then_stays}

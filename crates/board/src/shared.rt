@@ -2,7 +2,9 @@
 ghost use Rattle.std.specs.Prelude.{◌≡◌, Some, IfOk};
 ghost use Rattle.flow_types.specs.Serial.{serial};
 ghost use Rattle.desk.specs.Inputs.{IsWhole};
-ghost use Rattle.board.specs.Calls.{AreCounts, ChangesHere, ClaimsHere, LeavesHere, ReadsHere};
+ghost use Rattle.flow_types.specs.declared.plan.Plan.{Plan as PlanValue};
+ghost use Rattle.board.specs.Calls.{AreCounts, ChangesHere, ClaimsByHere, ClaimsHere, LeavesHere};
+ghost use Rattle.board.specs.Calls.{ReadsHere};
 ghost use Rattle.board.specs.Goes.{OthersStay};
 
 use desk::{Claim, ClaimRefused, Desk, InputRefused, Terms};
@@ -11,15 +13,16 @@ use outside::{Commands, Site};
 use run_history::JoinRefused;
 use std::alloc::Global;
 use std::marker::Model;
+use task_core::{Admission, AdmitAll};
 use turns::{Counted, Growing};
 
 /// A desk that is shared. To a contract it is the desk.
 #[derive(Drop)]
-pub struct Shared<F: Commands, S: Site, T: Terms> {
-    pub(crate) desk: Desk<F, S, T>,
+pub struct Shared<F: Commands, S: Site, T: Terms, A: Admission> {
+    pub(crate) desk: Desk<F, S, T, A>,
 }
 
-impl<F: Commands, S: Site, T: Terms> Model for Shared<F, S, T> {
+impl<F: Commands, S: Site, T: Terms, A: Admission> Model for Shared<F, S, T, A> {
     ghost use Rattle.desk.specs.State.{DeskState};
 
     ghost Value = { DeskState S };
@@ -27,7 +30,7 @@ impl<F: Commands, S: Site, T: Terms> Model for Shared<F, S, T> {
     ghost view = { λ s. s.desk };
 }
 
-impl<F: Commands, S: Site, T: Terms> Growing for Shared<F, S, T> {
+impl<F: Commands, S: Site, T: Terms, A: Admission> Growing for Shared<F, S, T, A> {
     ghost use Rattle.std.specs.Prelude.{length};
     ghost use Rattle.run_history.specs.Links.{records_of};
     ghost use Rattle.run_history.specs.Storage.{complete_count};
@@ -43,15 +46,23 @@ impl<F: Commands, S: Site, T: Terms> Growing for Shared<F, S, T> {
     ghost growth = { goes_on S.tells S.files S.may_leave S.moment S.images_since };
 }
 
-impl<F: Commands, S: Site, T: Terms> Shared<F, S, T> {
-    /// Starts a rule, where the link lives.
-    pub(crate) fn claim(&mut self, link: LinkNo, moment: u64) -> Result<Claim, ClaimRefused>
-        ensures reply { ClaimsHere S.count self.old link moment result self.new }
+impl<F: Commands, S: Site, T: Terms, A: Admission> Shared<F, S, T, A> {
+    /// Starts an admitted rule, where the link lives.
+    pub(crate) fn claim_by(
+        &mut self,
+        link: LinkNo,
+        admission: &mut A,
+        moment: u64,
+    ) -> Result<Claim, ClaimRefused>
+        requires stands { A.stands_for admission.old self.old.plan }
+        ensures reply { ClaimsByHere A.admitted S.count self.old link moment result self.new }
         ensures others { OthersStay S.tells S.files S.may_leave S.moment S.images_since self.old
             self.new }
+        ensures stays { (P : PlanValue) → A.stands_for admission.old P
+            → A.stands_for admission.new P }
     {
         if self.desk.lives(link) {
-            self.desk.claim(link, moment)
+            self.desk.claim_by(link, admission, moment)
         } else {
             Err(ClaimRefused::Memory)
         }
@@ -108,6 +119,21 @@ impl<F: Commands, S: Site, T: Terms> Shared<F, S, T> {
             reply,
             moves: self.desk.moves_made(),
             done: self.desk.complete(),
+        }
+    }
+}
+
+impl<F: Commands, S: Site, T: Terms> Shared<F, S, T, AdmitAll> {
+    /// Starts a rule, where the link lives.
+    pub(crate) fn claim(&mut self, link: LinkNo, moment: u64) -> Result<Claim, ClaimRefused>
+        ensures reply { ClaimsHere S.count self.old link moment result self.new }
+        ensures others { OthersStay S.tells S.files S.may_leave S.moment S.images_since self.old
+            self.new }
+    {
+        if self.desk.lives(link) {
+            self.desk.claim(link, moment)
+        } else {
+            Err(ClaimRefused::Memory)
         }
     }
 }

@@ -20,7 +20,8 @@ use Rattle.run_history.specs.declared.links.JoinRefused.TheVariants as refused
 use Rattle.run_history.specs.declared.moves.Move.{Move}
 use Rattle.run_history.specs.declared.moves.Move.TheVariants as moves
 use Rattle.run_history.specs.declared.options.Options.{Options}
-use Rattle.run_history.specs.Answers.{stop_of}
+use Rattle.run_history.specs.Admissions.{Admitting}
+use Rattle.run_history.specs.Admissions.{stop_by}
 use Rattle.run_history.specs.History.{is_opening}
 use Rattle.run_history.specs.Legal.{is_allowed, is_legal}
 use Rattle.run_history.specs.Links.{is_live, logged_in, records_of, running_on}
@@ -195,13 +196,13 @@ module _ (asked : Asked) (keen : ℕ → Type 0) where
       (subst (λ (l : List Move). AreAskedLosses keen stop (map moves.Logged is.history) l) (course_since P O stop base M is) is.losses)
 
 -- the first stop stays
-pub first_stays : (P : Plan) (O : Options) (M : List Move) (stop : Option Stop) (why : Stop) (first : Stop) → stop ≡ Some first → stop_of P O M stop why ≡ Some first
-first_stays P O M (Some x) why first e = e
-first_stays P O M None why first e = absurd (cc)
+pub first_stays : (A : Admitting) (P : Plan) (O : Options) (M : List Move) (stop : Option Stop) (why : Stop) (first : Stop) → stop ≡ Some first → stop_by A P O M stop why ≡ Some first
+first_stays A P O M (Some x) why first e = e
+first_stays A P O M None why first e = absurd (cc)
 
--- what holds of a desk, and of its course
-pub with_course : {A B C D E F : Type 0} → A × B × C × D × E → F → A × B × C × D × E × F
-with_course five last = (five.0, five.1, five.2, five.3, five.4, last)
+-- what holds of a desk, of its course and of its starts
+pub with_course : {A B C D E F G : Type 0} → A × B × C × D × E → F → G → A × B × C × D × E × F × G
+with_course five course starts = (five.0, five.1, five.2, five.3, five.4, course, starts)
 
 -- a link that joins
 link_room : (room : Bool) (change : Option JoinRefused) → cond room change (Some refused.TooManyLinks) ≡ None → room ≡ true
@@ -258,6 +259,10 @@ module _ (asked : Asked) (keen : ℕ → Type 0) where
   course_kept t base ss ss2 H H2 is same =
       subst (HasCourse asked keen t.plan t.options t.stop base) (sym (ap (λ (l : List Step). moves_of base l H2) same.1 ∙ ap (moves_of base ss) same.0)) is
 
+  -- a desk with a table that stayed as it was
+  pub course_unchanged : (t after : TableState) (base : ℕ) (M : List Move) → after ≡ t → HasCourse asked keen t.plan t.options t.stop base M → HasCourse asked keen after.plan after.options after.stop base M
+  course_unchanged t after base M same is = subst (λ (v : TableState). HasCourse asked keen v.plan v.options v.stop base M) (sym same) is
+
   -- a desk with one step more that logs nothing
   pub course_linked : (t after : TableState) (base : ℕ) (ss ss2 : List Step) (H : List Record) (s : Step) (m : Move) → HasCourse asked keen t.plan t.options t.stop base (moves_of base ss H)
       → may_follow t.plan (plan_digest t.plan) t.options (moves_of base ss H) m ≡ true → WasAsked asked keen t.plan t.stop (moves_of base ss H) m
@@ -269,8 +274,8 @@ module _ (asked : Asked) (keen : ℕ → Type 0) where
       (course_push asked keen t.plan t.options t.stop base M m is may was) still (moves_quiet base ss ss2 H s m quiet grew are)
 
   -- a desk that is asked to stop
-  pub course_stopped : (t after : TableState) (why : Stop) (base : ℕ) (M : List Move) → HasCourse asked keen t.plan t.options t.stop base M
-      → after ≡ record t { stop = stop_of t.plan t.options M t.stop why } → HasCourse asked keen after.plan after.options after.stop base M
-  course_stopped t after why base M is changed =
+  pub course_stopped : (A : Admitting) (t after : TableState) (why : Stop) (base : ℕ) (M : List Move) → HasCourse asked keen t.plan t.options t.stop base M
+      → after ≡ record t { stop = stop_by A t.plan t.options M t.stop why } → HasCourse asked keen after.plan after.options after.stop base M
+  course_stopped A t after why base M is changed =
       subst (λ (v : TableState). HasCourse asked keen v.plan v.options v.stop base M) (sym changed)
-      (course_stop asked keen t.plan t.options t.stop (stop_of t.plan t.options M t.stop why) base M (λ first e. first_stays t.plan t.options M t.stop why first e) is)
+      (course_stop asked keen t.plan t.options t.stop (stop_by A t.plan t.options M t.stop why) base M (λ first e. first_stays A t.plan t.options M t.stop why first e) is)

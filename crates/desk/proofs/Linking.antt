@@ -79,6 +79,11 @@ module _ {S : Type 0} (fits : Plan → ℕ → Content → Option (List ℕ) →
         whole.4,
       )
 
+  -- and with a table that stayed as it was
+  pub same_table : (t after : TableState) (log : LogState) (base faults : ℕ) (ss : List Step) (H : List Record) (trouble : Trouble) (site : S) (places step_places : ℕ)
+      → after ≡ t → IsWhole t log base faults ss H trouble site places step_places → IsWhole after log base faults ss H trouble site places step_places
+  same_table t after log base faults ss H trouble site places step_places same whole = subst (λ (v : TableState). IsWhole v log base faults ss H trouble site places step_places) (sym same) whole
+
   -- and after a call that changed nothing but how much room there is
   pub untouched : (t : TableState) (log log2 : LogState) (base faults : ℕ) (ss ss2 : List Step) (H H2 : List Record) (trouble : Trouble) (site site2 : S) (places places2 step_places step_places2 : ℕ)
       → IsWhole t log base faults ss H trouble site places step_places → (log2 ≡ log) × (site2 ≡ site) → (H2 ≡ H) × (ss2 ≡ ss) → places ≤ places2 → step_places ≤ step_places2 → log.room ≤ log.room

@@ -17,10 +17,11 @@ use outside::{Commands, Site};
 use run_history::Options;
 use std::alloc::Global;
 use std::marker::Brand;
+use task_core::AdmitAll;
 use txn_log::Log;
 
 /// The site of a desk on which nothing runs.
-fn site_of<F: Commands, S: Site, T: Terms>(desk: Desk<F, S, T>) -> Option<S>
+fn site_of<F: Commands, S: Site, T: Terms>(desk: Desk<F, S, T, AdmitAll>) -> Option<S>
     ensures { IfSome result (λ left. S.tells → T.kept → (image : Files)
         → S.images_since left T.born image
         → T.before image ⊎ WasKept (Fits T.trust F.gives T.sources) desk.plan desk.log desk.base
@@ -59,7 +60,7 @@ fn begin_by<F: Commands, S: Site, T: Terms>(
         → T.before image ⊎ KeepsMore (Fits T.trust F.gives T.sources) plan log.name
         (length history) image) }
 {
-    match Desk::<F, S, T>::start(alloc, plan, site, log, history, options, 0) {
+    match Desk::<F, S, T, AdmitAll>::start(alloc, plan, site, log, history, options, 0) {
         Ok(desk) => site_of(desk),
         Err(refused) => Some(refused.site),
     }

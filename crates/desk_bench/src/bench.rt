@@ -5,6 +5,7 @@ ghost use Rattle.desk_bench.specs.Benches.{HasOutputs};
 
 use crate::drain::Drain;
 use crate::held::{Held, MOST_RULES};
+use crate::one_by_one::OneByOne;
 use crate::plans::{LOG, is_apart, outputs};
 use desk::{
     Claim, ClaimRefused, CloseRefused, CollectRefused, Desk, EndRefused, InputRefused, StartFault,
@@ -15,15 +16,19 @@ use mem_outside::{Blank, MemSite};
 use run_history::{Check, JoinRefused, Next, Nothing, Options, Stop};
 use std::alloc::Global;
 use std::marker::{Brand, Model};
+use task_core::{Admission, AdmitAll};
 
 /// A desk, with what each rule of its plan makes.
 #[derive(Drop)]
-pub struct Bench {
-    desk: Desk<Blank, MemSite, Brand>,
+pub struct BenchOf<A: Admission> {
+    desk: Desk<Blank, MemSite, Brand, A>,
     outs: Vec<Rows<Bytes>>,
 }
 
-impl Model for Bench {
+/// A bench whose desk admits every rule.
+pub type Bench = BenchOf<AdmitAll>;
+
+impl<A: Admission> Model for BenchOf<A> {
     ghost Value = { Unit {0} };
 
     ghost view = { λ b. tt };
@@ -66,12 +71,12 @@ fn all_outputs(alloc: Global, plan: &Plan) -> Result<Vec<Rows<Bytes>>, Memory>
 }
 
 /// Opens the log of the folder and starts a desk over it, or says why not and gives the folder back.
-pub fn begin(
+pub fn begin<A: Admission>(
     alloc: Global,
     plan: Plan,
     site: MemSite,
     options: Options,
-) -> Result<Bench, (Unready, MemSite)>
+) -> Result<BenchOf<A>, (Unready, MemSite)>
     requires { IsValid plan }
 {
     let Ok(name) = Name::of(alloc, LOG) else {
@@ -89,26 +94,14 @@ pub fn begin(
     let mut site = site;
     match recover(alloc, &mut site, name) {
         Ok((log, history)) => match Desk::start(alloc, plan, site, log, history, options, 7) {
-            Ok(desk) => Ok(Bench { desk, outs }),
+            Ok(desk) => Ok(BenchOf { desk, outs }),
             Err(refused) => Err((Unready::Desk(refused.why), refused.site)),
         },
         Err(why) => Err((Unready::Log(why), site)),
     }
 }
 
-impl Bench {
-    /// Claims a rule for a link.
-    pub fn claim(&mut self, link: LinkNo, moment: u64) -> Claimed {
-        if !self.desk.lives(link) {
-            return Claimed::NoLink;
-        }
-        match self.desk.claim(link, moment) {
-            Ok(Claim::Taken(attempt)) => Claimed::Taken(Held::of(attempt)),
-            Ok(Claim::Nothing(why)) => Claimed::Nothing(why),
-            Err(why) => Claimed::Refused(why),
-        }
-    }
-
+impl<A: Admission> BenchOf<A> {
     /// A link joins that is one place of these amounts, with a cache of so many bytes.
     pub fn join(&mut self, total: Amounts, cache: u64) -> Result<LinkNo, JoinRefused> {
         self.desk.join(total, total, cache)
@@ -190,11 +183,6 @@ impl Bench {
         Ok(self.desk.lose(held.into_attempt(), moment))
     }
 
-    /// Asks for a stop, and answers whether one stands.
-    pub fn stop(&mut self, why: Stop) -> bool {
-        self.desk.stop(why)
-    }
-
     /// Whether the desk works.
     pub fn works(&self) -> bool {
         self.desk.works()
@@ -221,20 +209,58 @@ impl Bench {
 
     /// The folder and the records, where no attempt runs or the desk doesn't work any more. Else
     /// the bench is given back.
-    pub fn parts(self) -> Result<(MemSite, Rows<Record>), Bench> {
+    pub fn parts(self) -> Result<(MemSite, Rows<Record>), BenchOf<A>> {
         if self.desk.works() && !self.desk.is_idle() {
             return Err(self);
         }
-        let Bench { desk, outs: _ } = self;
+        let BenchOf { desk, outs: _ } = self;
         Ok(desk.into_parts())
+    }
+}
+
+impl BenchOf<AdmitAll> {
+    /// Claims a rule for a link.
+    pub fn claim(&mut self, link: LinkNo, moment: u64) -> Claimed {
+        if !self.desk.lives(link) {
+            return Claimed::NoLink;
+        }
+        match self.desk.claim(link, moment) {
+            Ok(Claim::Taken(attempt)) => Claimed::Taken(Held::of(attempt)),
+            Ok(Claim::Nothing(why)) => Claimed::Nothing(why),
+            Err(why) => Claimed::Refused(why),
+        }
+    }
+
+    /// Asks for a stop, and answers whether one stands.
+    pub fn stop(&mut self, why: Stop) -> bool {
+        self.desk.stop(why)
     }
 
     /// A drain for attempts, where the plan has `MOST_RULES` rules.
     pub fn into_drain(self) -> Option<Drain> {
-        let Bench { desk, outs } = self;
+        let BenchOf { desk, outs } = self;
         if outs.len() < MOST_RULES {
             return None;
         }
         Some(Drain::over(desk))
+    }
+}
+
+impl BenchOf<OneByOne> {
+    /// Claims an admitted rule for a link.
+    pub fn claim_by(&mut self, link: LinkNo, moment: u64) -> Claimed {
+        if !self.desk.lives(link) {
+            return Claimed::NoLink;
+        }
+        match self.desk.claim_by(link, &mut OneByOne, moment) {
+            Ok(Claim::Taken(attempt)) => Claimed::Taken(Held::of(attempt)),
+            Ok(Claim::Nothing(why)) => Claimed::Nothing(why),
+            Err(why) => Claimed::Refused(why),
+        }
+    }
+
+    /// Asks for a stop by what is admitted, and answers whether one stands.
+    pub fn stop_by(&mut self, why: Stop) -> bool {
+        self.desk.stop_by(&mut OneByOne, why)
     }
 }

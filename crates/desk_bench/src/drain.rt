@@ -5,12 +5,13 @@ use crate::held::Held;
 use desk::Desk;
 use mem_outside::{Blank, MemSite};
 use std::marker::{Brand, Model};
+use task_core::AdmitAll;
 
 /// A desk that has as many rules as a bench may have, so that it closes any attempt that is held.
 /// It answers that the attempt is stale.
 #[derive(Drop)]
 pub struct Drain {
-    desk: Desk<Blank, MemSite, Brand>,
+    desk: Desk<Blank, MemSite, Brand, AdmitAll>,
 }
 
 impl Model for Drain {
@@ -25,7 +26,7 @@ impl Model for Drain {
 
 impl Drain {
     /// A drain over a desk of that many rules.
-    pub(crate) fn over(desk: Desk<Blank, MemSite, Brand>) -> Drain
+    pub(crate) fn over(desk: Desk<Blank, MemSite, Brand, AdmitAll>) -> Drain
         requires { 64 ≤ length desk.plan.rules }
     {
         Drain { desk }

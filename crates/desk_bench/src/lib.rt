@@ -8,10 +8,12 @@ mod bench;
 mod drain;
 mod held;
 mod logs;
+mod one_by_one;
 mod plans;
 
-pub use bench::{Bench, Claimed, Unready, begin};
+pub use bench::{Bench, BenchOf, Claimed, Unready, begin};
 pub use drain::Drain;
 pub use held::{Held, MOST_RULES};
 pub use logs::{Unlogged, append};
+pub use one_by_one::OneByOne;
 pub use plans::{LOG, Unmade, folder, planned, raw_rule};

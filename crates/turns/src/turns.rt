@@ -1,6 +1,7 @@
 //! The shared value.
 ghost use Rattle.std.specs.Prelude.{◌≡◌, ℕ, ◌+◌, ◌-◌, ◌<◌, ◌≤◌, ◌^◌, [], Some};
 ghost use Rattle.std.specs.Prelude.{IfOk, IfErr};
+ghost use Rattle.std.specs.Fn.{CalledWithState, TakesWithState};
 ghost use Rattle.turns.specs.Calls.{IsCounted, MayCall, Replies};
 ghost use Rattle.turns.specs.declared.counted.Counted.{Counted};
 ghost use Rattle.turns.specs.Turns.{In, Once, Turned, Knows, Joined};
@@ -42,6 +43,18 @@ impl<D: Growing, L: Ledger> Model for Turns<D, L> {
 #[derive(Drop)]
 pub struct TurnsRefused<D: Growing> {
     pub value: D,
+}
+
+// A call of a closure at the value and at what is given.
+fn call_with<D, A, R, C: FnMut(&mut D, A) -> Counted<R>>(
+    call: &mut C,
+    value: &mut D,
+    given: A,
+) -> Counted<R>
+    requires { TakesWithState C.FnMut call.old value.old given }
+    ensures { CalledWithState C.FnMut call.old value.old given result call.new value.new }
+{
+    call(value, given)
 }
 
 impl<D: Growing, L: Ledger> Turns<D, L> {
@@ -136,6 +149,39 @@ impl<D: Growing, L: Ledger> Turns<D, L> {
             mut book,
         } = held;
         let Counted { reply, moves, done } = call(&mut value, given);
+        book.add(&mut pass.share, moves - before);
+        let held = Held { value, book };
+        turn::give(&self.table, &mut pass.seat, held, moves, done);
+        reply
+    }
+
+    /// Takes a turn as `turn` does, for a call that keeps what it borrows. What it leaves there is
+    /// known then.
+    pub fn turn_mut<W: Wait, A, R, C: FnMut(&mut D, A) -> Counted<R>>(
+        &self,
+        rt: &W,
+        pass: &mut Pass<D, L>,
+        given: A,
+        call: &mut C,
+    ) -> R
+        requires of { pass.old.of ≡ self.now }
+        requires callable { (found : D) → Knows D.grows pass.old found
+            → TakesWithState C.FnMut call.old found given }
+        requires counted { (found after : D) (reply : Counted R) (left : C)
+            → Knows D.grows pass.old found
+            → CalledWithState C.FnMut call.old found given reply left after
+            → IsCounted D.grows D.moves D.done found after reply.moves reply.done }
+        ensures turned { (found : D) × (after : D) × (reply : Counted R)
+            × Turned D.grows D.moves pass.old found after pass.new
+            × CalledWithState C.FnMut call.old found given reply call.new after
+            × (reply.reply ≡ result) }
+    {
+        let (held, before) = turn::take(rt, &self.table, &mut pass.seat);
+        let Held {
+            mut value,
+            mut book,
+        } = held;
+        let Counted { reply, moves, done } = call_with(call, &mut value, given);
         book.add(&mut pass.share, moves - before);
         let held = Held { value, book };
         turn::give(&self.table, &mut pass.seat, held, moves, done);

@@ -4,7 +4,9 @@ ghost use Rattle.flow_types.specs.Serial.{serial};
 ghost use Rattle.run_history.specs.Links.{records_of};
 ghost use Rattle.desk.specs.Inputs.{IsWhole};
 ghost use Rattle.desk.specs.Tasks.{task_of};
-ghost use Rattle.board.specs.Calls.{AreCounts, Called, ClaimsHere, OnBoard, ReadsHere};
+ghost use Rattle.flow_types.specs.declared.plan.Plan.{Plan as PlanValue};
+ghost use Rattle.board.specs.Calls.{AreCounts, Called, ClaimsByHere, ClaimsHere, OnBoard};
+ghost use Rattle.board.specs.Calls.{ReadsHere};
 ghost use Rattle.board.specs.Goes.{OthersStay};
 
 use super::{Board, Pass};
@@ -15,33 +17,44 @@ use outside::{Commands, Site};
 use std::alloc::Global;
 use std::sync::Wait;
 use std::sync::ledger::Ledger;
+use task_core::{Admission, AdmitAll};
 use turns::Counted;
 
-impl<F: Commands, S: Site, T: Terms, L: Ledger> Board<F, S, T, L> {
-    /// Starts a rule, as the desk's `claim` says. Where the link doesn't live at the turn, the
-    /// answer is want of memory, and nothing changes.
-    pub fn claim<W: Wait>(
+impl<F: Commands, S: Site, T: Terms, A: Admission, L: Ledger> Board<F, S, T, A, L> {
+    /// Starts an admitted rule, as the desk's `claim_by` says. Where the link doesn't live at the
+    /// turn, the answer is want of memory, and nothing changes. Condition: the admission stands for
+    /// the desk's plan.
+    pub fn claim_by<W: Wait>(
         &self,
         rt: &W,
-        pass: &mut Pass<F, S, T, L>,
+        pass: &mut Pass<F, S, T, A, L>,
         link: LinkNo,
+        admission: &mut A,
         moment: u64,
     ) -> Result<Claim, ClaimRefused>
         requires of { pass.old.of ≡ self.now }
+        requires stands { OnBoard pass.old (λ d. A.stands_for admission.old d.plan) }
         ensures called { Called S.tells S.files S.may_leave S.moment S.images_since pass.old
-            pass.new (λ found after. ClaimsHere S.count found link moment result after) }
+            pass.new (λ found after.
+            ClaimsByHere A.admitted S.count found link moment result after) }
+        ensures stays { (P : PlanValue) → A.stands_for admission.old P
+            → A.stands_for admission.new P }
     {
-        self.turns.turn(
+        self.turns.turn_mut(
             rt,
             pass,
             (),
-            |shared: &mut Shared<F, S, T>, _: ()| -> Counted<Result<Claim, ClaimRefused>>
-                ensures reply { ClaimsHere S.count shared.old link moment result.reply shared.new }
+            &mut |shared: &mut Shared<F, S, T, A>, _: ()| -> Counted<Result<Claim, ClaimRefused>>
+                requires stands { A.stands_for admission.now shared.old.plan }
+                ensures reply { ClaimsByHere A.admitted S.count shared.old link moment result.reply
+                    shared.new }
                 ensures others { OthersStay S.tells S.files S.may_leave S.moment S.images_since
                     shared.old shared.new }
                 ensures counts { AreCounts shared.new result.moves result.done }
+                ensures stays { (P : PlanValue) → A.stands_for admission.entry.now P
+                    → A.stands_for admission.exit.now P }
             {
-                let reply = shared.claim(link, moment);
+                let reply = shared.claim_by(link, admission, moment);
                 shared.count(reply)
             },
         )
@@ -52,7 +65,7 @@ impl<F: Commands, S: Site, T: Terms, L: Ledger> Board<F, S, T, L> {
     pub fn task<W: Wait>(
         &self,
         rt: &W,
-        pass: &mut Pass<F, S, T, L>,
+        pass: &mut Pass<F, S, T, A, L>,
         alloc: Global,
         attempt: &Attempt,
     ) -> Result<Task, Memory>
@@ -67,7 +80,7 @@ impl<F: Commands, S: Site, T: Terms, L: Ledger> Board<F, S, T, L> {
             rt,
             pass,
             attempt,
-            |shared: &mut Shared<F, S, T>, attempt: &Attempt| -> Counted<Result<Task, Memory>>
+            |shared: &mut Shared<F, S, T, A>, attempt: &Attempt| -> Counted<Result<Task, Memory>>
                 requires rule { attempt.now.rule.0 < length shared.old.plan.rules }
                 ensures reply { IfOk result.reply (λ task.
                     task_of shared.old.plan (records_of shared.old.moves) attempt.now
@@ -86,7 +99,7 @@ impl<F: Commands, S: Site, T: Terms, L: Ledger> Board<F, S, T, L> {
     pub fn read_input<W: Wait>(
         &self,
         rt: &W,
-        pass: &mut Pass<F, S, T, L>,
+        pass: &mut Pass<F, S, T, A, L>,
         alloc: Global,
         file: FileNo,
     ) -> Result<Bytes, InputRefused>
@@ -101,7 +114,7 @@ impl<F: Commands, S: Site, T: Terms, L: Ledger> Board<F, S, T, L> {
             rt,
             pass,
             (),
-            |shared: &mut Shared<F, S, T>, _: ()| -> Counted<Result<Bytes, InputRefused>>
+            |shared: &mut Shared<F, S, T, A>, _: ()| -> Counted<Result<Bytes, InputRefused>>
                 ensures reply { ReadsHere S.tells S.files S.count shared.old file result.reply
                     shared.new }
                 ensures honest { IfOk result.reply (λ bytes. S.tells → T.kept → T.trust
@@ -112,6 +125,37 @@ impl<F: Commands, S: Site, T: Terms, L: Ledger> Board<F, S, T, L> {
                 ensures counts { AreCounts shared.new result.moves result.done }
             {
                 let reply = shared.read_input(alloc, file);
+                shared.count(reply)
+            },
+        )
+    }
+}
+
+impl<F: Commands, S: Site, T: Terms, L: Ledger> Board<F, S, T, AdmitAll, L> {
+    /// Starts a rule, as the desk's `claim` says. Where the link doesn't live at the turn, the
+    /// answer is want of memory, and nothing changes.
+    pub fn claim<W: Wait>(
+        &self,
+        rt: &W,
+        pass: &mut Pass<F, S, T, AdmitAll, L>,
+        link: LinkNo,
+        moment: u64,
+    ) -> Result<Claim, ClaimRefused>
+        requires of { pass.old.of ≡ self.now }
+        ensures called { Called S.tells S.files S.may_leave S.moment S.images_since pass.old
+            pass.new (λ found after. ClaimsHere S.count found link moment result after) }
+    {
+        self.turns.turn(
+            rt,
+            pass,
+            (),
+            |shared: &mut Shared<F, S, T, AdmitAll>, _: ()| -> Counted<Result<Claim, ClaimRefused>>
+                ensures reply { ClaimsHere S.count shared.old link moment result.reply shared.new }
+                ensures others { OthersStay S.tells S.files S.may_leave S.moment S.images_since
+                    shared.old shared.new }
+                ensures counts { AreCounts shared.new result.moves result.done }
+            {
+                let reply = shared.claim(link, moment);
                 shared.count(reply)
             },
         )

@@ -19,15 +19,16 @@ use outside::{Commands, Site};
 use run_history::Next;
 use std::sync::Wait;
 use std::sync::ledger::Ledger;
+use task_core::Admission;
 use turns::Counted;
 
-impl<F: Commands, S: Site, T: Terms, L: Ledger> Board<F, S, T, L> {
+impl<F: Commands, S: Site, T: Terms, A: Admission, L: Ledger> Board<F, S, T, A, L> {
     /// Closes an attempt that made these outputs, as the desk's `finish` says. Conditions: the
     /// attempt's rule is in the plan, and the outputs are its, and honest work where there is trust.
     pub fn finish<W: Wait>(
         &self,
         rt: &W,
-        pass: &mut Pass<F, S, T, L>,
+        pass: &mut Pass<F, S, T, A, L>,
         attempt: Attempt,
         outs: &Rows<Bytes>,
         moment: u64,
@@ -45,7 +46,7 @@ impl<F: Commands, S: Site, T: Terms, L: Ledger> Board<F, S, T, L> {
             rt,
             pass,
             (attempt, outs),
-            |shared: &mut Shared<F, S, T>, given: (Attempt, &Rows<Bytes>)| -> Counted<
+            |shared: &mut Shared<F, S, T, A>, given: (Attempt, &Rows<Bytes>)| -> Counted<
                 Result<(), CloseRefused>,
             >
                 requires rule { given.0.rule.0 < length shared.old.plan.rules }
@@ -72,7 +73,7 @@ impl<F: Commands, S: Site, T: Terms, L: Ledger> Board<F, S, T, L> {
     pub fn fail<W: Wait>(
         &self,
         rt: &W,
-        pass: &mut Pass<F, S, T, L>,
+        pass: &mut Pass<F, S, T, A, L>,
         attempt: Attempt,
         why: Failure,
         moment: u64,
@@ -93,7 +94,9 @@ impl<F: Commands, S: Site, T: Terms, L: Ledger> Board<F, S, T, L> {
             rt,
             pass,
             attempt,
-            |shared: &mut Shared<F, S, T>, attempt: Attempt| -> Counted<Result<Next, CloseRefused>>
+            |shared: &mut Shared<F, S, T, A>, attempt: Attempt| -> Counted<
+                Result<Next, CloseRefused>,
+            >
                 requires rule { attempt.rule.0 < length shared.old.plan.rules }
                 requires index { is_failure_at why (length (makes shared.old.plan attempt.rule.0))
                     ≡ true }
@@ -120,7 +123,7 @@ impl<F: Commands, S: Site, T: Terms, L: Ledger> Board<F, S, T, L> {
     pub fn lose<W: Wait>(
         &self,
         rt: &W,
-        pass: &mut Pass<F, S, T, L>,
+        pass: &mut Pass<F, S, T, A, L>,
         attempt: Attempt,
         moment: u64,
     ) -> Result<(), CloseRefused>
@@ -136,7 +139,7 @@ impl<F: Commands, S: Site, T: Terms, L: Ledger> Board<F, S, T, L> {
             rt,
             pass,
             attempt,
-            |shared: &mut Shared<F, S, T>, attempt: Attempt| -> Counted<Result<(), CloseRefused>>
+            |shared: &mut Shared<F, S, T, A>, attempt: Attempt| -> Counted<Result<(), CloseRefused>>
                 requires rule { attempt.rule.0 < length shared.old.plan.rules }
                 requires keen { T.keen attempt.link.0 → CanLose shared.old attempt.link.0 }
                 ensures reply { Closes S.count shared.old attempt.rule attempt.number attempt.link

@@ -11,14 +11,15 @@ use outside::{Commands, Site};
 use run_history::JoinRefused;
 use std::sync::Wait;
 use std::sync::ledger::Ledger;
+use task_core::Admission;
 use turns::Counted;
 
-impl<F: Commands, S: Site, T: Terms, L: Ledger> Board<F, S, T, L> {
+impl<F: Commands, S: Site, T: Terms, A: Admission, L: Ledger> Board<F, S, T, A, L> {
     /// A link joins, as the desk's `join` says.
     pub fn join<W: Wait>(
         &self,
         rt: &W,
-        pass: &mut Pass<F, S, T, L>,
+        pass: &mut Pass<F, S, T, A, L>,
         total: Amounts,
         largest: Amounts,
         cache: u64,
@@ -31,7 +32,7 @@ impl<F: Commands, S: Site, T: Terms, L: Ledger> Board<F, S, T, L> {
             rt,
             pass,
             (),
-            |shared: &mut Shared<F, S, T>, _: ()| -> Counted<Result<LinkNo, JoinRefused>>
+            |shared: &mut Shared<F, S, T, A>, _: ()| -> Counted<Result<LinkNo, JoinRefused>>
                 ensures reply { Joins shared.old total largest cache result.reply shared.new }
                 ensures counts { AreCounts shared.new result.moves result.done }
             {
@@ -46,7 +47,7 @@ impl<F: Commands, S: Site, T: Terms, L: Ledger> Board<F, S, T, L> {
     pub fn totals<W: Wait>(
         &self,
         rt: &W,
-        pass: &mut Pass<F, S, T, L>,
+        pass: &mut Pass<F, S, T, A, L>,
         link: LinkNo,
         total: Amounts,
         largest: Amounts,
@@ -60,7 +61,7 @@ impl<F: Commands, S: Site, T: Terms, L: Ledger> Board<F, S, T, L> {
             rt,
             pass,
             (),
-            |shared: &mut Shared<F, S, T>, _: ()| -> Counted<Result<(), JoinRefused>>
+            |shared: &mut Shared<F, S, T, A>, _: ()| -> Counted<Result<(), JoinRefused>>
                 ensures reply { ChangesHere shared.old link total largest cache result.reply
                     shared.new }
                 ensures counts { AreCounts shared.new result.moves result.done }
@@ -73,7 +74,7 @@ impl<F: Commands, S: Site, T: Terms, L: Ledger> Board<F, S, T, L> {
 
     /// A link leaves, as the desk's `leave` says. Where it is the local place, or doesn't live, or
     /// an attempt runs there at the turn, nothing happens.
-    pub fn leave<W: Wait>(&self, rt: &W, pass: &mut Pass<F, S, T, L>, link: LinkNo)
+    pub fn leave<W: Wait>(&self, rt: &W, pass: &mut Pass<F, S, T, A, L>, link: LinkNo)
         requires of { pass.old.of ≡ self.now }
         ensures called { Called S.tells S.files S.may_leave S.moment S.images_since pass.old
             pass.new (λ found after. LeavesHere found link after) }
@@ -82,7 +83,7 @@ impl<F: Commands, S: Site, T: Terms, L: Ledger> Board<F, S, T, L> {
             rt,
             pass,
             (),
-            |shared: &mut Shared<F, S, T>, _: ()| -> Counted<()>
+            |shared: &mut Shared<F, S, T, A>, _: ()| -> Counted<()>
                 ensures left { LeavesHere shared.old link shared.new }
                 ensures counts { AreCounts shared.new result.moves result.done }
             {

@@ -19,10 +19,10 @@ use flow_types::{Memory, Record, Rows};
 use outside::{Commands, Fault, Site};
 use std::alloc::Global;
 use std::marker::PhantomData;
-use task_core::Table;
+use task_core::{Admission, Table};
 use txn_log::Log;
 
-impl<F: Commands, S: Site, T: Terms> Desk<F, S, T> {
+impl<F: Commands, S: Site, T: Terms, A: Admission> Desk<F, S, T, A> {
     /// Begins a desk with a record that may stand behind the history, over a site that has the
     /// files of both, and a log that takes each record that closes an attempt.
     fn begin_in_room(
@@ -33,7 +33,7 @@ impl<F: Commands, S: Site, T: Terms> Desk<F, S, T> {
         history: Rows<Record>,
         faults: u64,
         entry: Record,
-    ) -> Result<Desk<F, S, T>, StartRefused<S>>
+    ) -> Result<Desk<F, S, T, A>, StartRefused<S>>
         requires few { ListsFew entry }
         requires takes { Takes log history }
         requires place { length history < most_records }
@@ -104,7 +104,7 @@ impl<F: Commands, S: Site, T: Terms> Desk<F, S, T> {
         history: Rows<Record>,
         faults: u64,
         entry: Record,
-    ) -> Result<Desk<F, S, T>, StartRefused<S>>
+    ) -> Result<Desk<F, S, T, A>, StartRefused<S>>
         requires few { ListsFew entry }
         requires takes { Takes log history }
         requires place { length history < most_records }

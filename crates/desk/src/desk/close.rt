@@ -26,8 +26,9 @@ use crate::{CloseRefused, Terms, Trouble};
 use flow_types::{AttemptNo, Bytes, Content, Failure, LinkNo, Memory, Record, Rows, RuleNo};
 use outside::{Commands, Fault, Site};
 use run_history::Next;
+use task_core::Admission;
 
-impl<F: Commands, S: Site, T: Terms> Desk<F, S, T> {
+impl<F: Commands, S: Site, T: Terms, A: Admission> Desk<F, S, T, A> {
     /// Whether an attempt may be closed.
     fn check(&self, rule: RuleNo, number: AttemptNo, link: LinkNo) -> Result<(), CloseRefused>
         requires { rule.0 < length self.now.plan.rules }

@@ -19,8 +19,9 @@ use crate::{ClaimRefused, CloseRefused, CollectRefused, Terms, Trouble};
 use flow_types::{FileNo, Memory, Record};
 use outside::{Commands, Fault, Site};
 use run_history::Nothing;
+use task_core::Admission;
 
-impl<F: Commands, S: Site, T: Terms> Desk<F, S, T> {
+impl<F: Commands, S: Site, T: Terms, A: Admission> Desk<F, S, T, A> {
     /// The file that a collection drops, or why it drops none.
     fn collection(&self) -> Result<Option<FileNo>, Nothing>
         ensures answer { collected_number result ≡ collection_of self.now.plan self.now.options

@@ -1,12 +1,14 @@
 //! Stops, and the end of a run.
 ghost use Rattle.std.specs.Prelude.{◌≡◌, ◌≢◌, IfSome, IsErrOf, true, false, None, is_some};
 ghost use Rattle.flow_types.specs.Plans.{is_empty};
+ghost use Rattle.flow_types.specs.declared.plan.Plan.{Plan as PlanValue};
+ghost use Rattle.run_history.specs.Admissions.{stop_by};
 ghost use Rattle.run_history.specs.History.{part};
 ghost use Rattle.run_history.specs.Answers.{end_of, has_ended, stop_of};
 ghost use Rattle.run_history.specs.Links.{records_of};
 ghost use Rattle.outside.specs.Disk.{LeavesOnly};
 ghost use Rattle.desk.specs.declared.answers.EndRefused.TheVariants as refused;
-ghost use Rattle.desk.specs.Ends.{Answers, Ends, KeepsEnd};
+ghost use Rattle.desk.specs.Ends.{Answers, Ends, KeepsEnd, says_stopped};
 ghost use Rattle.desk.specs.Kept.{Fits, Keeps, ReadsStay, StaysBeside, FilesHold};
 ghost use Rattle.desk.specs.Room.{KeepsAmple};
 ghost use Rattle.desk.specs.State.{IsFine, has_room};
@@ -17,19 +19,34 @@ use crate::{ClaimRefused, CloseRefused, EndRefused, Terms};
 use flow_types::{Memory, Record};
 use outside::{Commands, Site};
 use run_history::{Check, Stop};
+use task_core::{Admission, AdmitAll, Reply};
 
-impl<F: Commands, S: Site, T: Terms> Desk<F, S, T> {
+// Whether the reply to a stop says that one stands.
+fn says_stopped(reply: Reply) -> bool
+    ensures { result ≡ says_stopped reply }
+{
+    match reply {
+        Reply::Stopped(stands) => stands,
+        _ => false,
+    }
+}
+
+impl<F: Commands, S: Site, T: Terms, A: Admission> Desk<F, S, T, A> {
     /// Asks for a stop, and answers whether one stands now. The first stop stays. Where none stands
     /// Halt is set always, and Waited where waiting is in vain: no attempt runs, no file is wanted,
-    /// and some ready rule fits the storage, but no live link takes such a rule. It takes no
-    /// memory.
-    pub fn stop(&mut self, why: Stop) -> bool
+    /// and some admitted ready rule fits the storage, but no live link takes such a rule. It takes
+    /// no memory. Condition: the admission stands for the plan.
+    pub fn stop_by(&mut self, admission: &mut A, why: Stop) -> bool
+        requires stands { A.stands_for admission.old self.old.plan }
         ensures answer { result ≡ is_some self.new.stop }
         ensures stop { self.new ≡ record self.old {
-          stop = stop_of self.old.plan self.old.options self.old.moves self.old.stop why;
+          stop = stop_by A.admitted self.old.plan self.old.options self.old.moves self.old.stop
+              why;
         } }
+        ensures stays { (P : PlanValue) → A.stands_for admission.old P
+            → A.stands_for admission.new P }
     {
-        self.table.stop(why)
+        says_stopped(self.table.stop_by(admission, why))
     }
 
     /// Whether this run has ended: `end` has logged it.
@@ -129,5 +146,21 @@ impl<F: Commands, S: Site, T: Terms> Desk<F, S, T> {
             Some(answer) => Ok(answer),
             None => self.end_now(moment),
         }
+    }
+}
+
+impl<F: Commands, S: Site, T: Terms> Desk<F, S, T, AdmitAll> {
+    /// Asks for a stop, and answers whether one stands now. The first stop stays. Where none stands
+    /// Halt is set always, and Waited where waiting is in vain: no attempt runs, no file is wanted,
+    /// and some ready rule fits the storage, but no live link takes such a rule. It takes no
+    /// memory.
+    pub fn stop(&mut self, why: Stop) -> bool
+        ensures answer { result ≡ is_some self.new.stop }
+        ensures stop { self.new ≡ record self.old {
+          stop = stop_of self.old.plan self.old.options self.old.moves self.old.stop why;
+        } }
+    {
+        let mut all = AdmitAll;
+        self.stop_by(&mut all, why)
     }
 }

@@ -11,8 +11,9 @@ use crate::step::{Step, add_step};
 use flow_types::{Amounts, LinkNo, Memory};
 use outside::{Commands, Site};
 use run_history::JoinRefused;
+use task_core::Admission;
 
-impl<F: Commands, S: Site, T: Terms> Desk<F, S, T> {
+impl<F: Commands, S: Site, T: Terms, A: Admission> Desk<F, S, T, A> {
     /// A link joins with these amounts, the largest of one of its places, and a cache of so many
     /// bytes. Its number is the next, from 1 upward. TooManyLinks comes where 32 links live beside
     /// the local place, else TooManyJoins where 1,000,000 joins and changes were made; after a

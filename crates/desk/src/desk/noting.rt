@@ -9,6 +9,7 @@ ghost use Rattle.run_history.specs.Moves.{is_served};
 ghost use Rattle.rule_graph.specs.Spelling.{plan_digest};
 ghost use Rattle.log_records.specs.Spelling.{ListsFew, spelling};
 ghost use Rattle.outside.specs.Disk.{LeavesOnly};
+ghost use Rattle.desk.specs.Admitted.{IsAdmitted};
 ghost use Rattle.desk.specs.Asked.{IsAskedFailure, IsAskedLoss, MayFail};
 ghost use Rattle.desk.specs.Claims.{Works};
 ghost use Rattle.desk.specs.Follows.{Follows, IsShaped};
@@ -24,8 +25,9 @@ use crate::room::places_behind;
 use crate::{ClaimRefused, CloseRefused, Terms, Trouble};
 use flow_types::{Memory, Record};
 use outside::{Commands, Fault, Site};
+use task_core::Admission;
 
-impl<F: Commands, S: Site, T: Terms> Desk<F, S, T> {
+impl<F: Commands, S: Site, T: Terms, A: Admission> Desk<F, S, T, A> {
     /// Whether the desk works, for a claim.
     pub(super) fn working(&self) -> Result<(), ClaimRefused>
         ensures { Works self.now result }
@@ -48,6 +50,8 @@ impl<F: Commands, S: Site, T: Terms> Desk<F, S, T> {
         requires failure { IsAskedFailure (MayFail T.trust F.gives F.may_fail T.sources)
             self.old.plan entry }
         requires loss { IsAskedLoss T.keen self.old.stop self.old.moves (moves.Logged entry) }
+        requires admitted { IsAdmitted A.admitted self.old.plan self.old.options
+            (records_of self.old.moves) entry }
         requires goes_on { is_cleaned entry ≡ false }
         requires shaped { IsShaped self.old.plan entry }
         requires follows { Follows self.old.plan self.old.options self.old.stop self.old.moves

@@ -19,8 +19,9 @@ use crate::{InputRefused, Terms, Trouble};
 use flow_types::{Bytes, Content, FileNo, Memory};
 use outside::{Commands, Fault, Site};
 use std::alloc::Global;
+use task_core::Admission;
 
-impl<F: Commands, S: Site, T: Terms> Desk<F, S, T> {
+impl<F: Commands, S: Site, T: Terms, A: Admission> Desk<F, S, T, A> {
     /// What was logged of a file that is present.
     fn logged(&self, file: FileNo) -> Option<Content>
         ensures { result ≡ content_in (file_state self.now.plan (records_of self.now.moves)
