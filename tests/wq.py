@@ -450,14 +450,17 @@ def wq_masters():
         it.note("the log", [] if 3 <= kinds.count("resumed") <= 6 and sum(kind.startswith("done") for kind in kinds) == 64 else [f"it logged {short(kinds)}"])
 
     with Farm("a port that is taken, and then free", {"in": "abc"}, ONE, {}) as it:
+        run = ("-T", "wq", "-p", str(it.port), "flow")
         with socket.create_server(("", it.port)):
-            it.ends("the run", it.begin(("-T", "wq", "-p", str(it.port), "flow")), 5, NETWORK_FAULT)
-            it.note("the log", [] if not [kind for kind in logs.kinds(it.records()) if kind.startswith(("ended", "started"))] else ["it has an end, or a start"])
+            it.ends("the run", it.begin(run), 5, NETWORK_FAULT, [])
         started = it.master()
         worker = it.worker()
-        it.ends("the run on a free port", started, 0, COMPLETE)
+        it.ends("the run on a free port", started, 0, COMPLETE, ONE_RUN)
         it.byes(worker)
-        it.made = {"out": b"abc"}
+        it.made, old = {"out": b"abc"}, it.data()
+        with socket.create_server(("", it.port)):
+            it.ends("the run of a log that has one", it.begin(run), 5, NETWORK_FAULT, ONE_RUN)
+        it.note("the log", [] if it.data() == old else ["it has other bytes"])
 
     with Farm("two masters at one port", {"in": "abc"}, ONE, {"out": b"abc"}) as it:
         first = it.master()

@@ -102,9 +102,9 @@ no_plan : Plan
 no_plan = record { rules = []; files = [] }
 
 -- a run that wasn't begun leaves what a run may
-run_leaves : {L : Type 0} (spells : List Record → Type 0) (told : Type 0) (gives : Function) (may_fail : Job → Failure → Type 0) (history : L → List Passed) (count idles : L → ℕ) (closed : L → Bool) (ask : Ask) (rise : ℕ) (got : List (Option LinkNo × L))
-    → RunLeaves spells told gives may_fail history count idles closed ask rise got got [] causes.Memory
-run_leaves spells told gives may_fail history count idles closed ask rise got = record {
+run_leaves : {L : Type 0} (spells : List Record → Type 0) (told listens : Type 0) (gives : Function) (may_fail : Job → Failure → Type 0) (history : L → List Passed) (count idles : L → ℕ) (closed : L → Bool) (ask : Ask) (rise : ℕ) (got : List (Option LinkNo × L))
+    → RunLeaves spells told listens gives may_fail history count idles closed ask rise got got [] causes.Memory
+run_leaves spells told listens gives may_fail history count idles closed ask rise got = record {
   past = [];
   spelled = λ wrong. absurd (true≢false (sym wrong));
   added = inl (inl refl);
@@ -114,6 +114,8 @@ run_leaves spells told gives may_fail history count idles closed ask rise got = 
   lost_away = λ keeps. absurd (true≢false keeps);
   due_losses = λ tells keeps. absurd (true≢false keeps);
   ended = λ wrong. absurd (true≢false (sym wrong));
+  heard = λ asked. inr refl;
+  failed = tt;
 }
 
 module _ {A B L C D : Type 0} (F : CommandWords) (S : SiteWords A) (H : HallWords B L) (R : RunnerWords C) (O : SinkWords D) (told : Job → Type 0)
@@ -131,7 +133,7 @@ module _ {A B L C D : Type 0} (F : CommandWords) (S : SiteWords A) (H : HallWord
       read = λ wrong. absurd (true≢false (sym wrong));
       legal = λ wrong. absurd (true≢false (sym wrong));
       storage = λ wrong. absurd (true≢false (sym wrong));
-      leaves = λ options chosen work. run_leaves (λ past. S.tells → AreLogged (request line env (S.files site)) (S.files site) past) H.Way.tells F.gives F.may_fail H.Way.history H.Way.count H.Way.idle_count H.Way.is_closed (ask_of options no_plan) (H.idle_count hall - H.idle_count hall) (H.got hall);
+      leaves = λ options chosen work. run_leaves (λ past. S.tells → AreLogged (request line env (S.files site)) (S.files site) past) H.Way.tells (H.listens hall) F.gives F.may_fail H.Way.history H.Way.count H.Way.idle_count H.Way.is_closed (ask_of options no_plan) (H.idle_count hall - H.idle_count hall) (H.got hall);
       opened = λ options chosen wrong. absurd (true≢false (sym wrong));
       collects = λ options chosen wrong. absurd (true≢false (sym wrong));
       waited = λ options chosen. tt;

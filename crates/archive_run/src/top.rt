@@ -60,7 +60,7 @@ fn run_plain<
     ensures ends { TopEnds (record { gives = F.gives; may_fail = F.may_fail })
         (site_words S.tells S.files S.may_leave S.moment S.images_since S.count)
         (hall_words (link_words H.Way.tells H.Way.history H.Way.count H.Way.idle_count
-        H.Way.is_closed) H.given H.got H.honest H.sure H.manned H.count H.idle_count)
+        H.Way.is_closed) H.listens H.given H.got H.honest H.sure H.manned H.count H.idle_count)
         (record { sure = R.sure; count = R.count; failures = R.failures })
         (record { tells = O.tells; bytes = O.bytes; count = O.count })
         words.now env.now (stand site hall.old runners.items out.old)
@@ -110,7 +110,7 @@ fn run_with<
     ensures ends { TopEnds (record { gives = F.gives; may_fail = F.may_fail })
         (site_words S.tells S.files S.may_leave S.moment S.images_since S.count)
         (hall_words (link_words H.Way.tells H.Way.history H.Way.count H.Way.idle_count
-        H.Way.is_closed) H.given H.got H.honest H.sure H.manned H.count H.idle_count)
+        H.Way.is_closed) H.listens H.given H.got H.honest H.sure H.manned H.count H.idle_count)
         (record { sure = R.sure; count = R.count; failures = R.failures })
         (record { tells = O.tells; bytes = O.bytes; count = O.count })
         words.now env.now (stand site hall.old runners.items out.old)
@@ -197,7 +197,7 @@ pub fn archive_top<
         → TopEnds (record { gives = F.gives; may_fail = F.may_fail })
         (site_words S.tells S.files S.may_leave S.moment S.images_since S.count)
         (hall_words (link_words H.Way.tells H.Way.history H.Way.count H.Way.idle_count
-        H.Way.is_closed) H.given H.got H.honest H.sure H.manned H.count H.idle_count)
+        H.Way.is_closed) H.listens H.given H.got H.honest H.sure H.manned H.count H.idle_count)
         (record { sure = R.sure; count = R.count; failures = R.failures })
         (record { tells = O.tells; bytes = O.bytes; count = O.count })
         (drop 1 words.now) env.now (stand site hall.old runners.items out.old)
@@ -212,7 +212,7 @@ pub fn archive_top<
         → TopEnds (record { gives = F.gives; may_fail = F.may_fail })
         (site_words S.tells S.files S.may_leave S.moment S.images_since S.count)
         (hall_words (link_words H.Way.tells H.Way.history H.Way.count H.Way.idle_count
-        H.Way.is_closed) H.given H.got H.honest H.sure H.manned H.count H.idle_count)
+        H.Way.is_closed) H.listens H.given H.got H.honest H.sure H.manned H.count H.idle_count)
         (record { sure = R.sure; count = R.count; failures = R.failures })
         (record { tells = O.tells; bytes = O.bytes; count = O.count })
         (take 1 words.now) env.now (stand site hall.old runners.items out.old)

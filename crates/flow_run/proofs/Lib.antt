@@ -3,6 +3,7 @@ pub mod Losses
 pub mod Dues
 pub mod Placed
 mod Added
+pub mod Declined
 mod Reliance
 pub mod Calms
 mod Enough

@@ -240,6 +240,8 @@ spared_sure (stopped.Halted halts.Runner) spared = spared
 spared_sure (stopped.Halted halts.Site) spared = tt
 spared_sure (stopped.Halted halts.Memory) spared = tt
 spared_sure stopped.Hall spared = tt
+spared_sure (stopped.Unheard fault) spared = tt
+spared_sure (stopped.Unopened fault) spared = tt
 
 sure_complete : (limit : Option ℕ) (check : Check) → IsCompleteEnd limit check → (let how : Result Check Stopped = Ok check in IsSureEnd how)
 sure_complete limit (checks.Complete collected) is = tt

@@ -26,8 +26,8 @@ use Rattle.local_run.specs.declared.halt.Halt.TheVariants as halts
 use Rattle.local_run.specs.declared.ended.Stopped.{Stopped}
 use Rattle.local_run.specs.declared.ended.Stopped.TheVariants as stopped
 use Rattle.local_run.specs.Course.{Closed, GoesOn, HaltsBy, IsBroken}
-use Rattle.local_run.specs.Ends.{IsSureHalt, StartEnds}
-use Rattle.local_run.specs.Runs.{HasCauses, IsCutRun, IsHallEnd, IsRefusedRun, ended_by}
+use Rattle.local_run.specs.Ends.{IsSureEnd, IsSureHalt, IsWholeRun, RunDamage, StartEnds}
+use Rattle.local_run.specs.Runs.{HasCauses, IsClosedRun, IsCutRun, IsHallEnd, IsRefusedRun, IsUnmetRun, ended_by}
 use Rattle.wq_run.specs.Ends.{AreBack, EndsHere, EndsWaiting, IsSparedRunners, StopsBy}
 
 -- ---- of a run with workers
@@ -63,13 +63,16 @@ no_hall (Ok check) is = is
 no_hall (Err halt) is = is
 
 -- nothing was given and nothing handed back
-pub back_same : {L : Type 0} (got : List (Option LinkNo × L)) (given : ℕ) → AreBack got got given given
-back_same {L} got given = record {
+pub back_as : {L : Type 0} (got got_now : List (Option LinkNo × L)) (given given_now : ℕ) → got_now ≡ got → given_now ≡ given → AreBack got got_now given given_now
+back_as {L} got got_now given given_now same many = record {
   more = [];
-  are = sym (append-nil got);
-  many = omega arith;
+  are = same ∙ sym (append-nil got);
+  many = omega (arith, many);
   apart = λ k. omega arith;
 }
+
+pub back_same : {L : Type 0} (got : List (Option LinkNo × L)) (given : ℕ) → AreBack got got given given
+back_same got given = back_as got got given given refl refl
 
 -- a run that didn't start stopped by no runner
 pub refused_spared : (how : Result Check Stopped) → IsRefusedRun how → IsSparedRunners how
@@ -77,6 +80,52 @@ refused_spared (Ok check) refused = absurd refused
 refused_spared (Err (stopped.Refused why)) refused = tt
 refused_spared (Err (stopped.Halted halt)) refused = absurd refused
 refused_spared (Err stopped.Hall) refused = absurd refused
+refused_spared (Err (stopped.Unheard fault)) refused = tt
+refused_spared (Err (stopped.Unopened fault)) refused = tt
+
+-- nor for a damaged input
+pub refused_damage : (P : Plan) (H : List Record) (files : Files) (how : Result Check Stopped) → IsRefusedRun how → RunDamage P H files how
+refused_damage P H files (Ok check) refused = absurd refused
+refused_damage P H files (Err (stopped.Refused why)) refused = tt
+refused_damage P H files (Err (stopped.Halted halt)) refused = absurd refused
+refused_damage P H files (Err stopped.Hall) refused = absurd refused
+refused_damage P H files (Err (stopped.Unheard fault)) refused = tt
+refused_damage P H files (Err (stopped.Unopened fault)) refused = tt
+
+pub refused_whole : (how : Result Check Stopped) → IsRefusedRun how → IsWholeRun how
+refused_whole (Ok check) refused = absurd refused
+refused_whole (Err (stopped.Refused why)) refused = tt
+refused_whole (Err (stopped.Halted halt)) refused = absurd refused
+refused_whole (Err stopped.Hall) refused = absurd refused
+refused_whole (Err (stopped.Unheard fault)) refused = tt
+refused_whole (Err (stopped.Unopened fault)) refused = tt
+
+-- nor by a failed command
+pub refused_sure : (how : Result Check Stopped) → IsRefusedRun how → IsSureEnd how
+refused_sure (Ok check) refused = absurd refused
+refused_sure (Err (stopped.Refused why)) refused = tt
+refused_sure (Err (stopped.Halted halt)) refused = absurd refused
+refused_sure (Err stopped.Hall) refused = absurd refused
+refused_sure (Err (stopped.Unheard fault)) refused = tt
+refused_sure (Err (stopped.Unopened fault)) refused = tt
+
+-- and none was closed
+pub refused_unclosed : (how : Result Check Stopped) → IsRefusedRun how → IsClosedRun how → ⊥
+refused_unclosed (Ok check) refused closed = absurd refused
+refused_unclosed (Err (stopped.Refused why)) refused closed = closed
+refused_unclosed (Err (stopped.Halted halt)) refused closed = absurd refused
+refused_unclosed (Err stopped.Hall) refused closed = absurd refused
+refused_unclosed (Err (stopped.Unheard fault)) refused closed = closed
+refused_unclosed (Err (stopped.Unopened fault)) refused closed = closed
+
+-- where no hall was asked for anything the run didn't start
+pub unmet_refused : (how : Result Check Stopped) → IsUnmetRun how → IsRefusedRun how
+unmet_refused (Ok check) unmet = unmet
+unmet_refused (Err (stopped.Refused why)) unmet = tt
+unmet_refused (Err (stopped.Halted halt)) unmet = unmet
+unmet_refused (Err stopped.Hall) unmet = unmet
+unmet_refused (Err (stopped.Unheard fault)) unmet = absurd unmet
+unmet_refused (Err (stopped.Unopened fault)) unmet = absurd unmet
 
 -- ---- of both
 
@@ -89,6 +138,8 @@ fine_stop t before now hb hn (Err (stopped.Halted halts.Runner)) stops whole = s
 fine_stop t before now hb hn (Err (stopped.Halted halts.Site)) stops whole = absurd (whole tt)
 fine_stop t before now hb hn (Err (stopped.Halted halts.Memory)) stops whole = absurd (whole tt)
 fine_stop t before now hb hn (Err stopped.Hall) stops whole = stops.0
+fine_stop t before now hb hn (Err (stopped.Unheard fault)) stops whole = absurd stops
+fine_stop t before now hb hn (Err (stopped.Unopened fault)) stops whole = absurd stops
 
 cut_stop : (t : Trouble) (before now hall_before hall_now : ℕ) (how : Result Check Stopped) → StopsBy t before now hall_before hall_now how → IsCut t → IsCutRun how
 cut_stop t before now hb hn (Ok check) stops cut = not_cut t stops cut
@@ -98,6 +149,8 @@ cut_stop t before now hb hn (Err (stopped.Halted halts.Runner)) stops cut = not_
 cut_stop t before now hb hn (Err (stopped.Halted halts.Site)) stops cut = tt
 cut_stop t before now hb hn (Err (stopped.Halted halts.Memory)) stops cut = tt
 cut_stop t before now hb hn (Err stopped.Hall) stops cut = not_cut t stops.0 cut
+cut_stop t before now hb hn (Err (stopped.Unheard fault)) stops cut = absurd stops
+cut_stop t before now hb hn (Err (stopped.Unopened fault)) stops cut = absurd stops
 
 rose : (first now : ℕ) (t : Trouble) → IsBroken t → HasCounts first now t → first < now
 rose first now trouble.Fine broken counts = absurd broken
@@ -112,6 +165,8 @@ causes_stop first now before after hb hn t (Err (stopped.Halted halts.Runner)) s
 causes_stop first now before after hb hn t (Err (stopped.Halted halts.Site)) stops counts = rose first now t stops counts
 causes_stop first now before after hb hn t (Err (stopped.Halted halts.Memory)) stops counts = tt
 causes_stop first now before after hb hn t (Err stopped.Hall) stops counts = tt
+causes_stop first now before after hb hn t (Err (stopped.Unheard fault)) stops counts = absurd stops
+causes_stop first now before after hb hn t (Err (stopped.Unopened fault)) stops counts = absurd stops
 
 -- the run of a desk that was started isn't refused
 pub started_stop : (t : Trouble) (before now hall_before hall_now : ℕ) (how : Result Check Stopped) → StopsBy t before now hall_before hall_now how → IsRefusedRun how → ⊥
@@ -119,12 +174,16 @@ started_stop t before now hb hn (Ok check) stops refused = refused
 started_stop t before now hb hn (Err (stopped.Refused why)) stops refused = stops
 started_stop t before now hb hn (Err (stopped.Halted halt)) stops refused = refused
 started_stop t before now hb hn (Err stopped.Hall) stops refused = refused
+started_stop t before now hb hn (Err (stopped.Unheard fault)) stops refused = stops
+started_stop t before now hb hn (Err (stopped.Unopened fault)) stops refused = stops
 
 pub starts_stop : (t : Trouble) (before now hall_before hall_now : ℕ) (how : Result Check Stopped) → StopsBy t before now hall_before hall_now how → StartEnds None how
 starts_stop t before now hb hn (Ok check) stops = refl
 starts_stop t before now hb hn (Err (stopped.Refused why)) stops = absurd stops
 starts_stop t before now hb hn (Err (stopped.Halted halt)) stops = refl
 starts_stop t before now hb hn (Err stopped.Hall) stops = refl
+starts_stop t before now hb hn (Err (stopped.Unheard fault)) stops = absurd stops
+starts_stop t before now hb hn (Err (stopped.Unopened fault)) stops = absurd stops
 
 -- the hall's count rose where it stopped by its failure
 pub hall_stop : (t : Trouble) (before now hall_before hall_now : ℕ) (how : Result Check Stopped) → StopsBy t before now hall_before hall_now how → IsHallEnd how → hall_before < hall_now
@@ -132,6 +191,8 @@ hall_stop t before now hb hn (Ok check) stops is = absurd is
 hall_stop t before now hb hn (Err (stopped.Refused why)) stops is = absurd is
 hall_stop t before now hb hn (Err (stopped.Halted halt)) stops is = absurd is
 hall_stop t before now hb hn (Err stopped.Hall) stops is = stops.1
+hall_stop t before now hb hn (Err (stopped.Unheard fault)) stops is = absurd stops
+hall_stop t before now hb hn (Err (stopped.Unopened fault)) stops is = absurd stops
 
 cut_more : (fits : Plan → ℕ → Content → Option (List ℕ) → Type 0) (P : Plan) (log : List ℕ) (base : ℕ) (H : List Record) (cut cut2 : Type 0) (image : Files) → (cut → cut2) → WasKept fits P log base H cut image → WasKept fits P log base H cut2 image
 cut_more fits P log base H cut cut2 image f kept = record {

@@ -2,3 +2,4 @@ pub mod Overs
 pub mod Places
 pub mod Relied
 pub mod Reached
+pub mod Openings

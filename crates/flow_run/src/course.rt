@@ -35,6 +35,7 @@ use run_history::Check;
 use std::alloc::Global;
 use std::sync::Wait;
 use std::thread::Threads;
+use task_core::AdmitAll;
 use worker_pool::Gate;
 use wq_run::{Trust, Workers};
 
@@ -48,7 +49,7 @@ fn ended_by(done: Result<Check, Halt>) -> Result<Check, Stopped>
 }
 
 /// Runs the rules that the desk hands out, and ends the run: all of them here, or where the run
-/// takes workers in (`wq`), here and at those that come to the hall.
+/// takes workers in (`wq`), here and at those that come to the hall, which listens already.
 pub fn work<
     W: Threads + Wait + Sync,
     G: Gate,
@@ -62,7 +63,7 @@ pub fn work<
     rt: &W,
     alloc: Global,
     wq: bool,
-    desk: &mut Desk<F, S, T>,
+    desk: &mut Desk<F, S, T, AdmitAll>,
     hall: &mut H,
     workers: Workers,
     runners: &mut [R],
@@ -83,6 +84,7 @@ pub fn work<
         desk.old.plan desk.old.options (records_of desk.old.moves) }
     requires told { T.trust → TellsJobs T.plan T.options (AllTell R.tells runners.old) T.due }
     requires honest { T.trust → desk.old.options.wq ≡ true → H.honest hall.old }
+    requires listens { desk.old.options.wq ≡ true → H.listens hall.old }
     requires keen { (k : ℕ) → 0 < k → T.keen k → ⊥ }
     ensures goes { (links : List Move) × GoesOn T.trust F.gives F.may_fail T.sources S.tells
         S.files S.may_leave S.moment S.images_since links desk.old desk.new }
@@ -94,6 +96,7 @@ pub fn work<
     ensures risen { sum_by R.failures runners.old ≤ sum_by R.failures runners.new }
     ensures met { H.count hall.old ≤ H.count hall.new }
     ensures hall { IsHallEnd result → desk.old.options.wq ≡ true }
+    ensures listens { desk.old.options.wq ≡ true → H.listens hall.new }
     ensures alone { desk.old.options.wq ≡ false → hall.new ≡ hall.old }
     ensures back { (IsCutRun result → ⊥)
         → AreBack (H.got hall.old) (H.got hall.new) (H.given hall.old) (H.given hall.new) }

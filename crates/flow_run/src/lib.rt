@@ -5,6 +5,7 @@
 #![tactic(auto)]
 
 mod course;
+mod opening;
 mod resuming;
 mod runs;
 

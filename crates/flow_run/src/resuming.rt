@@ -25,7 +25,7 @@ ghost use Rattle.local_run.specs.Ends.{OpensBy};
 ghost use Rattle.local_run.specs.Ends.{IsWholeRun, LogsFailures, RunDamage, StartEnds, run_fault};
 ghost use Rattle.local_run.specs.Moments.{IsBefore, IsDamageFault, IsMoment, IsResumable};
 ghost use Rattle.local_run.specs.Moments.{IsUnread, KeepsSome};
-ghost use Rattle.local_run.specs.Runs.{Adds, IsEarlyRun, IsRefusedRun};
+ghost use Rattle.local_run.specs.Runs.{Adds, IsEarlyRun, IsRefusedRun, IsUnmetRun};
 ghost use Rattle.local_run.specs.Runs.{BeginsWith, HasCauses, Held, IsAdmitted, IsClosedRun};
 ghost use Rattle.local_run.specs.Runs.{IsCutRun, IsHallEnd, IsSparedName, LosesNone, SerialFits};
 ghost use Rattle.local_run.specs.Runs.{read_sources};
@@ -34,6 +34,7 @@ ghost use Rattle.wq_run.specs.Ends.{AreBack, EndsWaiting, IsSparedRunners, Loses
 ghost use Rattle.wq_run.specs.Losses.{AreDueLosses};
 ghost use Rattle.wq_run.specs.Results.{AreResults};
 ghost use Rattle.wq_run.specs.Vain.{AreVain, IfWaited, NeedsAtMost};
+ghost use Rattle.flow_run.specs.Openings.{MeetsNobody};
 ghost use Rattle.flow_run.specs.Overs.{RunsOver};
 ghost use Rattle.flow_run.specs.Places.{PlacedBy};
 ghost use Rattle.flow_run.specs.Reached.{IsDoneAway};
@@ -220,7 +221,12 @@ pub fn resume<
         → (options.wq ≡ true) × (H.count hall.old < H.count hall.new)) }
     ensures met { H.count hall.old ≤ H.count hall.new }
     ensures alone { options.wq ≡ false → hall.new ≡ hall.old }
-    ensures unmet { IfOk result (λ ended. IsRefusedRun ended.how → hall.new ≡ hall.old) }
+    ensures unmet { IfOk result (λ ended. IsUnmetRun ended.how → hall.new ≡ hall.old) }
+    ensures vacant { IfOk result (λ ended. IsRefusedRun ended.how → MeetsNobody
+        (H.got hall.old) (H.got hall.new) (H.given hall.old) (H.given hall.new)
+        (H.idle_count hall.old) (H.idle_count hall.new)) }
+    ensures listens { IfOk result (λ ended. options.wq ≡ true → (IsRefusedRun ended.how → ⊥)
+        → H.listens hall.new) }
     ensures unopened { IfErr result (λ refused. hall.new ≡ hall.old) }
     ensures back { IfOk result (λ ended. (IsCutRun ended.how → ⊥)
         → AreBack (H.got hall.old) (H.got hall.new) (H.given hall.old) (H.given hall.new)) }

@@ -29,7 +29,7 @@ ghost use Rattle.local_run.specs.Ends.{IsDone};
 ghost use Rattle.local_run.specs.Ends.{IsFresh, IsRunEnd, IsSureEnd, IsWholeRun, LogsFailures};
 ghost use Rattle.local_run.specs.Ends.{OpensBy, RunDamage, StartEnds, records_due, run_fault};
 ghost use Rattle.local_run.specs.Runs.{Adds, BeginsWith, HasCauses, Held, IsAdmitted, IsClosedRun};
-ghost use Rattle.local_run.specs.Runs.{IsEarlyRun, IsRefusedRun};
+ghost use Rattle.local_run.specs.Runs.{IsEarlyRun, IsRefusedRun, IsUnmetRun};
 ghost use Rattle.local_run.specs.Runs.{IsCutRun, IsHallEnd, IsKeeping, IsSparedName, IsStanding};
 ghost use Rattle.local_run.specs.Runs.{LosesNone, SerialFits, read_sources};
 ghost use Rattle.wq_run.specs.Calm.{ComeFew, GoesWell};
@@ -38,21 +38,24 @@ ghost use Rattle.wq_run.specs.Losses.{AreDueLosses};
 ghost use Rattle.wq_run.specs.Results.{AreResults};
 ghost use Rattle.wq_run.specs.Vain.{AreVain, IfWaited, NeedsAtMost};
 ghost use Rattle.wq_run.specs.Trusted.{IsOf};
+ghost use Rattle.flow_run.specs.Openings.{MeetsNobody};
 ghost use Rattle.flow_run.specs.Places.{PlacedBy};
 ghost use Rattle.flow_run.specs.Reached.{IsDoneAway, IsReached};
 ghost use Rattle.flow_run.specs.Relied.{IsRelied};
 
 use crate::course::work;
-use desk::{Desk, StartRefused, Terms};
+use crate::opening::{Unopened, open};
+use desk::{Desk, Terms};
 use flow_types::{Plan, Record, Rows};
 use links::Hall;
-use local_run::{Born, RunEnded, Stopped};
+use local_run::{Born, RunEnded};
 use outside::{Clock, Commands, Runner, Site};
 use run_history::Options;
 use std::alloc::Global;
 use std::marker::Brand;
 use std::sync::Wait;
 use std::thread::Threads;
+use task_core::AdmitAll;
 use txn_log::Log;
 use worker_pool::Gate;
 use wq_run::{Trust, Workers};
@@ -71,7 +74,7 @@ fn run_desk<
     rt: &W,
     alloc: Global,
     wq: bool,
-    desk: Desk<F, S, T>,
+    desk: Desk<F, S, T, AdmitAll>,
     hall: &mut H,
     workers: Workers,
     runners: &mut [R],
@@ -92,6 +95,7 @@ fn run_desk<
         desk.plan desk.options (records_of desk.moves) }
     requires told { T.trust → TellsJobs T.plan T.options (AllTell R.tells runners.old) T.due }
     requires honest { T.trust → desk.options.wq ≡ true → H.honest hall.old }
+    requires listens { desk.options.wq ≡ true → H.listens hall.old }
     requires keen { (k : ℕ) → 0 < k → T.keen k → ⊥ }
     ensures more { Adds T.trust F.gives F.may_fail T.sources desk.plan (records_of desk.moves)
         result.records }
@@ -164,6 +168,7 @@ fn run_desk<
         (sum_by R.failures runners.old) (sum_by R.failures runners.new) }
     ensures hall { IsHallEnd result.how
         → (desk.options.wq ≡ true) × (H.count hall.old < H.count hall.new) }
+    ensures listens { desk.options.wq ≡ true → H.listens hall.new }
     ensures met { H.count hall.old ≤ H.count hall.new }
     ensures alone { desk.options.wq ≡ false → hall.new ≡ hall.old }
     ensures back { (IsCutRun result.how → ⊥)
@@ -305,7 +310,10 @@ fn run_by<
         → (options.wq ≡ true) × (H.count hall.old < H.count hall.new) }
     ensures met { H.count hall.old ≤ H.count hall.new }
     ensures alone { options.wq ≡ false → hall.new ≡ hall.old }
-    ensures unmet { IsRefusedRun result.how → hall.new ≡ hall.old }
+    ensures unmet { IsUnmetRun result.how → hall.new ≡ hall.old }
+    ensures vacant { IsRefusedRun result.how → MeetsNobody (H.got hall.old) (H.got hall.new)
+        (H.given hall.old) (H.given hall.new) (H.idle_count hall.old) (H.idle_count hall.new) }
+    ensures listens { options.wq ≡ true → (IsRefusedRun result.how → ⊥) → H.listens hall.new }
     ensures back { (IsCutRun result.how → ⊥)
         → AreBack (H.got hall.old) (H.got hall.new) (H.given hall.old) (H.given hall.new) }
     ensures completes { FitsHere plan options → S.tells → T.kept → T.trust
@@ -323,16 +331,26 @@ fn run_by<
         → SerialInputsFit plan F.gives T.sources → HasRecordRoom plan history
         → IfOk result.how (IsCompleteEnd options.limit) }
 {
-    match Desk::<F, S, T>::start(alloc, plan, site, log, history, options, clock.now()) {
+    match open::<F, S, H, T>(
+        alloc,
+        plan,
+        site,
+        log,
+        history,
+        options,
+        clock.now(),
+        hall,
+        workers.port,
+    ) {
         Ok(desk) => run_desk(
             rt, alloc, options.wq, desk, hall, workers, runners, gate, clock,
         ),
-        Err(refused) => {
-            let StartRefused { why, site, history } = refused;
+        Err(unopened) => {
+            let Unopened { site, records, why } = unopened;
             RunEnded {
                 site,
-                records: history,
-                how: Err(Stopped::Refused(why)),
+                records,
+                how: Err(why),
             }
         }
     }
@@ -455,7 +473,10 @@ pub fn run<
         → (options.wq ≡ true) × (H.count hall.old < H.count hall.new) }
     ensures met { H.count hall.old ≤ H.count hall.new }
     ensures alone { options.wq ≡ false → hall.new ≡ hall.old }
-    ensures unmet { IsRefusedRun result.how → hall.new ≡ hall.old }
+    ensures unmet { IsUnmetRun result.how → hall.new ≡ hall.old }
+    ensures vacant { IsRefusedRun result.how → MeetsNobody (H.got hall.old) (H.got hall.new)
+        (H.given hall.old) (H.given hall.new) (H.idle_count hall.old) (H.idle_count hall.new) }
+    ensures listens { options.wq ≡ true → (IsRefusedRun result.how → ⊥) → H.listens hall.new }
     ensures back { (IsCutRun result.how → ⊥)
         → AreBack (H.got hall.old) (H.got hall.new) (H.given hall.old) (H.given hall.new) }
     ensures completes { S.tells

@@ -6,6 +6,7 @@ use Rattle.flow_types.specs.declared.records.Record.{Record}
 use Rattle.run_history.specs.declared.answers.Check.{Check}
 use Rattle.run_history.specs.declared.answers.Check.TheVariants as checks
 use Rattle.outside.specs.Files.{Files}
+use Rattle.outside.specs.declared.fault.Fault.TheVariants as devices
 use Rattle.desk.specs.declared.answers.StartFault.{StartFault}
 use Rattle.desk.specs.declared.answers.StartFault.TheVariants as faults
 use Rattle.local_run.specs.declared.halt.Halt.{Halt}
@@ -79,3 +80,7 @@ all_done limit expected (Err (stopped.Halted halts.Runner)) before after first n
 all_done limit expected (Err (stopped.Halted halts.Site)) before after first now starts none whole sure causes stood manned complete = let wrong : ⊥ = omega (arith, causes, stood) in absurd wrong
 all_done limit expected (Err (stopped.Halted halts.Memory)) before after first now starts none whole sure causes stood manned complete = tt
 all_done limit expected (Err stopped.Hall) before after first now starts none whole sure causes stood manned complete = absurd (manned tt)
+all_done limit expected (Err (stopped.Unheard devices.Failed)) before after first now starts none whole sure causes stood manned complete = absurd (manned tt)
+all_done limit expected (Err (stopped.Unheard devices.Memory)) before after first now starts none whole sure causes stood manned complete = tt
+all_done limit expected (Err (stopped.Unopened devices.Failed)) before after first now starts none whole sure causes stood manned complete = let wrong : ⊥ = omega (arith, causes, stood) in absurd wrong
+all_done limit expected (Err (stopped.Unopened devices.Memory)) before after first now starts none whole sure causes stood manned complete = tt

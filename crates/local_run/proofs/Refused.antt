@@ -38,6 +38,8 @@ early_refused (Ok check) early = early
 early_refused (Err (stopped.Refused why)) early = tt
 early_refused (Err (stopped.Halted halt)) early = early
 early_refused (Err stopped.Hall) early = early
+early_refused (Err (stopped.Unheard fault)) early = tt
+early_refused (Err (stopped.Unopened fault)) early = tt
 
 -- where the records are refused the site stays
 pub early_same : {S : Type 0} (count : S → ℕ) (P : Plan) (O : Options) (H : List Record) (tells : Type 0) (files : Files) (old new : S) (why : StartFault)
@@ -116,6 +118,8 @@ pub early_over : (P : Plan) (O : Options) (H : List Record) (files : Files) (how
 early_over P O H files (Ok check) starts early none = early
 early_over P O H files (Err (stopped.Halted halt)) starts early none = early
 early_over P O H files (Err stopped.Hall) starts early none = early
+early_over P O H files (Err (stopped.Unheard fault)) starts early none = early
+early_over P O H files (Err (stopped.Unopened fault)) starts early none = early
 early_over P O H files (Err (stopped.Refused why)) starts early none =
     let refusal = early_uncut why early in
     let same : run_fault P O [] files ≡ Some why = ap (λ (G : List Record). run_fault P O G files) (sym none) ∙ starts refusal.0 in

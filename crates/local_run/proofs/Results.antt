@@ -15,6 +15,7 @@ use Rattle.run_history.specs.declared.moves.Move.{Move}
 use Rattle.run_history.specs.Links.{records_of}
 use Rattle.outside.specs.Disk.{Outcomes}
 use Rattle.outside.specs.Files.{Files}
+use Rattle.outside.specs.declared.fault.Fault.TheVariants as devices
 use Rattle.desk.specs.declared.answers.Trouble.{Trouble}
 use Rattle.desk.specs.declared.answers.StartFault.TheVariants as faults
 use Rattle.flow_types.specs.Plans.{is_empty}
@@ -69,6 +70,8 @@ closed_whole (Err (stopped.Halted halts.Runner)) closed cut = cut
 closed_whole (Err (stopped.Halted halts.Site)) closed cut = closed
 closed_whole (Err (stopped.Halted halts.Memory)) closed cut = closed
 closed_whole (Err stopped.Hall) closed cut = cut
+closed_whole (Err (stopped.Unheard fault)) closed cut = closed
+closed_whole (Err (stopped.Unopened fault)) closed cut = closed
 
 -- and nothing was wrong with its records
 pub closed_admitted : (how : Result Check Stopped) → IsClosedRun how → IsAdmitted how
@@ -76,6 +79,8 @@ closed_admitted (Ok check) closed = tt
 closed_admitted (Err (stopped.Refused why)) closed = absurd closed
 closed_admitted (Err (stopped.Halted halt)) closed = tt
 closed_admitted (Err stopped.Hall) closed = tt
+closed_admitted (Err (stopped.Unheard fault)) closed = absurd closed
+closed_admitted (Err (stopped.Unopened fault)) closed = absurd closed
 
 none_left : (xs : List ℕ) → length xs ≤ 0 → is_empty xs ≡ true
 none_left [] le = refl
@@ -103,6 +108,9 @@ causes_since first before now b n (Err (stopped.Halted halts.Runner)) le h = h
 causes_since first before now b n (Err (stopped.Halted halts.Site)) le h = let up : before < now = h in omega (arith, le, up)
 causes_since first before now b n (Err (stopped.Halted halts.Memory)) le h = tt
 causes_since first before now b n (Err stopped.Hall) le h = tt
+causes_since first before now b n (Err (stopped.Unheard fault)) le h = tt
+causes_since first before now b n (Err (stopped.Unopened devices.Failed)) le h = let up : before < now = h in omega (arith, le, up)
+causes_since first before now b n (Err (stopped.Unopened devices.Memory)) le h = tt
 
 pub on_ok : {A E : Type 0} (r : Result A E) (P Q : Type 0) → (P → Q) → OnOk r P → OnOk r Q
 on_ok (Ok x) P Q f p = f p

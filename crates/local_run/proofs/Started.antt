@@ -16,6 +16,7 @@ use Rattle.flow_types.specs.declared.records.Record.{Record}
 use Rattle.flow_types.specs.Plans.{rule_numbers}
 use Rattle.flow_types.specs.Serial.{Contents, Function, serial}
 use Rattle.run_history.specs.declared.options.Options.{Options}
+use Rattle.run_history.specs.declared.answers.Check.{Check}
 use Rattle.run_history.specs.declared.moves.Move.TheVariants as moves
 use Rattle.run_history.specs.Answers.{or_else}
 use Rattle.run_history.specs.History.{is_cleaned, is_opening}
@@ -31,8 +32,10 @@ use Rattle.outside.specs.Files.{Files}
 use Rattle.desk.specs.declared.answers.StartRefused.{StartRefused}
 use Rattle.desk.specs.declared.answers.StartFault.{StartFault}
 use Rattle.desk.specs.declared.answers.StartFault.TheVariants as faults
+use Rattle.local_run.specs.declared.halt.Halt.TheVariants as halts
+use Rattle.local_run.specs.declared.ended.Stopped.{Stopped}
 use Rattle.local_run.specs.declared.ended.Stopped.TheVariants as stopped
-use Rattle.desk.specs.Begins.{BeginsRun, IsCutBy, IsRefusal, IsUncutBy, KeepsOpening, run_over}
+use Rattle.desk.specs.Begins.{BeginsRun, IsRefusal, KeepsOpening, run_over}
 use Rattle.desk.specs.Kept.{IsLegal, Keeps, WasKept}
 use Rattle.desk.specs.Openings.{Opens, early_fault, opened_plan, opening, other_flow}
 use Rattle.desk.proofs.Starting.{early_legal, none_illegal}
@@ -40,7 +43,7 @@ use Rattle.desk.specs.State.{DeskState, IsFine}
 use Rattle.local_run.specs.Course.{FailsHonestly}
 use Rattle.local_run.specs.Ends.{BeganOver, IsFresh, is_failed, records_due}
 use Rattle.local_run.specs.Losses.{is_lost}
-use Rattle.local_run.specs.Runs.{Adds, HasCauses, IsAdmitted, LosesNone}
+use Rattle.local_run.specs.Runs.{Adds, HasCauses, IsAdmitted, IsCutRun, LosesNone}
 use Rattle.local_run.proofs.Fresh.{due_more, fresh_opened}
 use Rattle.local_run.proofs.Going.{records_more}
 
@@ -168,25 +171,33 @@ module _ {S : Type 0} (fits : Plan → ℕ → Content → Option (List ℕ) →
   begun_now first may_fail contents d image begun k =
       subst (λ (Q : Plan). Keeps fits Q log all image) begun.plan (subst (λ (n : List ℕ). Keeps fits d.plan n all image) begun.log_is k)
 
--- a refusal is for the site or memory, or for what the history or a file is
-cut_or_not : (why : StartFault) → IsCutBy why ⊎ IsUncutBy why
-cut_or_not (faults.OtherFlow logged found) = inr tt
-cut_or_not (faults.NotLegal at) = inr tt
-cut_or_not (faults.LogFull records) = inr tt
-cut_or_not (faults.StoredAboveLimit stored limit) = inr tt
-cut_or_not (faults.SourceMissing file) = inr tt
-cut_or_not (faults.SourceTooLarge file size) = inr tt
-cut_or_not (faults.SourceChanged file logged found) = inr tt
-cut_or_not (faults.FileDamaged file logged found) = inr tt
-cut_or_not (faults.Site before after) = inl tt
-cut_or_not faults.Memory = inl tt
+-- a run is cut short or isn't
+cut_or_not : (how : Result Check Stopped) → IsCutRun how ⊎ (IsCutRun how → ⊥)
+cut_or_not (Ok check) = inr (λ cut. cut)
+cut_or_not (Err (stopped.Refused (faults.OtherFlow logged found))) = inr (λ cut. cut)
+cut_or_not (Err (stopped.Refused (faults.NotLegal at))) = inr (λ cut. cut)
+cut_or_not (Err (stopped.Refused (faults.LogFull records))) = inr (λ cut. cut)
+cut_or_not (Err (stopped.Refused (faults.StoredAboveLimit stored limit))) = inr (λ cut. cut)
+cut_or_not (Err (stopped.Refused (faults.SourceMissing file))) = inr (λ cut. cut)
+cut_or_not (Err (stopped.Refused (faults.SourceTooLarge file size))) = inr (λ cut. cut)
+cut_or_not (Err (stopped.Refused (faults.SourceChanged file logged found))) = inr (λ cut. cut)
+cut_or_not (Err (stopped.Refused (faults.FileDamaged file logged found))) = inr (λ cut. cut)
+cut_or_not (Err (stopped.Refused (faults.Site before after))) = inl tt
+cut_or_not (Err (stopped.Refused faults.Memory)) = inl tt
+cut_or_not (Err (stopped.Halted (halts.Damaged file logged found))) = inr (λ cut. cut)
+cut_or_not (Err (stopped.Halted halts.Runner)) = inr (λ cut. cut)
+cut_or_not (Err (stopped.Halted halts.Site)) = inl tt
+cut_or_not (Err (stopped.Halted halts.Memory)) = inl tt
+cut_or_not (Err stopped.Hall) = inr (λ cut. cut)
+cut_or_not (Err (stopped.Unheard fault)) = inr (λ cut. cut)
+cut_or_not (Err (stopped.Unopened fault)) = inl tt
 
 module _ {S : Type 0} (may_leave : S → Outcomes) (moment : S → ℕ) (images_since : S → ℕ → Files → Type 0) (fits : Plan → ℕ → Content → Option (List ℕ) → Type 0) (P : Plan) (log : List ℕ) (H all : List Record)
-    (old new : S) (why : StartFault) where
+    (old new : S) (how : Result Check Stopped) where
   -- a start that was cut short may have added its record
-  cut_kept : (O : Options) (time : ℕ) (tells : Type 0) (files : Files) (image : Files) → all ≡ H → IsCutBy why → KeepsOpening fits P O log H time tells files image → WasKept fits P log (length H) all (IsCutBy why) image
+  cut_kept : (O : Options) (time : ℕ) (tells : Type 0) (files : Files) (image : Files) → all ≡ H → IsCutRun how → KeepsOpening fits P O log H time tells files image → WasKept fits P log (length H) all (IsCutRun how) image
   cut_kept O time tells files image same cut left =
-      subst (λ (G : List Record). WasKept fits P log (length H) G (IsCutBy why) image) (sym same)
+      subst (λ (G : List Record). WasKept fits P log (length H) G (IsCutRun how) image) (sym same)
       (⊎_elim (λ (k : Keeps fits P log H image). record { records = H; since = omega arith; kept = k; known = inl ([], append-nil H) })
       (λ (k : (x : Record) × Opens P O (run_over H time) tells files x × Keeps fits P log (H ++ (x ∷ [])) image). record {
         records = H ++ (k.0 ∷ []);
@@ -195,32 +206,31 @@ module _ {S : Type 0} (may_leave : S → Outcomes) (moment : S → ℕ) (images_
         known = inr (cut, (k.0, refl));
       }) left)
 
-  -- one that was refused otherwise left the history
-  uncut_kept : (image : Files) → all ≡ H → Keeps fits P log H image → WasKept fits P log (length H) all (IsCutBy why) image
+  -- one that wasn't left the history
+  uncut_kept : (image : Files) → all ≡ H → Keeps fits P log H image → WasKept fits P log (length H) all (IsCutRun how) image
   uncut_kept image same k =
-      subst (λ (G : List Record). WasKept fits P log (length H) G (IsCutBy why) image) (sym same) (record { records = H; since = omega arith; kept = k; known = inl ([], append-nil H) })
+      subst (λ (G : List Record). WasKept fits P log (length H) G (IsCutRun how) image) (sym same) (record { records = H; since = omega arith; kept = k; known = inl ([], append-nil H) })
 
-  -- what a start that was refused leaves at each moment
+  -- what a run that wasn't started leaves at each moment
   pub refused_kept : (O : Options) (time : ℕ) (tells : Type 0) (files : Files) (past : Files → Type 0) (born : ℕ) (image : Files) → all ≡ H → born ≤ moment old
       → ((image : Files) → images_since old born image → past image) → ((image : Files) → IsImage (may_leave old) image → Keeps fits P log H image)
       → LeavesOnly moment images_since old new (KeepsOpening fits P O log H time tells files)
-      → (IsUncutBy why → Within (may_leave old) (may_leave new) × LeavesOnly moment images_since old new (IsImage (may_leave old)))
-      → images_since new born image → past image ⊎ WasKept fits P log (length H) all (IsCutBy why) image
+      → ((IsCutRun how → ⊥) → Within (may_leave old) (may_leave new) × LeavesOnly moment images_since old new (IsImage (may_leave old)))
+      → images_since new born image → past image ⊎ WasKept fits P log (length H) all (IsCutRun how) image
   refused_kept O time tells files past born image same later before kept any quiet left =
       ⊎_elim
-      (λ (cut : IsCutBy why). ⊎_elim (λ (was : images_since old born image). inl (before image was))
+      (λ (cut : IsCutRun how). ⊎_elim (λ (was : images_since old born image). inl (before image was))
       (λ (k : KeepsOpening fits P O log H time tells files image). inr (cut_kept O time tells files image same cut k)) (any.before born image later left))
-      (λ (uncut : IsUncutBy why). ⊎_elim (λ (was : images_since old born image). inl (before image was))
+      (λ (uncut : IsCutRun how → ⊥). ⊎_elim (λ (was : images_since old born image). inl (before image was))
       (λ (is : IsImage (may_leave old) image). inr (uncut_kept image same (kept image is))) ((quiet uncut).1.before born image later left))
-      (cut_or_not why)
+      (cut_or_not how)
 
   -- and behind it
   pub refused_now : (image : Files) → all ≡ H → ((image : Files) → IsImage (may_leave old) image → Keeps fits P log H image)
-      → (IsUncutBy why → Within (may_leave old) (may_leave new) × LeavesOnly moment images_since old new (IsImage (may_leave old))) → (IsCutBy why → ⊥)
+      → ((IsCutRun how → ⊥) → Within (may_leave old) (may_leave new) × LeavesOnly moment images_since old new (IsImage (may_leave old))) → (IsCutRun how → ⊥)
       → IsImage (may_leave new) image → Keeps fits P log all image
   refused_now image same kept quiet whole is =
-      ⊎_elim (λ (cut : IsCutBy why). absurd (whole cut))
-      (λ (uncut : IsUncutBy why). subst (λ (G : List Record). Keeps fits P log G image) (sym same) (kept image (λ m. (quiet uncut).0 m (image m) (is m)))) (cut_or_not why)
+      subst (λ (G : List Record). Keeps fits P log G image) (sym same) (kept image (λ m. (quiet whole).0 m (image m) (is m)))
 
 -- A history over which no file had to be looked at is legal where it isn't that which is wrong.
 pub refused_legal : {S : Type 0} (count : S → ℕ) (P : Plan) (O : Options) (H : List Record) (tells : Type 0) (files : Files) (old new : S) (why : StartFault) → IsRefusal count P O H tells files old new why

@@ -17,7 +17,7 @@ use Rattle.file_store.specs.Outputs.{file_name}
 use Rattle.desk.specs.declared.answers.StartRefused.{StartRefused}
 use Rattle.desk.specs.declared.answers.StartFault.{StartFault}
 use Rattle.desk.specs.declared.answers.StartFault.TheVariants as faults
-use Rattle.desk.specs.Begins.{BeginsRun, IsRefusal, IsUncutBy}
+use Rattle.desk.specs.Begins.{BeginsRun, FindsFiles, IsRefusal, IsUncutBy}
 use Rattle.desk.specs.Openings.{AreSound, early_fault, file_fault, source_fault, state_fault}
 use Rattle.desk.specs.State.{DeskState}
 use Rattle.local_run.specs.declared.halt.Halt.{Halt}
@@ -55,11 +55,14 @@ least_fault : (P : Plan) (H : List Record) (files : Files) (f : ℕ) (why : Star
     → AreSound P (is_empty (part H)) (file_state P H) files f → first_file_fault P H files ≡ Some why
 least_fault P H files f why inside is sound = least_among (file_fault P (is_empty (part H)) (file_state P H) files) 0 (length P.files) f why (omega arith) (omega (arith, inside)) is (λ i le lt. sound i lt)
 
+-- nothing stands in the way of a run where neither the records nor a file are at fault
+pub none_stands : (P : Plan) (O : Options) (H : List Record) (files : Files) → early_fault P O H ≡ None → FindsFiles P H files (let found : Result (Unit {0}) StartFault = Ok tt in found) → run_fault P O H files ≡ None
+none_stands P O H files early finds = ap (λ o. or_else o (or_else (first_file_fault P H files) None)) early ∙ ap (λ o. or_else o None) (sound_none P H files finds)
+
 -- nothing stood in the way of a run that was started
 pub started_free : {S : Type 0} (count : S → ℕ) (P : Plan) (O : Options) (H : List Record) (log : List ℕ) (time : ℕ) (tells : Type 0) (files : Files) (old : S) (d : DeskState S)
     → (let begun : Result (DeskState S) (StartRefused S) = Ok d in BeginsRun count P O log H time tells files old begun) → tells → run_fault P O H files ≡ None
-started_free count P O H log time tells files old d h told =
-    ap (λ o. or_else o (or_else (first_file_fault P H files) None)) h.0 ∙ ap (λ o. or_else o None) (sound_none P H files (h.1 told))
+started_free count P O H log time tells files old d h told = none_stands P O H files h.0 (h.1 told)
 
 of_records : (early first : Option StartFault) (why : StartFault) → early ≡ Some why → first_of (early ∷ first ∷ []) ≡ Some why
 of_records early first why is = ap (λ o. first_of (o ∷ first ∷ [])) is

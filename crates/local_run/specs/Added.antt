@@ -40,6 +40,8 @@ EndsAs (Err (stopped.Halted halts.Runner)) kind = kind ≡ None
 EndsAs (Err (stopped.Halted halts.Site)) kind = kind ≡ None
 EndsAs (Err (stopped.Halted halts.Memory)) kind = kind ≢ Some kinds.Cleaned
 EndsAs (Err stopped.Hall) kind = kind ≡ None
+EndsAs (Err (stopped.Unheard fault)) kind = kind ≡ None
+EndsAs (Err (stopped.Unopened fault)) kind = kind ≡ None
 
 -- A run adds so to these records: more behind them, and the Ended of how it ended.
 pub record RunAdds (H all : List Record) (how : Result Check Stopped) : Type 0 where

@@ -18,6 +18,7 @@ use Rattle.run_history.specs.Laws.{IsPresent}
 use Rattle.run_history.specs.Links.{amounts_on, is_at_most, needs_of}
 use Rattle.run_history.specs.Answers.{first_of}
 use Rattle.outside.specs.Files.{Files}
+use Rattle.outside.specs.declared.fault.Fault.TheVariants as devices
 use Rattle.file_store.specs.Outputs.{file_name}
 use Rattle.desk.specs.declared.answers.StartFault.{StartFault}
 use Rattle.desk.specs.declared.answers.StartFault.TheVariants as faults
@@ -45,6 +46,8 @@ StartEnds expected (Ok check) = expected ≡ None
 StartEnds expected (Err (stopped.Refused found)) = IsUncutBy found → expected ≡ Some found
 StartEnds expected (Err (stopped.Halted halt)) = expected ≡ None
 StartEnds expected (Err stopped.Hall) = expected ≡ None
+StartEnds expected (Err (stopped.Unheard fault)) = expected ≡ None
+StartEnds expected (Err (stopped.Unopened fault)) = expected ≡ None
 
 -- All rules run here, and none needs more than there is here.
 pub record FitsHere (P : Plan) (O : Options) : Type 0 where
@@ -114,6 +117,8 @@ IsDone limit (Ok (checks.Complete collected)) = Unit {0}
 IsDone limit (Ok (checks.NoRoom rule need stored most)) = limit ≡ Some most
 IsDone limit (Err (stopped.Refused faults.Memory)) = Unit {0}
 IsDone limit (Err (stopped.Halted halts.Memory)) = Unit {0}
+IsDone limit (Err (stopped.Unheard devices.Memory)) = Unit {0}
+IsDone limit (Err (stopped.Unopened devices.Memory)) = Unit {0}
 IsDone limit how = ⊥
 
 -- The last opening of the records has these options' limit and retries.

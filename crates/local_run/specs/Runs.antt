@@ -10,6 +10,7 @@ use Rattle.flow_types.specs.Serial.{Contents, Function, serial}
 use Rattle.run_history.specs.declared.answers.Check.{Check}
 use Rattle.outside.specs.Disk.{IsImage, Outcomes}
 use Rattle.outside.specs.Files.{Files}
+use Rattle.outside.specs.declared.fault.Fault.TheVariants as devices
 use Rattle.file_store.specs.Outputs.{file_name}
 use Rattle.desk.specs.declared.answers.StartFault.{StartFault}
 use Rattle.desk.specs.declared.answers.StartFault.TheVariants as faults
@@ -57,6 +58,8 @@ IsCutRun (Err (stopped.Halted halts.Runner)) = ⊥
 IsCutRun (Err (stopped.Halted halts.Site)) = Unit {0}
 IsCutRun (Err (stopped.Halted halts.Memory)) = Unit {0}
 IsCutRun (Err stopped.Hall) = ⊥
+IsCutRun (Err (stopped.Unheard fault)) = ⊥
+IsCutRun (Err (stopped.Unopened fault)) = Unit {0}
 
 -- The start of the run was cut short: its site failed, or memory was wanting.
 abbrev pub IsCutAtStart : Result Check Stopped → Type 0
@@ -64,6 +67,8 @@ IsCutAtStart (Ok check) = ⊥
 IsCutAtStart (Err (stopped.Refused why)) = IsCutBy why
 IsCutAtStart (Err (stopped.Halted halt)) = ⊥
 IsCutAtStart (Err stopped.Hall) = ⊥
+IsCutAtStart (Err (stopped.Unheard fault)) = ⊥
+IsCutAtStart (Err (stopped.Unopened fault)) = ⊥
 
 -- The run was started, and stopped in no append.
 abbrev pub IsClosedRun : Result Check Stopped → Type 0
@@ -74,6 +79,8 @@ IsClosedRun (Err (stopped.Halted halts.Runner)) = Unit {0}
 IsClosedRun (Err (stopped.Halted halts.Site)) = ⊥
 IsClosedRun (Err (stopped.Halted halts.Memory)) = ⊥
 IsClosedRun (Err stopped.Hall) = Unit {0}
+IsClosedRun (Err (stopped.Unheard fault)) = ⊥
+IsClosedRun (Err (stopped.Unopened fault)) = ⊥
 
 -- The records of the log were looked at, and nothing was wrong with them.
 abbrev pub IsAdmitted : Result Check Stopped → Type 0
@@ -84,6 +91,8 @@ IsAdmitted (Err (stopped.Refused faults.Memory)) = ⊥
 IsAdmitted (Err (stopped.Refused why)) = Unit {0}
 IsAdmitted (Err (stopped.Halted halt)) = Unit {0}
 IsAdmitted (Err stopped.Hall) = Unit {0}
+IsAdmitted (Err (stopped.Unheard fault)) = Unit {0}
+IsAdmitted (Err (stopped.Unopened fault)) = Unit {0}
 
 -- The name is neither the log's nor that of a file that a rule makes. Where the start was cut short it isn't that of a source either.
 abbrev pub IsSparedName : Plan → List ℕ → Result Check Stopped → List ℕ → Type 0
@@ -113,6 +122,9 @@ HasCauses site_before site_now runner_before runner_now (Err (stopped.Halted hal
 HasCauses site_before site_now runner_before runner_now (Err (stopped.Halted halts.Site)) = site_before < site_now
 HasCauses site_before site_now runner_before runner_now (Err (stopped.Halted halts.Memory)) = Unit {0}
 HasCauses site_before site_now runner_before runner_now (Err stopped.Hall) = Unit {0}
+HasCauses site_before site_now runner_before runner_now (Err (stopped.Unheard fault)) = Unit {0}
+HasCauses site_before site_now runner_before runner_now (Err (stopped.Unopened devices.Failed)) = site_before < site_now
+HasCauses site_before site_now runner_before runner_now (Err (stopped.Unopened devices.Memory)) = Unit {0}
 
 -- The run didn't start.
 abbrev pub IsRefusedRun : Result Check Stopped → Type 0
@@ -120,6 +132,17 @@ IsRefusedRun (Ok check) = ⊥
 IsRefusedRun (Err (stopped.Refused why)) = Unit {0}
 IsRefusedRun (Err (stopped.Halted halt)) = ⊥
 IsRefusedRun (Err stopped.Hall) = ⊥
+IsRefusedRun (Err (stopped.Unheard fault)) = Unit {0}
+IsRefusedRun (Err (stopped.Unopened fault)) = Unit {0}
+
+-- The run didn't start, and no hall was asked for anything.
+abbrev pub IsUnmetRun : Result Check Stopped → Type 0
+IsUnmetRun (Ok check) = ⊥
+IsUnmetRun (Err (stopped.Refused why)) = Unit {0}
+IsUnmetRun (Err (stopped.Halted halt)) = ⊥
+IsUnmetRun (Err stopped.Hall) = ⊥
+IsUnmetRun (Err (stopped.Unheard fault)) = ⊥
+IsUnmetRun (Err (stopped.Unopened fault)) = ⊥
 
 -- The run didn't start, since its records are of another plan or may not stand so.
 abbrev pub IsEarlyBy : StartFault → Type 0
@@ -127,12 +150,15 @@ IsEarlyBy (faults.OtherFlow logged found) = Unit {0}
 IsEarlyBy (faults.NotLegal at) = Unit {0}
 IsEarlyBy why = ⊥
 
--- The run stopped since the place where peers come failed.
+-- The run stopped, or wasn't opened, since the place where peers come failed.
 abbrev pub IsHallEnd : Result Check Stopped → Type 0
 IsHallEnd (Ok check) = ⊥
 IsHallEnd (Err (stopped.Refused why)) = ⊥
 IsHallEnd (Err (stopped.Halted halt)) = ⊥
 IsHallEnd (Err stopped.Hall) = Unit {0}
+IsHallEnd (Err (stopped.Unheard devices.Failed)) = Unit {0}
+IsHallEnd (Err (stopped.Unheard devices.Memory)) = ⊥
+IsHallEnd (Err (stopped.Unopened fault)) = ⊥
 
 -- the same of how a run ended
 abbrev pub IsEarlyRun : Result Check Stopped → Type 0
@@ -140,3 +166,5 @@ IsEarlyRun (Ok check) = ⊥
 IsEarlyRun (Err (stopped.Refused why)) = IsEarlyBy why
 IsEarlyRun (Err (stopped.Halted halt)) = ⊥
 IsEarlyRun (Err stopped.Hall) = ⊥
+IsEarlyRun (Err (stopped.Unheard fault)) = ⊥
+IsEarlyRun (Err (stopped.Unopened fault)) = ⊥

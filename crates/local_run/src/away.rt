@@ -28,11 +28,12 @@ use flow_types::{Amounts, Bytes, Failure, FileNo, LinkNo, Rows};
 use outside::{Commands, Site};
 use run_history::JoinRefused;
 use std::alloc::Global;
+use task_core::AdmitAll;
 use worker_pool::Terms as PoolTerms;
 
 /// A link joins with these amounts, the largest of one of its places, and a cache of so many bytes.
 pub fn join<B: PoolTerms, F: Commands, S: Site, T: Terms>(
-    desk: &mut Desk<F, S, T>,
+    desk: &mut Desk<F, S, T, AdmitAll>,
     total: Amounts,
     largest: Amounts,
     cache: u64,
@@ -53,7 +54,7 @@ pub fn join<B: PoolTerms, F: Commands, S: Site, T: Terms>(
 
 /// A link states other amounts and another cache, in bytes. Condition: it lives.
 pub fn change<B: PoolTerms, F: Commands, S: Site, T: Terms>(
-    desk: &mut Desk<F, S, T>,
+    desk: &mut Desk<F, S, T, AdmitAll>,
     link: LinkNo,
     total: Amounts,
     largest: Amounts,
@@ -77,7 +78,10 @@ pub fn change<B: PoolTerms, F: Commands, S: Site, T: Terms>(
 
 /// A link leaves, on which none of the attempts on links runs. Conditions: the desk works, the link
 /// isn't the local place, and it lives.
-pub fn leave<B: PoolTerms, F: Commands, S: Site, T: Terms>(desk: &mut Desk<F, S, T>, link: LinkNo)
+pub fn leave<B: PoolTerms, F: Commands, S: Site, T: Terms>(
+    desk: &mut Desk<F, S, T, AdmitAll>,
+    link: LinkNo,
+)
     requires fine { IsFine desk.old.trouble }
     requires apart { 0 < link.0 }
     requires lives { is_live desk.old.options desk.old.moves link.0 ≡ true }
@@ -104,7 +108,7 @@ pub fn leave<B: PoolTerms, F: Commands, S: Site, T: Terms>(desk: &mut Desk<F, S,
 /// Starts a rule on a link, if a claim for it gives one. Conditions: the link isn't the local
 /// place, and it lives.
 pub fn claim_away<B: PoolTerms, F: Commands, S: Site, T: Terms>(
-    desk: &mut Desk<F, S, T>,
+    desk: &mut Desk<F, S, T, AdmitAll>,
     link: LinkNo,
     moment: u64,
 ) -> Result<Claim, Halt>
@@ -134,7 +138,7 @@ pub fn claim_away<B: PoolTerms, F: Commands, S: Site, T: Terms>(
 /// The content of a file, as it was logged. Conditions: the desk works, and the file is present.
 pub fn read_away<B: PoolTerms, F: Commands, S: Site, T: Terms>(
     alloc: Global,
-    desk: &mut Desk<F, S, T>,
+    desk: &mut Desk<F, S, T, AdmitAll>,
     file: FileNo,
 ) -> Result<Bytes, Halt>
     requires fine { IsFine desk.old.trouble }
@@ -159,7 +163,7 @@ pub fn read_away<B: PoolTerms, F: Commands, S: Site, T: Terms>(
 
 /// Finishes an attempt on a link with what its job gave.
 pub fn finish_away<B: PoolTerms, F: Commands, S: Site, T: Terms>(
-    desk: &mut Desk<F, S, T>,
+    desk: &mut Desk<F, S, T, AdmitAll>,
     attempt: Attempt,
     outs: &Rows<Bytes>,
     moment: u64,
@@ -188,7 +192,7 @@ pub fn finish_away<B: PoolTerms, F: Commands, S: Site, T: Terms>(
 
 /// Closes an attempt on a link, whose command failed there.
 pub fn fail_away<B: PoolTerms, F: Commands, S: Site, T: Terms>(
-    desk: &mut Desk<F, S, T>,
+    desk: &mut Desk<F, S, T, AdmitAll>,
     attempt: Attempt,
     why: Failure,
     moment: u64,
@@ -224,7 +228,7 @@ pub fn fail_away<B: PoolTerms, F: Commands, S: Site, T: Terms>(
 
 /// Gives an attempt on a link up.
 pub fn lose_away<B: PoolTerms, F: Commands, S: Site, T: Terms>(
-    desk: &mut Desk<F, S, T>,
+    desk: &mut Desk<F, S, T, AdmitAll>,
     attempt: Attempt,
     moment: u64,
 ) -> Result<(), Halt>

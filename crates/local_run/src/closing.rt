@@ -23,12 +23,13 @@ use desk::{Attempt, CloseRefused, Desk, Terms};
 use flow_types::{Bytes, Failure, Rows};
 use outside::{Clock, Commands, Site};
 use run_history::Stop;
+use task_core::AdmitAll;
 use worker_pool::Terms as PoolTerms;
 
 /// Stops the run and gives the attempt up, for this cause. Where the site fails or memory is
 /// wanting in it, that is the cause.
 pub(crate) fn give_up<B: PoolTerms, F: Commands, S: Site, T: Terms, C: Clock>(
-    desk: &mut Desk<F, S, T>,
+    desk: &mut Desk<F, S, T, AdmitAll>,
     attempt: Attempt,
     clock: &C,
     why: Halt,
@@ -59,7 +60,7 @@ pub(crate) fn give_up<B: PoolTerms, F: Commands, S: Site, T: Terms, C: Clock>(
 
 /// Finishes the attempt with what its job gave.
 pub(crate) fn finish<B: PoolTerms, F: Commands, S: Site, T: Terms>(
-    desk: &mut Desk<F, S, T>,
+    desk: &mut Desk<F, S, T, AdmitAll>,
     attempt: Attempt,
     outs: &Rows<Bytes>,
     moment: u64,
@@ -93,7 +94,7 @@ pub(crate) fn finish<B: PoolTerms, F: Commands, S: Site, T: Terms>(
 
 /// Closes the attempt, whose command failed.
 pub(crate) fn fail<B: PoolTerms, F: Commands, S: Site, T: Terms>(
-    desk: &mut Desk<F, S, T>,
+    desk: &mut Desk<F, S, T, AdmitAll>,
     attempt: Attempt,
     why: Failure,
     moment: u64,

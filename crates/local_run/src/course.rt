@@ -26,6 +26,7 @@ use run_history::Check;
 use std::alloc::Global;
 use std::sync::Wait;
 use std::thread::Threads;
+use task_core::AdmitAll;
 use worker_pool::Gate;
 
 /// Runs the rules that the desk hands out for the local place, and ends the run. After a fault of
@@ -41,7 +42,7 @@ pub fn work<
 >(
     rt: &W,
     alloc: Global,
-    desk: &mut Desk<F, S, T>,
+    desk: &mut Desk<F, S, T, AdmitAll>,
     runners: &mut [R],
     gate: &G,
     clock: &C,

@@ -22,11 +22,12 @@ use crate::held::Held;
 use desk::{Attempt, Desk, Terms};
 use flow_types::Outcome;
 use outside::{Clock, Commands, Site};
+use task_core::AdmitAll;
 use worker_pool::{Pool, Terms as PoolTerms};
 
 /// Closes the attempt by how its job ended.
 fn close<B: PoolTerms, F: Commands, S: Site, T: Terms, C: Clock>(
-    desk: &mut Desk<F, S, T>,
+    desk: &mut Desk<F, S, T, AdmitAll>,
     attempt: Attempt,
     outcome: Outcome,
     clock: &C,
@@ -58,7 +59,7 @@ fn close<B: PoolTerms, F: Commands, S: Site, T: Terms, C: Clock>(
 /// Takes one report, where one is ready, and closes its attempt by how the job ended. It answers
 /// whether there was one.
 pub fn hear<B: PoolTerms, F: Commands, S: Site, T: Terms, C: Clock>(
-    desk: &mut Desk<F, S, T>,
+    desk: &mut Desk<F, S, T, AdmitAll>,
     held: &mut Held,
     pool: &mut Pool<B>,
     clock: &C,

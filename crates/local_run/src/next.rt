@@ -26,6 +26,7 @@ use outside::{Clock, Commands, Site};
 use run_history::Nothing;
 use std::alloc::Global;
 use std::sync::Wait;
+use task_core::AdmitAll;
 use worker_pool::{Pool, Terms as PoolTerms};
 
 /// Why a run stops whose input isn't read.
@@ -57,7 +58,7 @@ fn is_collect_first(why: Nothing) -> bool
 /// Where a claim for the local place took no rule since a file is to be dropped first, drops that,
 /// if the log has a place, and answers whether it did.
 fn make_way<B: PoolTerms, F: Commands, S: Site, C: Clock, T: Terms>(
-    desk: &mut Desk<F, S, T>,
+    desk: &mut Desk<F, S, T, AdmitAll>,
     why: Nothing,
     clock: &C,
 ) -> Result<bool, Halt>
@@ -95,7 +96,7 @@ fn make_way<B: PoolTerms, F: Commands, S: Site, C: Clock, T: Terms>(
 fn begin<B: PoolTerms, W: Wait, F: Commands, S: Site, T: Terms, C: Clock>(
     rt: &W,
     alloc: Global,
-    desk: &mut Desk<F, S, T>,
+    desk: &mut Desk<F, S, T, AdmitAll>,
     held: &mut Held,
     pool: &mut Pool<B>,
     attempt: Attempt,
@@ -155,7 +156,7 @@ fn begin<B: PoolTerms, W: Wait, F: Commands, S: Site, T: Terms, C: Clock>(
 pub(crate) fn next<B: PoolTerms, W: Wait, F: Commands, S: Site, T: Terms, C: Clock>(
     rt: &W,
     alloc: Global,
-    desk: &mut Desk<F, S, T>,
+    desk: &mut Desk<F, S, T, AdmitAll>,
     held: &mut Held,
     pool: &mut Pool<B>,
     clock: &C,

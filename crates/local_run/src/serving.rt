@@ -33,6 +33,7 @@ use std::alloc::Global;
 use std::marker::Brand;
 use std::sync::Wait;
 use std::thread::Threads;
+use task_core::AdmitAll;
 use worker_pool::{Gate, Line, Pool, Terms as PoolTerms, Ticket, Tickets, Token, new_tickets};
 
 /// Does what comes next, if nothing stopped the run and fewer rules run than these, and answers
@@ -40,7 +41,7 @@ use worker_pool::{Gate, Line, Pool, Terms as PoolTerms, Ticket, Tickets, Token, 
 pub fn go_on<B: PoolTerms, W: Wait, F: Commands, S: Site, T: Terms, C: Clock>(
     rt: &W,
     alloc: Global,
-    desk: &mut Desk<F, S, T>,
+    desk: &mut Desk<F, S, T, AdmitAll>,
     held: &mut Held,
     pool: &mut Pool<B>,
     most: usize,
@@ -83,7 +84,7 @@ pub fn go_on<B: PoolTerms, W: Wait, F: Commands, S: Site, T: Terms, C: Clock>(
 fn serve<B: PoolTerms, W: Wait, F: Commands, S: Site, T: Terms, C: Clock>(
     rt: &W,
     alloc: Global,
-    desk: &mut Desk<F, S, T>,
+    desk: &mut Desk<F, S, T, AdmitAll>,
     held: &mut Held,
     pool: &mut Pool<B>,
     most: usize,
@@ -132,7 +133,7 @@ fn serve<B: PoolTerms, W: Wait, F: Commands, S: Site, T: Terms, C: Clock>(
 fn serve_and_close<B: PoolTerms, W: Wait, F: Commands, S: Site, T: Terms, C: Clock>(
     rt: &W,
     alloc: Global,
-    desk: &mut Desk<F, S, T>,
+    desk: &mut Desk<F, S, T, AdmitAll>,
     held: &mut Held,
     pool: &mut Pool<B>,
     most: usize,
@@ -166,7 +167,7 @@ fn serve_and_close<B: PoolTerms, W: Wait, F: Commands, S: Site, T: Terms, C: Clo
 /// Gives up what is still held, which is something only where memory was wanting, and tells why the
 /// run stopped.
 pub fn settle<B: PoolTerms, F: Commands, S: Site, T: Terms, C: Clock>(
-    desk: &mut Desk<F, S, T>,
+    desk: &mut Desk<F, S, T, AdmitAll>,
     held: Held,
     clock: &C,
 ) -> Result<(), Halt>
@@ -215,7 +216,7 @@ fn serve_beside<
     alloc: Global,
     line: &Line<B>,
     token: &mut Token,
-    desk: &mut Desk<F, S, T>,
+    desk: &mut Desk<F, S, T, AdmitAll>,
     held: &mut Held,
     pool: &mut Pool<B>,
     runners: &mut [R],
@@ -253,14 +254,14 @@ fn serve_beside<
     ensures rests { held.new.halt ≡ None → HasNothing desk.new }
 {
     let most = runners.len().min(64);
-    call_beside::<B, W, G, F, R, Desk<F, S, T>, _>(
+    call_beside::<B, W, G, F, R, Desk<F, S, T, AdmitAll>, _>(
         rt,
         line,
         token,
         runners,
         gate,
         desk,
-        &mut |desk: &mut Desk<F, S, T>|
+        &mut |desk: &mut Desk<F, S, T, AdmitAll>|
             requires valid { IsValid desk.old.plan }
             requires shaped { IsShapedPool B.fits }
             requires base { T.trust → S.tells × T.kept }
@@ -303,7 +304,7 @@ fn serve_in<
     alloc: Global,
     tickets: Tickets,
     pass: Ticket,
-    desk: &mut Desk<F, S, T>,
+    desk: &mut Desk<F, S, T, AdmitAll>,
     runners: &mut [R],
     gate: &G,
     clock: &C,
@@ -349,7 +350,7 @@ pub(crate) fn serve_all<
 >(
     rt: &W,
     alloc: Global,
-    desk: &mut Desk<F, S, T>,
+    desk: &mut Desk<F, S, T, AdmitAll>,
     runners: &mut [R],
     gate: &G,
     clock: &C,

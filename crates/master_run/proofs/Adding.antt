@@ -13,6 +13,7 @@ use Rattle.run_history.specs.declared.options.Options.{Options as RunOptions}
 use Rattle.run_history.specs.declared.states.Found.{Found}
 use Rattle.run_history.specs.History.{part}
 use Rattle.log_recover.specs.declared.fault.RecoverFault.TheVariants as recovery
+use Rattle.outside.specs.declared.fault.Fault.TheVariants as devices
 use Rattle.desk.specs.declared.answers.StartFault.TheVariants as faults
 use Rattle.local_run.specs.declared.halt.Halt.TheVariants as halts
 use Rattle.local_run.specs.declared.ended.Stopped.{Stopped}
@@ -84,7 +85,11 @@ run_adds s r h P O H all (Err (stopped.Halted (halts.Damaged file logged found))
 run_adds s r h P O H all (Err (stopped.Halted halts.Runner)) same adds = started O H all (Err (stopped.Halted halts.Runner)) (λ kind. kind ≡ None) (λ no_run. no_run) (λ kind is. is) adds
 run_adds s r h P O H all (Err (stopped.Halted halts.Site)) same adds = inr (started O H all (Err (stopped.Halted halts.Site)) (λ kind. kind ≡ None) (λ no_run. no_run) (λ kind is. is) adds)
 run_adds s r h P O H all (Err (stopped.Halted halts.Memory)) same adds = inr (started O H all (Err (stopped.Halted halts.Memory)) (λ kind. kind ≢ Some ends.Cleaned) (λ no_run. no_run) (λ kind is. is) adds)
-run_adds s r h P O H all (Err stopped.Hall) same adds = started O H all (Err stopped.Hall) (λ kind. kind ≡ None) (λ no_run. no_run) (λ kind is. is) adds
+run_adds s r h P O H all (Err stopped.Hall) same adds = inr (started O H all (Err stopped.Hall) (λ kind. kind ≡ None) (λ no_run. no_run) (λ kind is. is) adds)
+run_adds s r h P O H all (Err (stopped.Unheard devices.Failed)) same adds = inl (same tt)
+run_adds s r h P O H all (Err (stopped.Unheard devices.Memory)) same adds = inl (inl (same tt))
+run_adds s r h P O H all (Err (stopped.Unopened devices.Failed)) same adds = inl (inl (same tt))
+run_adds s r h P O H all (Err (stopped.Unopened devices.Memory)) same adds = inl (inl (same tt))
 
 -- ---- of a cleaning and of a printing, by what they were refused for
 
@@ -178,7 +183,7 @@ run_any O H all (causes.LogFull count) adds = same_or_stopped O H all adds
 run_any O H all (causes.SourceChanged file logged found) adds = same_or_stopped O H all adds
 run_any O H all (causes.FileDamaged file logged found) adds = same_or_stopped O H all adds
 run_any O H all (causes.RunnerFault old new) adds = inr (stopped_some O H all adds)
-run_any O H all (causes.HallFault old new) adds = inr (stopped_some O H all adds)
+run_any O H all (causes.HallFault old new) adds = same_or_stopped O H all adds
 run_any O H all (causes.SiteFault old new) adds = ⊎_elim (λ (none : AddsNone H all). inl none) (λ (one : AddsStopped O H all). inr (stopped_some O H all one)) adds
 run_any O H all (causes.SinkFault old new) adds = ⊎_elim (λ (same : all ≡ H). inl (inl same)) (λ (one : AddsSome O H all). inr one) adds
 run_any O H all causes.Memory adds = adds

@@ -16,6 +16,7 @@ use Rattle.run_history.specs.Answers.{before_end, end_over}
 use Rattle.run_history.specs.History.{since_opening}
 use Rattle.run_history.specs.Spent.{SpentOnce}
 use Rattle.outside.specs.Disk.{IsImage, LeavesOnly, Outcomes}
+use Rattle.outside.specs.declared.fault.Fault.TheVariants as devices
 use Rattle.outside.specs.Files.{Files}
 use Rattle.txn_log.specs.Spells.{Spells}
 use Rattle.desk.specs.declared.answers.StartFault.{StartFault}
@@ -83,6 +84,10 @@ cut_run s r h P (Err (stopped.Halted halts.Runner)) cut = absurd cut
 cut_run s r h P (Err (stopped.Halted halts.Site)) cut = refl
 cut_run s r h P (Err (stopped.Halted halts.Memory)) cut = refl
 cut_run s r h P (Err stopped.Hall) cut = absurd cut
+cut_run s r h P (Err (stopped.Unheard devices.Failed)) cut = absurd cut
+cut_run s r h P (Err (stopped.Unheard devices.Memory)) cut = absurd cut
+cut_run s r h P (Err (stopped.Unopened devices.Failed)) cut = refl
+cut_run s r h P (Err (stopped.Unopened devices.Memory)) cut = refl
 
 -- where the start of a run was cut short, the run was
 start_cut : (how : Result Check Stopped) → IsCutAtStart how → IsCutRun how
@@ -90,6 +95,8 @@ start_cut (Ok ended) cut = absurd cut
 start_cut (Err (stopped.Refused why)) cut = cut
 start_cut (Err (stopped.Halted halt)) cut = absurd cut
 start_cut (Err stopped.Hall) cut = absurd cut
+start_cut (Err (stopped.Unheard fault)) cut = absurd cut
+start_cut (Err (stopped.Unopened fault)) cut = absurd cut
 
 -- the same of counts that are told
 pub told_cause : (s0 s1 s2 h0 h1 h2 h3 : ℕ) (r : Rise) (P Q : Plan) (how : Result Check Stopped) → s1 ≡ s2 → h0 ≡ h1 → h2 ≡ h3 → P ≡ Q
@@ -132,6 +139,10 @@ run_faults b a r P s0 s1 (Err (stopped.Halted halts.Runner)) le same one rises m
 run_faults b a r P s0 s1 (Err (stopped.Halted halts.Site)) le same one rises met = (refl, refl, omega (arith, le, same, rises))
 run_faults b a r P s0 s1 (Err (stopped.Halted halts.Memory)) le same one rises met = tt
 run_faults b a r P s0 s1 (Err stopped.Hall) le same one rises met = (refl, refl, met tt)
+run_faults b a r P s0 s1 (Err (stopped.Unheard devices.Failed)) le same one rises met = (refl, refl, met tt)
+run_faults b a r P s0 s1 (Err (stopped.Unheard devices.Memory)) le same one rises met = tt
+run_faults b a r P s0 s1 (Err (stopped.Unopened devices.Failed)) le same one rises met = (refl, refl, omega (arith, le, same, rises))
+run_faults b a r P s0 s1 (Err (stopped.Unopened devices.Memory)) le same one rises met = tt
 
 -- the records may stand in the log, or they are those of the log
 legal_run : (s r h : Rise) (P : Plan) (H all : List Record) (how : Result Check Stopped) → (IsRefusedRun how → all ≡ H) → (IsAdmitted how → IsLegal P all) → IsLegalOr P H all (kind_of (run_cause s r h P how))
@@ -148,6 +159,8 @@ legal_run s r h P H all (Err (stopped.Refused (faults.Site old new))) same legal
 legal_run s r h P H all (Ok ended) same legal = inl (legal tt)
 legal_run s r h P H all (Err (stopped.Halted halt)) same legal = inl (legal tt)
 legal_run s r h P H all (Err stopped.Hall) same legal = inl (legal tt)
+legal_run s r h P H all (Err (stopped.Unheard fault)) same legal = inl (legal tt)
+legal_run s r h P H all (Err (stopped.Unopened fault)) same legal = inl (legal tt)
 
 admitted_run : (s r h : Rise) (P : Plan) (how : Result Check Stopped) → was_read (kind_of (run_cause s r h P how)) ≡ true → IsAdmitted how
 admitted_run s r h P (Err (stopped.Refused (faults.OtherFlow logged found))) read = absent read
@@ -163,6 +176,8 @@ admitted_run s r h P (Err (stopped.Refused (faults.Site old new))) read = tt
 admitted_run s r h P (Ok ended) read = tt
 admitted_run s r h P (Err (stopped.Halted halt)) read = tt
 admitted_run s r h P (Err stopped.Hall) read = tt
+admitted_run s r h P (Err (stopped.Unheard fault)) read = tt
+admitted_run s r h P (Err (stopped.Unopened fault)) read = tt
 
 pub closed_run : (s r h : Rise) (P : Plan) (how : Result Check Stopped) → is_run_end (kind_of (run_cause s r h P how)) ≡ true → IsClosedRun how
 closed_run s r h P (Ok ended) ends = tt
@@ -181,6 +196,10 @@ closed_run s r h P (Err (stopped.Halted halts.Runner)) ends = tt
 closed_run s r h P (Err (stopped.Halted halts.Site)) ends = absent ends
 closed_run s r h P (Err (stopped.Halted halts.Memory)) ends = absent ends
 closed_run s r h P (Err stopped.Hall) ends = tt
+closed_run s r h P (Err (stopped.Unheard devices.Failed)) ends = absent ends
+closed_run s r h P (Err (stopped.Unheard devices.Memory)) ends = absent ends
+closed_run s r h P (Err (stopped.Unopened devices.Failed)) ends = absent ends
+closed_run s r h P (Err (stopped.Unopened devices.Memory)) ends = absent ends
 
 -- a run that was closed was started
 pub closed_starts : (how : Result Check Stopped) → IsClosedRun how → IsRefusedRun how → ⊥
@@ -188,6 +207,8 @@ closed_starts (Ok ended) closed refused = refused
 closed_starts (Err (stopped.Refused why)) closed refused = closed
 closed_starts (Err (stopped.Halted halt)) closed refused = refused
 closed_starts (Err stopped.Hall) closed refused = refused
+closed_starts (Err (stopped.Unheard fault)) closed refused = closed
+closed_starts (Err (stopped.Unopened fault)) closed refused = closed
 
 over_end : (limit : Option ℕ) (ended : Check) → IsRunEnd limit ended → IsOver ended
 over_end limit (check.Complete collected) is = tt
@@ -215,6 +236,8 @@ logged_run s r h P H all f0 f1 (Err (stopped.Halted halts.Runner)) logs same unu
 logged_run s r h P H all f0 f1 (Err (stopped.Halted halts.Site)) logs same unused whole = absurd (whole refl)
 logged_run s r h P H all f0 f1 (Err (stopped.Halted halts.Memory)) logs same unused whole = absurd (whole refl)
 logged_run s r h P H all f0 f1 (Err stopped.Hall) logs same unused whole = logs tt
+logged_run s r h P H all f0 f1 (Err (stopped.Unheard fault)) logs same unused whole = ap (λ (xs : List Record). failed_count xs + f0) (same tt) ∙ ap (λ (n : ℕ). failed_count H + n) (sym (unused tt))
+logged_run s r h P H all f0 f1 (Err (stopped.Unopened fault)) logs same unused whole = ap (λ (xs : List Record). failed_count xs + f0) (same tt) ∙ ap (λ (n : ℕ). failed_count H + n) (sym (unused tt))
 
 starts_none : (H all : List Record) → all ≡ H → StartsNone H all
 starts_none H all same = ([], same ∙ sym (append_nothing H), refl)
@@ -231,6 +254,8 @@ spent_run s r h P H all (Err (stopped.Halted halts.Runner)) same spent whole = i
 spent_run s r h P H all (Err (stopped.Halted halts.Site)) same spent whole = absurd (whole refl)
 spent_run s r h P H all (Err (stopped.Halted halts.Memory)) same spent whole = absurd (whole refl)
 spent_run s r h P H all (Err stopped.Hall) same spent whole = inr (spent tt)
+spent_run s r h P H all (Err (stopped.Unheard fault)) same spent whole = inl (starts_none H all (same tt))
+spent_run s r h P H all (Err (stopped.Unopened fault)) same spent whole = inl (starts_none H all (same tt))
 
 damage_loses : (source : Bool) (file : FileNo) (logged : Content) (found : Found) → may_lose (kind_of (if source then causes.SourceChanged file logged found else causes.FileDamaged file logged found)) ≡ true
 damage_loses true file logged found = refl
@@ -245,6 +270,8 @@ lost_run Q s r h P (Err (stopped.Halted halts.Runner)) refused lost keeps = pres
 lost_run Q s r h P (Err (stopped.Halted halts.Site)) refused lost keeps = present keeps
 lost_run Q s r h P (Err (stopped.Halted halts.Memory)) refused lost keeps = present keeps
 lost_run Q s r h P (Err stopped.Hall) refused lost keeps = present keeps
+lost_run Q s r h P (Err (stopped.Unheard fault)) refused lost keeps = refused tt
+lost_run Q s r h P (Err (stopped.Unopened fault)) refused lost keeps = refused tt
 
 end_refuses : (rules : ℕ) (ended : Check) → is_refusal (kind_of (end_cause rules ended)) ≡ false
 end_refuses rules (check.Complete collected) = refl
@@ -276,6 +303,10 @@ early_run s r h P (Err (stopped.Halted halts.Runner)) refused = absent refused
 early_run s r h P (Err (stopped.Halted halts.Site)) refused = absent refused
 early_run s r h P (Err (stopped.Halted halts.Memory)) refused = absent refused
 early_run s r h P (Err stopped.Hall) refused = absent refused
+early_run s r h P (Err (stopped.Unheard devices.Failed)) refused = absent refused
+early_run s r h P (Err (stopped.Unheard devices.Memory)) refused = absent refused
+early_run s r h P (Err (stopped.Unopened devices.Failed)) refused = absent refused
+early_run s r h P (Err (stopped.Unopened devices.Memory)) refused = absent refused
 
 abbrev tells_damage : Cause → Bool
 tells_damage (causes.LogDamaged at) = true
@@ -311,6 +342,10 @@ run_whole s r h P (Err (stopped.Halted halts.Runner)) = refl
 run_whole s r h P (Err (stopped.Halted halts.Site)) = refl
 run_whole s r h P (Err (stopped.Halted halts.Memory)) = refl
 run_whole s r h P (Err stopped.Hall) = refl
+run_whole s r h P (Err (stopped.Unheard devices.Failed)) = refl
+run_whole s r h P (Err (stopped.Unheard devices.Memory)) = refl
+run_whole s r h P (Err (stopped.Unopened devices.Failed)) = refl
+run_whole s r h P (Err (stopped.Unopened devices.Memory)) = refl
 
 -- where nothing stands in the way
 free_goes : (ask : Ask) (rise : ℕ) (H : List Record) (before after : Files) (records : List Record) (cause : Cause) → run_fault ask.plan ask.options H before ≡ None → RunEnds ask rise records after cause
@@ -352,6 +387,10 @@ run_goes s r h ask rise H before after records (Err (stopped.Halted halts.Runner
 run_goes s r h ask rise H before after records (Err (stopped.Halted halts.Site)) starts closed ends away met damage = free_goes ask rise H before after records (causes.SiteFault s.before s.after) starts (inr tt)
 run_goes s r h ask rise H before after records (Err (stopped.Halted halts.Memory)) starts closed ends away met damage = free_goes ask rise H before after records causes.Memory starts (inr tt)
 run_goes s r h ask rise H before after records (Err stopped.Hall) starts closed ends away met damage = free_goes ask rise H before after records (causes.HallFault h.before h.after) starts (inr (met tt))
+run_goes s r h ask rise H before after records (Err (stopped.Unheard devices.Failed)) starts closed ends away met damage = free_goes ask rise H before after records (causes.HallFault h.before h.after) starts (inr (met tt))
+run_goes s r h ask rise H before after records (Err (stopped.Unheard devices.Memory)) starts closed ends away met damage = free_goes ask rise H before after records causes.Memory starts (inr tt)
+run_goes s r h ask rise H before after records (Err (stopped.Unopened devices.Failed)) starts closed ends away met damage = free_goes ask rise H before after records (causes.SiteFault s.before s.after) starts (inr tt)
+run_goes s r h ask rise H before after records (Err (stopped.Unopened devices.Memory)) starts closed ends away met damage = free_goes ask rise H before after records causes.Memory starts (inr tt)
 
 damage_sure : (source : Bool) (file : FileNo) (logged : Content) (found : Found) → is_failing (kind_of (if source then causes.SourceChanged file logged found else causes.FileDamaged file logged found)) ≡ false
 damage_sure true file logged found = refl
@@ -380,6 +419,10 @@ sure_run s r h P (Err (stopped.Halted halts.Runner)) is = absurd is
 sure_run s r h P (Err (stopped.Halted halts.Site)) is = refl
 sure_run s r h P (Err (stopped.Halted halts.Memory)) is = refl
 sure_run s r h P (Err stopped.Hall) is = refl
+sure_run s r h P (Err (stopped.Unheard devices.Failed)) is = refl
+sure_run s r h P (Err (stopped.Unheard devices.Memory)) is = refl
+sure_run s r h P (Err (stopped.Unopened devices.Failed)) is = refl
+sure_run s r h P (Err (stopped.Unopened devices.Memory)) is = refl
 
 damage_spares : (source : Bool) (file : FileNo) (logged : Content) (found : Found) → is_runner_fault (kind_of (if source then causes.SourceChanged file logged found else causes.FileDamaged file logged found)) ≡ false
 damage_spares true file logged found = refl
@@ -412,6 +455,10 @@ spared_run s r h P (Err (stopped.Halted halts.Runner)) is = absurd is
 spared_run s r h P (Err (stopped.Halted halts.Site)) is = refl
 spared_run s r h P (Err (stopped.Halted halts.Memory)) is = refl
 spared_run s r h P (Err stopped.Hall) is = refl
+spared_run s r h P (Err (stopped.Unheard devices.Failed)) is = refl
+spared_run s r h P (Err (stopped.Unheard devices.Memory)) is = refl
+spared_run s r h P (Err (stopped.Unopened devices.Failed)) is = refl
+spared_run s r h P (Err (stopped.Unopened devices.Memory)) is = refl
 
 pub done_run : (s r h : Rise) (P : Plan) (most : Option ℕ) (how : Result Check Stopped) → IsDone most how → Completes most (run_cause s r h P how)
 done_run s r h P most (Ok (check.Complete collected)) done = refl
@@ -437,6 +484,10 @@ done_run s r h P most (Err (stopped.Halted halts.Runner)) done = absurd done
 done_run s r h P most (Err (stopped.Halted halts.Site)) done = absurd done
 done_run s r h P most (Err (stopped.Halted halts.Memory)) done = refl
 done_run s r h P most (Err stopped.Hall) done = absurd done
+done_run s r h P most (Err (stopped.Unheard devices.Failed)) done = absurd done
+done_run s r h P most (Err (stopped.Unheard devices.Memory)) done = refl
+done_run s r h P most (Err (stopped.Unopened devices.Failed)) done = absurd done
+done_run s r h P most (Err (stopped.Unopened devices.Memory)) done = refl
 
 end_late : (rules : ℕ) (ended : Check) → is_early (kind_of (end_cause rules ended)) ≡ false
 end_late rules (check.Complete collected) = refl
@@ -468,6 +519,10 @@ run_late s r h P (Err (stopped.Halted halts.Runner)) = refl
 run_late s r h P (Err (stopped.Halted halts.Site)) = refl
 run_late s r h P (Err (stopped.Halted halts.Memory)) = refl
 run_late s r h P (Err stopped.Hall) = refl
+run_late s r h P (Err (stopped.Unheard devices.Failed)) = refl
+run_late s r h P (Err (stopped.Unheard devices.Memory)) = refl
+run_late s r h P (Err (stopped.Unopened devices.Failed)) = refl
+run_late s r h P (Err (stopped.Unopened devices.Memory)) = refl
 
 end_cleans : (P : Plan) (H : List Record) (files : Files) (rules : ℕ) (ended : Check) → IsCleanedBy P H files (end_cause rules ended)
 end_cleans P H files rules (check.Complete collected) = tt
@@ -499,6 +554,10 @@ run_cleans s r h P H files (Err (stopped.Halted halts.Runner)) = tt
 run_cleans s r h P H files (Err (stopped.Halted halts.Site)) = tt
 run_cleans s r h P H files (Err (stopped.Halted halts.Memory)) = tt
 run_cleans s r h P H files (Err stopped.Hall) = tt
+run_cleans s r h P H files (Err (stopped.Unheard devices.Failed)) = tt
+run_cleans s r h P H files (Err (stopped.Unheard devices.Memory)) = tt
+run_cleans s r h P H files (Err (stopped.Unopened devices.Failed)) = tt
+run_cleans s r h P H files (Err (stopped.Unopened devices.Memory)) = tt
 
 pub none_refused : (o : Option StartFault) → option_map start_cause o ≡ None → o ≡ None
 none_refused None is = refl
@@ -531,6 +590,10 @@ failed_run s r h P f0 f1 (Err (stopped.Halted halts.Runner)) failed = record { l
 failed_run s r h P f0 f1 (Err (stopped.Halted halts.Site)) failed = record { later = failed; rose = λ wrong. absurd (cc) }
 failed_run s r h P f0 f1 (Err (stopped.Halted halts.Memory)) failed = record { later = failed; rose = λ wrong. absurd (cc) }
 failed_run s r h P f0 f1 (Err stopped.Hall) failed = record { later = failed; rose = λ wrong. absurd (cc) }
+failed_run s r h P f0 f1 (Err (stopped.Unheard devices.Failed)) failed = record { later = failed; rose = λ wrong. absurd (cc) }
+failed_run s r h P f0 f1 (Err (stopped.Unheard devices.Memory)) failed = record { later = failed; rose = λ wrong. absurd (cc) }
+failed_run s r h P f0 f1 (Err (stopped.Unopened devices.Failed)) failed = record { later = failed; rose = λ wrong. absurd (cc) }
+failed_run s r h P f0 f1 (Err (stopped.Unopened devices.Memory)) failed = record { later = failed; rose = λ wrong. absurd (cc) }
 
 module _ {S : Type 0} (tells : Type 0) (files : S → Files) (may_leave : S → Outcomes) (moment : S → ℕ) (images_since : S → ℕ → Files → Type 0) (count : S → ℕ) (born : ℕ)
     (gives : Function) (may_fail : Job → Failure → Type 0) (told : Job → Type 0) (sure honest_links : Type 0) (b a : Counts) (r : Rise) (ask : Ask) (old new : S) (records : List Record) (how : Result Check Stopped) where

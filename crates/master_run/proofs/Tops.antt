@@ -117,7 +117,7 @@ module _ {A B L C D : Type 0} (F : CommandWords) (S : SiteWords A) (H : HallWord
     pub opened : (options : Options) → choice line ≡ Ok options → is_run_end (kind_of cause) ≡ true → OpensBy (run_options options) written
     pub collects : (options : Options) → choice line ≡ Ok options → is_run_end (kind_of cause) ≡ true → RunCollects P (run_mode options.mode) written
     pub leaves : (options : Options) → choice line ≡ Ok options → options.work ≡ Run
-        → RunLeaves spells H.Way.tells F.gives F.may_fail H.Way.history H.Way.count H.Way.idle_count H.Way.is_closed (ask_of options P) idles (H.got old.hall) (H.got new.hall) written cause
+        → RunLeaves spells H.Way.tells (H.listens new.hall) F.gives F.may_fail H.Way.history H.Way.count H.Way.idle_count H.Way.is_closed (ask_of options P) idles (H.got old.hall) (H.got new.hall) written cause
     pub spare : (options : Options) → choice line ≡ Ok options → drop options.service.jobs new.runners ≡ drop options.service.jobs old.runners
 
   -- The cause that stands once the text was printed.
@@ -132,7 +132,7 @@ module _ {A B L C D : Type 0} (F : CommandWords) (S : SiteWords A) (H : HallWord
         legal = after_legal P written (O.count old.out) (O.count new.out) cause now stood f.legal;
         storage = after_planned (IsWithinLimit P written) (O.count old.out) (O.count new.out) cause now stood (λ read. limit-legal P (plan_digest P) written (f.legal read));
         leaves = λ options chosen work.
-            printed_leaves spells H.Way.tells F.gives F.may_fail H.Way.history H.Way.count H.Way.idle_count H.Way.is_closed (ask_of options P) idles (H.got old.hall) (H.got new.hall)
+            printed_leaves spells H.Way.tells (H.listens new.hall) F.gives F.may_fail H.Way.history H.Way.count H.Way.idle_count H.Way.is_closed (ask_of options P) idles (H.got old.hall) (H.got new.hall)
             written (O.count old.out) (O.count new.out) cause now stood (f.leaves options chosen work);
         opened = λ options chosen. after_run (OpensBy (run_options options) written) (O.count old.out) (O.count new.out) cause now stood (f.opened options chosen);
         collects = λ options chosen. after_run (RunCollects P (run_mode options.mode) written) (O.count old.out) (O.count new.out) cause now stood (f.collects options chosen);

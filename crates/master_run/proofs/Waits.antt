@@ -20,6 +20,7 @@ use Rattle.run_history.specs.declared.states.Found.{Found}
 use Rattle.run_history.specs.Answers.{before_end, collected_count, end_over, failed_answer, idles_in, is_halt, is_in_vain, last_why, log_full, no_room, of_least, or_else, passes_inputs, rule_no, where_none, where_so}
 use Rattle.run_history.specs.Legal.{has_places}
 use Rattle.run_history.specs.Storage.{fits_storage, has_failed, input_bytes, is_complete, ready_rules, running_rules, wanted}
+use Rattle.outside.specs.declared.fault.Fault.TheVariants as devices
 use Rattle.desk.specs.declared.answers.StartFault.TheVariants as faults
 use Rattle.log_recover.specs.declared.fault.RecoverFault.{RecoverFault}
 use Rattle.log_recover.specs.declared.fault.RecoverFault.TheVariants as recovery
@@ -140,6 +141,10 @@ cause_waits fact P s r h (Err (stopped.Halted halts.Runner)) says = tt
 cause_waits fact P s r h (Err (stopped.Halted halts.Site)) says = tt
 cause_waits fact P s r h (Err (stopped.Halted halts.Memory)) says = tt
 cause_waits fact P s r h (Err stopped.Hall) says = tt
+cause_waits fact P s r h (Err (stopped.Unheard devices.Failed)) says = tt
+cause_waits fact P s r h (Err (stopped.Unheard devices.Memory)) says = tt
+cause_waits fact P s r h (Err (stopped.Unopened devices.Failed)) says = tt
+cause_waits fact P s r h (Err (stopped.Unopened devices.Memory)) says = tt
 
 waits_ended : (ask : Ask) (rise : ℕ) (records : List Record) (ended : Check) → (ask.options.wq ≡ false → IsRunEnd ask.options.limit ended) → (ask.options.wq ≡ true → EndsWaiting ask.plan ask.options ask.workers.limit rise records ended)
     → Answers (WaitsInVain ask.plan ask.options ask.workers.limit rise records) ended

@@ -24,8 +24,8 @@ use Rattle.local_run.specs.Runs.{BeginsWith}
 use Rattle.report.specs.declared.cause.Cause.{Cause}
 use Rattle.report.specs.declared.cause.Cause.TheVariants as causes
 use Rattle.report.specs.declared.cause.Kind.{Kind}
-use Rattle.report.specs.declared.cause.Kind.TheVariants.{Completed, RuleFailed, WrongWords, WrongFlow, PastLimit, RunnerBroke, HallBroke, WaitedOut}
-use Rattle.report.specs.Causes.{kind_of, may_replace, was_read}
+use Rattle.report.specs.declared.cause.Kind.TheVariants.{Completed, RuleFailed, WrongWords, WrongFlow, PastLimit, RunnerBroke, WaitedOut}
+use Rattle.report.specs.Causes.{may_replace, was_read}
 use Rattle.master_run.specs.declared.ask.Ask.{Ask}
 
 -- It holds of what was asked and of the records that the log spelled at the entry.
@@ -69,7 +69,6 @@ is_run_end Completed = true
 is_run_end RuleFailed = true
 is_run_end PastLimit = true
 is_run_end RunnerBroke = true
-is_run_end HallBroke = true
 is_run_end WaitedOut = true
 is_run_end _ = false
 

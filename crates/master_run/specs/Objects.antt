@@ -34,6 +34,7 @@ pub record LinkWords (L : Type 0) : Type 1 where
 -- what a hall and its links tell of themselves
 pub record HallWords (D L : Type 0) : Type 1 where
   pub Way : LinkWords L
+  pub listens : D → Type 0
   pub given : D → ℕ
   pub got : D → List (Option LinkNo × L)
   pub honest : D → Type 0
@@ -76,9 +77,10 @@ link_words tells history count idle_count is_closed = record {
 }
 
 -- what a hall tells, of its links' and those of `Hall`
-abbrev pub hall_words : {D L : Type 0} → LinkWords L → (D → ℕ) → (D → List (Option LinkNo × L)) → (D → Type 0) → (D → Type 0) → (D → Amounts → Type 0) → (D → ℕ) → (D → ℕ) → HallWords D L
-hall_words Way given got honest sure manned count idle_count = record {
+abbrev pub hall_words : {D L : Type 0} → LinkWords L → (D → Type 0) → (D → ℕ) → (D → List (Option LinkNo × L)) → (D → Type 0) → (D → Type 0) → (D → Amounts → Type 0) → (D → ℕ) → (D → ℕ) → HallWords D L
+hall_words Way listens given got honest sure manned count idle_count = record {
   Way = Way;
+  listens = listens;
   given = given;
   got = got;
   honest = honest;

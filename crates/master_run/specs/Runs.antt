@@ -6,6 +6,8 @@ use Rattle.flow_types.specs.declared.numbers.FileNo.{FileNo}
 use Rattle.flow_types.specs.Plans.{is_source}
 use Rattle.run_history.specs.declared.answers.Check.{Check}
 use Rattle.run_history.specs.declared.states.Found.{Found}
+use Rattle.outside.specs.declared.fault.Fault.{Fault}
+use Rattle.outside.specs.declared.fault.Fault.TheVariants as devices
 use Rattle.log_recover.specs.declared.fault.RecoverFault.{RecoverFault}
 use Rattle.log_recover.specs.declared.fault.RecoverFault.TheVariants as recovery
 use Rattle.desk.specs.declared.answers.StartFault.{StartFault}
@@ -45,12 +47,24 @@ halt_cause site runner P halts.Runner = causes.RunnerFault runner.before runner.
 halt_cause site runner P halts.Site = site_cause site
 halt_cause site runner P halts.Memory = causes.Memory
 
+-- the cause of a hall that can't listen
+abbrev pub unheard_cause : Rise → Fault → Cause
+unheard_cause hall devices.Failed = causes.HallFault hall.before hall.after
+unheard_cause hall devices.Memory = causes.Memory
+
+-- the cause of an opening that isn't logged
+abbrev pub unopened_cause : Rise → Fault → Cause
+unopened_cause site devices.Failed = site_cause site
+unopened_cause site devices.Memory = causes.Memory
+
 -- the cause of how a run ended, by the two counts of the site, those of a runner and those of the hall
 abbrev pub run_cause : Rise → Rise → Rise → Plan → Result Check Stopped → Cause
 run_cause site runner hall P (Ok check) = end_cause (length P.rules) check
 run_cause site runner hall P (Err (stopped.Refused why)) = refused_cause site why
 run_cause site runner hall P (Err (stopped.Halted halt)) = halt_cause site runner P halt
 run_cause site runner hall P (Err stopped.Hall) = causes.HallFault hall.before hall.after
+run_cause site runner hall P (Err (stopped.Unheard fault)) = unheard_cause hall fault
+run_cause site runner hall P (Err (stopped.Unopened fault)) = unopened_cause site fault
 
 -- the cause of a log that isn't read
 abbrev pub unread_cause : Rise → RecoverFault → Cause

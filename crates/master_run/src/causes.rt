@@ -6,7 +6,8 @@ ghost use Rattle.wq_run.specs.Ends.{IsOver};
 ghost use Rattle.master_run.specs.Ends.{end_cause, start_cause};
 ghost use Rattle.master_run.specs.Runs.{clean_cause, damage_cause, halt_cause, look_cause};
 ghost use Rattle.master_run.specs.Runs.{refusal_cause, refused_cause, run_cause, site_cause};
-ghost use Rattle.master_run.specs.Runs.{unread_cause};
+ghost use Rattle.master_run.specs.Runs.{unheard_cause, unopened_cause, unread_cause};
+ghost use Rattle.report.specs.declared.cause.Cause.TheVariants.{HallFault};
 
 use crate::asking::Refusal;
 use crate::rises::Rise;
@@ -15,6 +16,7 @@ use desk::StartFault;
 use flow_types::{Content, FileNo, Plan};
 use local_run::{Halt, Stopped};
 use log_recover::RecoverFault;
+use outside::Fault;
 use report::Cause;
 use run_history::{Check, Found};
 
@@ -114,6 +116,35 @@ fn halt_cause(site: Rise, runner: Rise, plan: &Plan, halt: Halt) -> Cause
     }
 }
 
+fn hall_cause(hall: Rise) -> Cause
+    ensures { result ≡ HallFault hall.before hall.after }
+{
+    Cause::HallFault {
+        before: hall.before,
+        after: hall.after,
+    }
+}
+
+/// The cause of a hall that can't listen.
+fn unheard_cause(hall: Rise, fault: Fault) -> Cause
+    ensures { result ≡ unheard_cause hall fault }
+{
+    match fault {
+        Fault::Failed => hall_cause(hall),
+        Fault::Memory => Cause::Memory,
+    }
+}
+
+/// The cause of an opening that isn't logged.
+fn unopened_cause(site: Rise, fault: Fault) -> Cause
+    ensures { result ≡ unopened_cause site fault }
+{
+    match fault {
+        Fault::Failed => site_cause(site),
+        Fault::Memory => Cause::Memory,
+    }
+}
+
 fn end_cause(rules: u32, check: Check) -> Cause
     requires { IsOver check }
     ensures { result ≡ end_cause rules check }
@@ -156,10 +187,9 @@ pub fn run_cause(
         Ok(check) => end_cause(plan.rules.len() as u32, check),
         Err(Stopped::Refused(why)) => refused_cause(site, why),
         Err(Stopped::Halted(halt)) => halt_cause(site, runner, plan, halt),
-        Err(Stopped::Hall) => Cause::HallFault {
-            before: hall.before,
-            after: hall.after,
-        },
+        Err(Stopped::Hall) => hall_cause(hall),
+        Err(Stopped::Unheard(fault)) => unheard_cause(hall, fault),
+        Err(Stopped::Unopened(fault)) => unopened_cause(site, fault),
     }
 }
 

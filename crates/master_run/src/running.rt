@@ -126,7 +126,7 @@ fn run_by_all<
     ensures collects { IsTrue (is_run_end (kind_of result.cause))
         → RunCollects ask.plan ask.options.mode result.records }
     ensures leaves { RunLeaves (λ past. S.tells → Spells past (S.files site ask.log)) H.Way.tells
-        F.gives F.may_fail H.Way.history H.Way.count H.Way.idle_count H.Way.is_closed ask
+        (H.listens hall.new) F.gives F.may_fail H.Way.history H.Way.count H.Way.idle_count H.Way.is_closed ask
         (H.idle_count hall.new - H.idle_count hall.old) (H.got hall.old) (H.got hall.new)
         result.records result.cause }
     ensures plan { result.plan ≡ ask.plan }
@@ -255,7 +255,7 @@ pub fn run_flow<
     ensures collects { IsTrue (is_run_end (kind_of result.cause))
         → RunCollects ask.plan ask.options.mode result.records }
     ensures leaves { RunLeaves (λ past. S.tells → Spells past (S.files site ask.log)) H.Way.tells
-        F.gives F.may_fail H.Way.history H.Way.count H.Way.idle_count H.Way.is_closed ask
+        (H.listens hall.new) F.gives F.may_fail H.Way.history H.Way.count H.Way.idle_count H.Way.is_closed ask
         (H.idle_count hall.new - H.idle_count hall.old) (H.got hall.old) (H.got hall.new)
         result.records result.cause }
     ensures plan { result.plan ≡ ask.plan }

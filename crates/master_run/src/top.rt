@@ -149,7 +149,7 @@ fn serve<
         → RunCollects ask.plan ask.options.mode result.records }
     ensures leaves { ask.work ≡ Run → RunLeaves
         (λ past. S.tells → Spells past (S.files site ask.log)) H.Way.tells
-        F.gives F.may_fail H.Way.history H.Way.count H.Way.idle_count H.Way.is_closed ask
+        (H.listens hall.new) F.gives F.may_fail H.Way.history H.Way.count H.Way.idle_count H.Way.is_closed ask
         (H.idle_count hall.new - H.idle_count hall.old) (H.got hall.old) (H.got hall.new)
         result.records result.cause }
     ensures plan { result.plan ≡ ask.plan }
@@ -274,8 +274,9 @@ fn follow<
     ensures leaves { (options : OptionsValue) → choice words.now ≡ Ok options
         → options.work ≡ Run → RunLeaves
         (λ past. S.tells → AreLogged (request words.now env.now (S.files site)) (S.files site) past)
-        H.Way.tells F.gives F.may_fail H.Way.history H.Way.count H.Way.idle_count H.Way.is_closed
-        (ask_of options result.plan) (H.idle_count hall.new - H.idle_count hall.old)
+        H.Way.tells (H.listens hall.new) F.gives F.may_fail H.Way.history H.Way.count
+        H.Way.idle_count H.Way.is_closed (ask_of options result.plan)
+        (H.idle_count hall.new - H.idle_count hall.old)
         (H.got hall.old) (H.got hall.new) result.records result.cause }
     ensures spare { (options : OptionsValue) → choice words.now ≡ Ok options
         → drop options.service.jobs runners.new ≡ drop options.service.jobs runners.old }
@@ -303,7 +304,7 @@ fn follow<
 ///
 /// As many jobs run at once on this machine as the words say, and no more than there are runners.
 /// Each passes the gate before it runs. Where the words ask for workers, the hall listens at their
-/// port, and all rules but LOCAL ones run at those that come.
+/// port before the run is opened, and all rules but LOCAL ones run at those that come.
 ///
 /// The clauses speak of the records that the log's file spells at the entry, of which there is one
 /// list at most. A crash at any moment leaves a site from which the same call goes on.
@@ -336,7 +337,7 @@ pub fn makeflow_top<
     ensures ends { TopEnds (record { gives = F.gives; may_fail = F.may_fail })
         (site_words S.tells S.files S.may_leave S.moment S.images_since S.count)
         (hall_words (link_words H.Way.tells H.Way.history H.Way.count H.Way.idle_count
-        H.Way.is_closed) H.given H.got H.honest H.sure H.manned H.count H.idle_count)
+        H.Way.is_closed) H.listens H.given H.got H.honest H.sure H.manned H.count H.idle_count)
         (record { sure = R.sure; count = R.count; failures = R.failures })
         (record { tells = O.tells; bytes = O.bytes; count = O.count })
         words.now env.now (stand site hall.old runners.old out.old)

@@ -88,6 +88,8 @@ uncleaned (Err (stopped.Halted halts.Runner)) kind asks = not_some kinds.Cleaned
 uncleaned (Err (stopped.Halted halts.Site)) kind asks = not_some kinds.Cleaned kind asks
 uncleaned (Err (stopped.Halted halts.Memory)) kind asks = asks
 uncleaned (Err stopped.Hall) kind asks = not_some kinds.Cleaned kind asks
+uncleaned (Err (stopped.Unheard fault)) kind asks = not_some kinds.Cleaned kind asks
+uncleaned (Err (stopped.Unopened fault)) kind asks = not_some kinds.Cleaned kind asks
 
 -- memory was wanting behind that
 pub run_wants : (H all : List Record) (how : Result Check Stopped) → RunAdds H all how → RunAdds H all (Err (stopped.Halted halts.Memory))

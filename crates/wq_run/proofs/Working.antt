@@ -143,6 +143,8 @@ module _ {S : Type 0} (trust : Type 0) (gives : Function) (may_fail : Job → Fa
   ended_more sure more limit after count count_mid count_now hall hall_mid hall_now idles idles_mid idles_now (Err (stopped.Refused why)) so c m i h = h
   ended_more sure more limit after count count_mid count_now hall hall_mid hall_now idles idles_mid idles_now (Err (stopped.Halted why)) so c m i h = halted_later sure more after count count_mid count_now why so c h
   ended_more sure more limit after count count_mid count_now hall hall_mid hall_now idles idles_mid idles_now (Err stopped.Hall) so c m i h = (h.0, (let rose = h.1 in omega (arith, rose, m)))
+  ended_more sure more limit after count count_mid count_now hall hall_mid hall_now idles idles_mid idles_now (Err (stopped.Unheard fault)) so c m i h = h
+  ended_more sure more limit after count count_mid count_now hall hall_mid hall_now idles idles_mid idles_now (Err (stopped.Unopened fault)) so c m i h = h
 
   turns_more : (sure more : Type 0) (limit : ℕ) (after : DeskState S) (count count_mid count_now hall hall_mid hall_now idles idles_mid idles_now : ℕ) (result : Result Turn Stopped) → (more → sure) → count ≤ count_mid → hall ≤ hall_mid → idles ≤ idles_mid
       → TurnsTo tells kept sure files limit after count_mid count_now hall_mid hall_now idles_mid idles_now result → TurnsTo tells kept more files limit after count count_now hall hall_now idles idles_now result
@@ -231,6 +233,8 @@ module _ {S : Type 0} (trust : Type 0) (gives : Function) (may_fail : Job → Fa
   end_turns sure limit d after count count_now hall hall_now idles idles_now (stopped.Refused why) less h = h
   end_turns sure limit d after count count_now hall hall_now idles idles_now (stopped.Halted why) less h = halted_over sure after count count_now why less h
   end_turns sure limit d after count count_now hall hall_now idles idles_now stopped.Hall less h = absurd h
+  end_turns sure limit d after count count_now hall hall_now idles idles_now (stopped.Unheard fault) less h = absurd h
+  end_turns sure limit d after count count_now hall hall_now idles idles_now (stopped.Unopened fault) less h = absurd h
 
   pub round_unended : (sure : Type 0) (limit : ℕ) (d mid after : DeskState S) (count count_now failures failures_now hall hall_now idles idles_now : ℕ) (came : Result (Unit {0}) Halt) (why : Stopped)
       → OnBy sure d mid count count_now failures failures_now came → IsOn d → hall ≤ hall_now → idles ≤ idles_now → EndBy mid after (Err why)
@@ -429,6 +433,8 @@ module _ {S : Type 0} (tells kept sure : Type 0) (files : S → Files) (limit : 
   stops_by before last (Err (stopped.Refused why)) less more h = h
   stops_by before last (Err (stopped.Halted halt)) less more h = h.is
   stops_by before last (Err stopped.Hall) less more h = (h.0, (let rose = h.1 in omega (arith, rose, less, more)))
+  stops_by before last (Err (stopped.Unheard fault)) less more h = h
+  stops_by before last (Err (stopped.Unopened fault)) less more h = h
 
   pub damage_by : (result : Result Check Stopped) → EndBySure result → tells → IsApart now.plan now.log → RunDamage now.plan (records_of now.moves) (files now.site) result
   damage_by (Ok check) h told apart = tt
@@ -438,6 +444,8 @@ module _ {S : Type 0} (tells kept sure : Type 0) (files : S → Files) (limit : 
   damage_by (Err (stopped.Halted halts.Site)) h told apart = tt
   damage_by (Err (stopped.Halted halts.Memory)) h told apart = tt
   damage_by (Err stopped.Hall) h told apart = tt
+  damage_by (Err (stopped.Unheard fault)) h told apart = tt
+  damage_by (Err (stopped.Unopened fault)) h told apart = tt
 
   pub whole_by : (result : Result Check Stopped) → EndBySure result → tells → kept → IsWholeRun result
   whole_by (Ok check) h told keeps = tt
@@ -447,6 +455,8 @@ module _ {S : Type 0} (tells kept sure : Type 0) (files : S → Files) (limit : 
   whole_by (Err (stopped.Halted halts.Site)) h told keeps = tt
   whole_by (Err (stopped.Halted halts.Memory)) h told keeps = tt
   whole_by (Err stopped.Hall) h told keeps = tt
+  whole_by (Err (stopped.Unheard fault)) h told keeps = tt
+  whole_by (Err (stopped.Unopened fault)) h told keeps = tt
 
   pub spared_by : (result : Result Check Stopped) → EndBySure result → sure → IsSparedRunners result
   spared_by (Ok check) h is = tt
@@ -456,6 +466,8 @@ module _ {S : Type 0} (tells kept sure : Type 0) (files : S → Files) (limit : 
   spared_by (Err (stopped.Halted halts.Site)) h is = tt
   spared_by (Err (stopped.Halted halts.Memory)) h is = tt
   spared_by (Err stopped.Hall) h is = tt
+  spared_by (Err (stopped.Unheard fault)) h is = tt
+  spared_by (Err (stopped.Unopened fault)) h is = tt
 
   pub ends_by_waiting : (first last : ℕ) (result : Result Check Stopped) → first ≤ idles → idles_now ≤ last → EndBySure result → IfOk result (EndsHere now.plan now.options limit (last - first) now.moves)
   ends_by_waiting first last (Ok check) before later h = here_more now.plan now.options limit (idles_now - idles) (last - first) now.moves check (omega (arith, before, later)) h.1

@@ -29,6 +29,8 @@ StopsBy after before now hall_before hall_now (Ok check) = IsFine after
 StopsBy after before now hall_before hall_now (Err (stopped.Refused why)) = ⊥
 StopsBy after before now hall_before hall_now (Err (stopped.Halted halt)) = IsHalt after before now halt
 StopsBy after before now hall_before hall_now (Err stopped.Hall) = IsFine after × (hall_before < hall_now)
+StopsBy after before now hall_before hall_now (Err (stopped.Unheard fault)) = ⊥
+StopsBy after before now hall_before hall_now (Err (stopped.Unopened fault)) = ⊥
 
 -- It doesn't stop by the failure of a runner.
 abbrev pub IsSparedRunners : Result Check Stopped → Type 0

@@ -49,6 +49,8 @@ EndedBy tells kept sure files limit now count count_now hall hall_now idles idle
 EndedBy tells kept sure files limit now count count_now hall hall_now idles idles_now (Err (stopped.Halted halt)) =
     HaltedBy tells kept sure files now count count_now halt
 EndedBy tells kept sure files limit now count count_now hall hall_now idles idles_now (Err stopped.Hall) = IsFine now.trouble × (hall < hall_now)
+EndedBy tells kept sure files limit now count count_now hall hall_now idles idles_now (Err (stopped.Unheard fault)) = ⊥
+EndedBy tells kept sure files limit now count count_now hall hall_now idles idles_now (Err (stopped.Unopened fault)) = ⊥
 
 -- What a round of a run tells: it goes on; nobody came so often while nothing could be done; or it ended, with no stop, or stopped.
 abbrev pub TurnsTo : {S : Type 0} → Type 0 → Type 0 → Type 0 → (S → Files) → ℕ → DeskState S → ℕ → ℕ → ℕ → ℕ → ℕ → ℕ → Result Turn Stopped → Type 0
@@ -121,6 +123,8 @@ HasEnd tells kept files d after (Ok None) = (after ≡ d) × (IsOver (end_of d.p
 HasEnd tells kept files d after (Err (stopped.Refused why)) = ⊥
 HasEnd tells kept files d after (Err (stopped.Halted halt)) = HaltedBy tells kept (Unit {0}) files after 0 0 halt
 HasEnd tells kept files d after (Err stopped.Hall) = ⊥
+HasEnd tells kept files d after (Err (stopped.Unheard fault)) = ⊥
+HasEnd tells kept files d after (Err (stopped.Unopened fault)) = ⊥
 
 -- What an end that tells this adds to these records: a run that ended adds so, and one that goes on no end.
 abbrev pub EndAdds : List Record → List Record → Result (Option Check) Stopped → Type 0

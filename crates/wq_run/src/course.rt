@@ -28,11 +28,12 @@ use crate::workers::Workers;
 use desk::{Desk, Terms};
 use links::Hall;
 use local_run::{Halt, Stopped};
-use outside::{Clock, Commands, Fault, Runner, Site};
+use outside::{Clock, Commands, Runner, Site};
 use run_history::Check;
 use std::alloc::Global;
 use std::sync::Wait;
 use std::thread::Threads;
+use task_core::AdmitAll;
 use worker_pool::Gate;
 
 /// Runs the rules that the desk hands out, here and at the workers that come, and ends the run. What
@@ -49,7 +50,7 @@ pub fn work<
 >(
     rt: &W,
     alloc: Global,
-    desk: &mut Desk<F, S, T>,
+    desk: &mut Desk<F, S, T, AdmitAll>,
     hall: &mut H,
     workers: Workers,
     runners: &mut [R],
@@ -66,6 +67,7 @@ pub fn work<
         desk.old.plan desk.old.options (records_of desk.old.moves) }
     requires told { T.trust → TellsJobs T.plan T.options (AllTell R.tells runners.old) T.due }
     requires honest { T.holds → H.honest hall.old }
+    requires listens { H.listens hall.old }
     requires keen { (k : ℕ) → 0 < k → T.keen k → ⊥ }
     ensures goes { (links : List Move) × GoesOn T.trust F.gives F.may_fail T.sources S.tells
         S.files S.may_leave S.moment S.images_since links desk.old desk.new }
@@ -76,6 +78,7 @@ pub fn work<
         (sum_by R.count runners.new) (H.count hall.old) (H.count hall.new) result }
     ensures later { sum_by R.count runners.old ≤ sum_by R.count runners.new }
     ensures risen { sum_by R.failures runners.old ≤ sum_by R.failures runners.new }
+    ensures listens { H.listens hall.new }
     ensures met { H.count hall.old ≤ H.count hall.new }
     ensures damage { S.tells → IsApart desk.new.plan desk.new.log → RunDamage desk.new.plan
         (records_of desk.new.moves) (S.files desk.new.site) result }
@@ -111,11 +114,6 @@ pub fn work<
 {
     offers_were_stated::<F, H::Way>();
     manned_halls_are_staffed::<F, H>();
-    match hall.listen(workers.port) {
-        Ok(()) => {}
-        Err(Fault::Failed) => return Err(Stopped::Hall),
-        Err(Fault::Memory) => return Err(Stopped::Halted(Halt::Memory)),
-    }
     let mut company = Company::<F, H::Way, T>::new(alloc);
     let done = run_all(
         rt,

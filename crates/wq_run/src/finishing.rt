@@ -21,6 +21,7 @@ use links::Hall;
 use local_run::{Halt, Held, settle};
 use outside::{Clock, Commands, Site};
 use std::alloc::Global;
+use task_core::AdmitAll;
 use worker_pool::Terms as PoolTerms;
 
 /// Stops the run for want of memory, where nothing has stopped it.
@@ -38,7 +39,7 @@ fn stop_wanting(held: &mut Held)
 /// wanting, and tells why the run stopped.
 pub(crate) fn finish<B: PoolTerms, F: Commands, S: Site, H: Hall<F>, T: Terms + Trust, C: Clock>(
     alloc: Global,
-    desk: &mut Desk<F, S, T>,
+    desk: &mut Desk<F, S, T, AdmitAll>,
     held: Held,
     company: &mut Company<F, H::Way, T>,
     hall: &mut H,

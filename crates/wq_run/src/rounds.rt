@@ -32,6 +32,7 @@ use std::alloc::Global;
 use std::marker::Brand;
 use std::sync::Wait;
 use std::thread::Threads;
+use task_core::AdmitAll;
 use worker_pool::Gate;
 
 /// What a round of a run tells.
@@ -63,7 +64,7 @@ fn is_over(check: Check) -> bool
 
 /// Ends the run, if it doesn't go on.
 fn end<F: Commands, S: Site, T: Terms, C: Clock>(
-    desk: &mut Desk<F, S, T>,
+    desk: &mut Desk<F, S, T, AdmitAll>,
     clock: &C,
 ) -> Result<Option<Check>, Stopped>
     requires fine { IsFine desk.old.trouble }
@@ -90,7 +91,7 @@ fn end<F: Commands, S: Site, T: Terms, C: Clock>(
 fn wait_round<W: Wait, F: Commands, S: Site, H: Hall<F>, C: Clock, T: Terms + Trust>(
     rt: &W,
     alloc: Global,
-    desk: &mut Desk<F, S, T>,
+    desk: &mut Desk<F, S, T, AdmitAll>,
     company: &mut Company<F, H::Way, T>,
     hall: &mut H,
     limit: u32,
@@ -157,7 +158,7 @@ fn go_round<
 >(
     rt: &W,
     alloc: Global,
-    desk: &mut Desk<F, S, T>,
+    desk: &mut Desk<F, S, T, AdmitAll>,
     company: &mut Company<F, H::Way, T>,
     hall: &mut H,
     limit: u32,
@@ -227,7 +228,7 @@ fn go_round<
 
 /// The last end of a run in which waiting was in vain.
 fn end_waiting<F: Commands, S: Site, T: Terms, C: Clock>(
-    desk: &mut Desk<F, S, T>,
+    desk: &mut Desk<F, S, T, AdmitAll>,
     clock: &C,
 ) -> Result<Check, Stopped>
     requires fine { IsFine desk.old.trouble }
@@ -258,7 +259,7 @@ pub(crate) fn run_all<
 >(
     rt: &W,
     alloc: Global,
-    desk: &mut Desk<F, S, T>,
+    desk: &mut Desk<F, S, T, AdmitAll>,
     company: &mut Company<F, H::Way, T>,
     hall: &mut H,
     limit: u32,
@@ -285,6 +286,7 @@ pub(crate) fn run_all<
         (sum_by R.failures runners.old) (sum_by R.failures runners.new)
         n (H.count hall.new) (H.idle_count hall.old) (H.idle_count hall.new) result }
     ensures seats { AreSeats desk.new.plan desk.new.options desk.new.moves company.new.seats }
+    ensures listens { IsOpen T.holds (H.listens hall.new) (H.honest hall.new) }
     ensures none { gathered company.new.seats ≡ [] }
     ensures due { H.Way.tells → OnOk result (KeepsOn
         (IsIllLink F.gives F.may_fail H.Way.history H.Way.count H.Way.idle_count H.Way.is_closed limit)

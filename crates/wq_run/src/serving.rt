@@ -35,6 +35,7 @@ use std::marker::Brand;
 use std::mem::replace;
 use std::sync::Wait;
 use std::thread::Threads;
+use task_core::AdmitAll;
 use worker_pool::{Gate, Line, Pool, Terms as PoolTerms, Ticket, Tickets, Token, new_tickets};
 
 /// Starts what claims give, one rule here and one at each worker, if the desk has news since none
@@ -42,7 +43,7 @@ use worker_pool::{Gate, Line, Pool, Terms as PoolTerms, Ticket, Tickets, Token, 
 fn start_more<B: PoolTerms, W: Wait, F: Commands, S: Site, H: Hall<F>, T: Terms + Trust, C: Clock>(
     rt: &W,
     alloc: Global,
-    desk: &mut Desk<F, S, T>,
+    desk: &mut Desk<F, S, T, AdmitAll>,
     held: &mut Held,
     pool: &mut Pool<B>,
     company: &mut Company<F, H::Way, T>,
@@ -101,7 +102,7 @@ fn start_more<B: PoolTerms, W: Wait, F: Commands, S: Site, H: Hall<F>, T: Terms 
 fn turn<B: PoolTerms, W: Wait, F: Commands, S: Site, H: Hall<F>, T: Terms + Trust, C: Clock>(
     rt: &W,
     alloc: Global,
-    desk: &mut Desk<F, S, T>,
+    desk: &mut Desk<F, S, T, AdmitAll>,
     held: &mut Held,
     pool: &mut Pool<B>,
     company: &mut Company<F, H::Way, T>,
@@ -164,7 +165,7 @@ fn any(first: bool, second: bool, third: bool) -> bool {
 fn wind_down<B: PoolTerms, W: Wait, F: Commands, S: Site, H: Hall<F>, T: Terms + Trust, C: Clock>(
     rt: &W,
     alloc: Global,
-    desk: &mut Desk<F, S, T>,
+    desk: &mut Desk<F, S, T, AdmitAll>,
     held: &mut Held,
     pool: &mut Pool<B>,
     company: &mut Company<F, H::Way, T>,
@@ -218,7 +219,7 @@ fn wind_down<B: PoolTerms, W: Wait, F: Commands, S: Site, H: Hall<F>, T: Terms +
 fn serve<B: PoolTerms, W: Wait, F: Commands, S: Site, H: Hall<F>, T: Terms + Trust, C: Clock>(
     rt: &W,
     alloc: Global,
-    desk: &mut Desk<F, S, T>,
+    desk: &mut Desk<F, S, T, AdmitAll>,
     held: &mut Held,
     pool: &mut Pool<B>,
     company: &mut Company<F, H::Way, T>,
@@ -298,7 +299,7 @@ fn serve_and_close<
 >(
     rt: &W,
     alloc: Global,
-    desk: &mut Desk<F, S, T>,
+    desk: &mut Desk<F, S, T, AdmitAll>,
     held: &mut Held,
     pool: &mut Pool<B>,
     mut company: Company<F, H::Way, T>,
@@ -360,7 +361,7 @@ fn serve_beside<
     alloc: Global,
     line: &Line<N>,
     token: &mut Token,
-    desk: &mut Desk<F, S, T>,
+    desk: &mut Desk<F, S, T, AdmitAll>,
     held: &mut Held,
     pool: &mut Pool<B>,
     company: &mut Company<F, H::Way, T>,
@@ -418,7 +419,7 @@ fn serve_beside<
 {
     let most = runners.len().min(64);
     let taken = replace(company, Company::new(alloc));
-    let back = call_with_beside::<N, W, G, F, R, Desk<F, S, T>, Company<F, H::Way, T>, _>(
+    let back = call_with_beside::<N, W, G, F, R, Desk<F, S, T, AdmitAll>, Company<F, H::Way, T>, _>(
         rt,
         line,
         token,
@@ -426,7 +427,7 @@ fn serve_beside<
         gate,
         desk,
         taken,
-        &mut |company: Company<F, H::Way, T>, desk: &mut Desk<F, S, T>|
+        &mut |company: Company<F, H::Way, T>, desk: &mut Desk<F, S, T, AdmitAll>|
             requires may { MayServe T.trust F.gives F.may_fail T.sources S.tells T.kept S.files
                 S.may_leave S.moment S.images_since B.fits T.keen T.holds T.plan T.options T.run T.due
                 (H.listens hall.now) (H.honest hall.now) most desk.old held.now pool.now
@@ -472,7 +473,7 @@ fn serve_in<
     alloc: Global,
     tickets: Tickets,
     pass: Ticket,
-    desk: &mut Desk<F, S, T>,
+    desk: &mut Desk<F, S, T, AdmitAll>,
     company: &mut Company<F, H::Way, T>,
     hall: &mut H,
     limit: u32,
@@ -547,7 +548,7 @@ pub(crate) fn serve_all<
 >(
     rt: &W,
     alloc: Global,
-    desk: &mut Desk<F, S, T>,
+    desk: &mut Desk<F, S, T, AdmitAll>,
     company: &mut Company<F, H::Way, T>,
     hall: &mut H,
     limit: u32,

@@ -21,6 +21,7 @@ use local_run::{Halt, Held};
 use outside::{Clock, Commands, Site};
 use std::alloc::Global;
 use std::sync::Wait;
+use task_core::AdmitAll;
 use worker_pool::Terms as PoolTerms;
 
 /// Looks for workers until one joins, states other amounts or may be asked again, or nobody came so
@@ -28,7 +29,7 @@ use worker_pool::Terms as PoolTerms;
 fn look<B: PoolTerms, W: Wait, F: Commands, S: Site, H: Hall<F>, T: Terms + Trust, C: Clock>(
     rt: &W,
     alloc: Global,
-    desk: &mut Desk<F, S, T>,
+    desk: &mut Desk<F, S, T, AdmitAll>,
     held: &mut Held,
     company: &mut Company<F, H::Way, T>,
     hall: &mut H,
@@ -95,7 +96,7 @@ pub(crate) fn wait<
 >(
     rt: &W,
     alloc: Global,
-    desk: &mut Desk<F, S, T>,
+    desk: &mut Desk<F, S, T, AdmitAll>,
     company: &mut Company<F, H::Way, T>,
     hall: &mut H,
     limit: u32,

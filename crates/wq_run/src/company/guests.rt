@@ -27,6 +27,7 @@ use local_run::join;
 use outside::{Commands, Site};
 use peers::{Leave, Listened, Peer, Told, sure_links_are_orderly, tasks_come_behind_their_inputs};
 use std::alloc::Global;
+use task_core::AdmitAll;
 use worker_pool::Terms as PoolTerms;
 
 /// How often a peer may be idle before its hello has come.
@@ -237,7 +238,7 @@ fn take_seat<F: Commands, H: Hall<F>, T: Trust>(
 fn seat_guest<B: PoolTerms, F: Commands, S: Site, H: Hall<F>, T: Terms + Trust>(
     company: &mut Company<F, H::Way, T>,
     alloc: Global,
-    desk: &mut Desk<F, S, T>,
+    desk: &mut Desk<F, S, T, AdmitAll>,
     hall: &mut H,
     peer: Peer<F, H::Way>,
     offer: Offer,
@@ -286,7 +287,7 @@ fn seat_guest<B: PoolTerms, F: Commands, S: Site, H: Hall<F>, T: Terms + Trust>(
 fn greet_next<B: PoolTerms, F: Commands, S: Site, H: Hall<F>, T: Terms + Trust>(
     company: &mut Company<F, H::Way, T>,
     alloc: Global,
-    desk: &mut Desk<F, S, T>,
+    desk: &mut Desk<F, S, T, AdmitAll>,
     hall: &mut H,
     is_turn: bool,
 ) -> bool
@@ -337,7 +338,7 @@ fn greet_next<B: PoolTerms, F: Commands, S: Site, H: Hall<F>, T: Terms + Trust>(
 pub(super) fn greet_all<B: PoolTerms, F: Commands, S: Site, H: Hall<F>, T: Terms + Trust>(
     company: &mut Company<F, H::Way, T>,
     alloc: Global,
-    desk: &mut Desk<F, S, T>,
+    desk: &mut Desk<F, S, T, AdmitAll>,
     hall: &mut H,
     is_turn: bool,
 ) -> bool

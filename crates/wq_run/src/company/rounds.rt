@@ -23,6 +23,7 @@ use links::Hall;
 use local_run::Held;
 use outside::{Clock, Commands, Site};
 use std::alloc::Global;
+use task_core::AdmitAll;
 use worker_pool::Terms as PoolTerms;
 
 // Whether one of these did something.
@@ -35,7 +36,7 @@ fn any(told: bool, joined: bool, came: bool) -> bool {
 pub(crate) fn round<B: PoolTerms, F: Commands, S: Site, H: Hall<F>, T: Terms + Trust, C: Clock>(
     company: &mut Company<F, H::Way, T>,
     alloc: Global,
-    desk: &mut Desk<F, S, T>,
+    desk: &mut Desk<F, S, T, AdmitAll>,
     held: &mut Held,
     hall: &mut H,
     limit: u32,
@@ -83,7 +84,7 @@ pub(crate) fn round<B: PoolTerms, F: Commands, S: Site, H: Hall<F>, T: Terms + T
 fn dismiss_last<B: PoolTerms, F: Commands, S: Site, H: Hall<F>, T: Terms + Trust, C: Clock>(
     company: &mut Company<F, H::Way, T>,
     alloc: Global,
-    desk: &mut Desk<F, S, T>,
+    desk: &mut Desk<F, S, T, AdmitAll>,
     held: &mut Held,
     hall: &mut H,
     clock: &C,
@@ -125,7 +126,7 @@ fn dismiss_last<B: PoolTerms, F: Commands, S: Site, H: Hall<F>, T: Terms + Trust
 pub(crate) fn dismiss<B: PoolTerms, F: Commands, S: Site, H: Hall<F>, T: Terms + Trust, C: Clock>(
     company: &mut Company<F, H::Way, T>,
     alloc: Global,
-    desk: &mut Desk<F, S, T>,
+    desk: &mut Desk<F, S, T, AdmitAll>,
     held: &mut Held,
     hall: &mut H,
     clock: &C,
@@ -168,6 +169,8 @@ pub(crate) fn disband<F: Commands, H: Hall<F>, T: Terms + Trust>(
     ensures seats { company.new.seats ≡ [] }
     ensures guests { company.new.guests ≡ [] }
     ensures failed { company.new.failed ≡ company.old.failed }
+    ensures listens { StaysOpen T.holds (H.listens hall.old) (H.honest hall.old)
+        (H.listens hall.new) (H.honest hall.new) }
     ensures due { (limit : ℕ) (moves : List Move) → H.Way.tells → KeepsDue
         (IsIllLink F.gives F.may_fail H.Way.history H.Way.count H.Way.idle_count H.Way.is_closed limit)
         H.Way.history moves moves None None company.old company.new (H.got hall.old)

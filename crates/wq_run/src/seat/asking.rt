@@ -31,6 +31,7 @@ use local_run::{Halt, Held, claim_away, lose_away, read_away};
 use outside::{Clock, Commands, Site};
 use peers::{Leave, tasks_come_behind_their_inputs, what_is_due_stays_due};
 use std::alloc::Global;
+use task_core::AdmitAll;
 use worker_pool::Terms as PoolTerms;
 
 /// The most bytes of a file.
@@ -39,7 +40,7 @@ const MOST_BYTES: usize = 67_108_864;
 // The task of an attempt among these, where memory suffices.
 fn task_at<F: Commands, S: Site, T: Terms>(
     alloc: Global,
-    desk: &Desk<F, S, T>,
+    desk: &Desk<F, S, T, AdmitAll>,
     attempts: &[Attempt],
     number: AttemptNo,
 ) -> Option<Task>
@@ -60,7 +61,12 @@ fn task_at<F: Commands, S: Site, T: Terms>(
 
 impl<F: Commands, L: Link<F>, T: Terms + Trust> Seat<F, L, T> {
     // The task of an attempt that runs there, where memory suffices.
-    fn task<S: Site>(&self, alloc: Global, desk: &Desk<F, S, T>, number: AttemptNo) -> Option<Task>
+    fn task<S: Site>(
+        &self,
+        alloc: Global,
+        desk: &Desk<F, S, T, AdmitAll>,
+        number: AttemptNo,
+    ) -> Option<Task>
         requires valid { IsValid desk.now.plan }
         requires inside { AllByRecursion (IsInside desk.now.plan) self.now.attempts }
         ensures of { IfSome result (λ task. (front : List AttemptValue) × (a : AttemptValue)
@@ -176,7 +182,7 @@ impl<F: Commands, L: Link<F>, T: Terms + Trust> Seat<F, L, T> {
     fn put<B: PoolTerms, S: Site>(
         &mut self,
         alloc: Global,
-        desk: &mut Desk<F, S, T>,
+        desk: &mut Desk<F, S, T, AdmitAll>,
         held: &mut Held,
         run: u64,
         file: FileNo,
@@ -232,7 +238,7 @@ impl<F: Commands, L: Link<F>, T: Terms + Trust> Seat<F, L, T> {
     fn provide<B: PoolTerms, S: Site>(
         &mut self,
         alloc: Global,
-        desk: &mut Desk<F, S, T>,
+        desk: &mut Desk<F, S, T, AdmitAll>,
         held: &mut Held,
         task: Task,
         files: &[FileNo],
@@ -276,7 +282,7 @@ impl<F: Commands, L: Link<F>, T: Terms + Trust> Seat<F, L, T> {
     pub(super) fn put_again<B: PoolTerms, S: Site>(
         &mut self,
         alloc: Global,
-        desk: &mut Desk<F, S, T>,
+        desk: &mut Desk<F, S, T, AdmitAll>,
         held: &mut Held,
         number: AttemptNo,
         files: &[FileNo],
@@ -310,7 +316,7 @@ impl<F: Commands, L: Link<F>, T: Terms + Trust> Seat<F, L, T> {
     fn start<B: PoolTerms, S: Site>(
         &mut self,
         alloc: Global,
-        desk: &mut Desk<F, S, T>,
+        desk: &mut Desk<F, S, T, AdmitAll>,
         held: &mut Held,
         number: AttemptNo,
     ) -> Result<(), Leave>
@@ -354,7 +360,7 @@ impl<F: Commands, L: Link<F>, T: Terms + Trust> Seat<F, L, T> {
     fn hand_out<B: PoolTerms, S: Site, C: Clock>(
         &mut self,
         alloc: Global,
-        desk: &mut Desk<F, S, T>,
+        desk: &mut Desk<F, S, T, AdmitAll>,
         held: &mut Held,
         attempt: Attempt,
         clock: &C,
@@ -401,7 +407,7 @@ impl<F: Commands, L: Link<F>, T: Terms + Trust> Seat<F, L, T> {
     pub fn claim<B: PoolTerms, S: Site, C: Clock>(
         &mut self,
         alloc: Global,
-        desk: &mut Desk<F, S, T>,
+        desk: &mut Desk<F, S, T, AdmitAll>,
         held: &mut Held,
         clock: &C,
     ) -> Result<bool, Leave>

@@ -32,11 +32,12 @@ use links::Link;
 use local_run::{Halt, Held, fail_away, finish_away, lose_away};
 use outside::{Clock, Commands, Site};
 use std::alloc::Global;
+use task_core::AdmitAll;
 use worker_pool::Terms as PoolTerms;
 
 // Closes an attempt at a worker by how it ended there.
 fn end_away<B: PoolTerms, F: Commands, S: Site, T: Terms>(
-    desk: &mut Desk<F, S, T>,
+    desk: &mut Desk<F, S, T, AdmitAll>,
     attempt: Attempt,
     outcome: Outcome,
     moment: u64,
@@ -83,7 +84,7 @@ impl<F: Commands, L: Link<F>, T: Terms + Trust> Seat<F, L, T> {
     // Closes the attempt of this number, which is no longer open at the peer.
     pub(super) fn close<B: PoolTerms, S: Site, C: Clock>(
         &mut self,
-        desk: &mut Desk<F, S, T>,
+        desk: &mut Desk<F, S, T, AdmitAll>,
         held: &mut Held,
         number: AttemptNo,
         outcome: Outcome,
@@ -125,7 +126,7 @@ impl<F: Commands, L: Link<F>, T: Terms + Trust> Seat<F, L, T> {
     /// Gives up all that runs there. The peer isn't told.
     pub fn abandon<B: PoolTerms, S: Site, C: Clock>(
         &mut self,
-        desk: &mut Desk<F, S, T>,
+        desk: &mut Desk<F, S, T, AdmitAll>,
         held: &mut Held,
         clock: &C,
     )

@@ -33,6 +33,7 @@ use peers::{
 };
 use run_history::JoinRefused;
 use std::alloc::Global;
+use task_core::AdmitAll;
 use worker_pool::Terms as PoolTerms;
 
 /// The most messages that are taken from one worker before the next has its turn. No more than one
@@ -307,7 +308,7 @@ impl<F: Commands, L: Link<F>, T: Terms + Trust> Seat<F, L, T> {
     // more changes.
     fn change<B: PoolTerms, S: Site>(
         &mut self,
-        desk: &mut Desk<F, S, T>,
+        desk: &mut Desk<F, S, T, AdmitAll>,
         total: Amounts,
         largest: Amounts,
         cache: u64,
@@ -345,7 +346,7 @@ impl<F: Commands, L: Link<F>, T: Terms + Trust> Seat<F, L, T> {
     fn hear<B: PoolTerms, S: Site, C: Clock>(
         &mut self,
         alloc: Global,
-        desk: &mut Desk<F, S, T>,
+        desk: &mut Desk<F, S, T, AdmitAll>,
         held: &mut Held,
         clock: &C,
     ) -> Result<bool, Leave>
@@ -420,7 +421,7 @@ impl<F: Commands, L: Link<F>, T: Terms + Trust> Seat<F, L, T> {
     pub fn serve<B: PoolTerms, S: Site, C: Clock>(
         &mut self,
         alloc: Global,
-        desk: &mut Desk<F, S, T>,
+        desk: &mut Desk<F, S, T, AdmitAll>,
         held: &mut Held,
         is_turn: bool,
         limit: u32,

@@ -17,6 +17,12 @@ use Rattle.flow_run.proofs.course.work.Goals as goal
 pub work-requires-clause-honest : goal.work-requires-clause-honest
 work-requires-clause-honest g c κs within holds = let is : c.args.wq ≡ true = search rules in c.requires.honest (c.requires.of.trusts holds) (sym c.requires.asked ∙ is)
 
+pub work-requires-clause-listens : goal.work-requires-clause-listens
+work-requires-clause-listens g c κs within = let is : c.args.wq ≡ true = search rules in c.requires.listens (sym c.requires.asked ∙ is)
+
+pub returns-else-wq-clause-listens : goal.returns-else-wq-clause-listens
+returns-else-wq-clause-listens g c away = c.requires.listens away
+
 pub returns-else-wq-clause-added : goal.returns-else-wq-clause-added
 returns-else-wq-clause-added g c =
     subst (λ (how : Result Check Stopped). RunAdds (records_of c.args.desk.now.moves) (records_of c.work-else-wq.new.desk.moves) how) (sym c.ended_by.ensures) (c.work-else-wq.ensures.added c.requires.fresh)

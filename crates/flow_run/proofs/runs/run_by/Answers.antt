@@ -1,5 +1,6 @@
-use Rattle.std.proofs.Common.{◌≡◌, ◌≢◌, ◌+◌, ◌-◌, ◌∙◌, ◌≤◌, inl, ℕ, List, Option, ap, length, refl, subst, sym}
-use Rattle.std.specs.Prelude.{sum_by, IfOk, None}
+use Rattle.std.proofs.Common.{◌≡◌, ◌≢◌, ◌+◌, ◌++◌, ◌-◌, ◌∙◌, ◌≤◌, inl, ℕ, List, Option, Err, ap, arith, length, refl, subst, sym}
+use Rattle.std.specs.Prelude.{sum_by, IfOk, None, OnOk}
+use Rattle.flow_types.specs.declared.numbers.LinkNo.{LinkNo}
 use Rattle.flow_types.specs.declared.records.Record.{Record}
 use Rattle.run_history.specs.declared.options.Options.{Options}
 use Rattle.run_history.specs.Answers.{before_end, end_over}
@@ -22,14 +23,14 @@ use Rattle.local_run.proofs.Modes.{collects_none, gone_begun, gone_none}
 use Rattle.local_run.proofs.Results.{closed_whole, on_ok}
 use Rattle.local_run.proofs.Failures.{logs_plain, logs_then}
 use Rattle.local_run.proofs.Fresh.{has_room_due}
-use Rattle.local_run.proofs.Refused.{early_refused, early_same}
-use Rattle.local_run.proofs.Starts.{refused_ends, started_free}
-use Rattle.local_run.proofs.Started.{IsBegun, adds_more, adds_nothing, begun, begun_kept, begun_loses, begun_now, refused_causes, refused_kept, refused_legal, refused_now}
+use Rattle.local_run.proofs.Refused.{early_refused}
+use Rattle.local_run.proofs.Starts.{started_free}
+use Rattle.local_run.proofs.Started.{IsBegun, adds_more, adds_nothing, begun, begun_kept, begun_loses, begun_now, refused_kept, refused_now}
 use Rattle.local_run.proofs.Openings.{opens_by}
 use Rattle.wq_run.specs.Ends.{EndsWaiting, LosesOnLinks}
 use Rattle.flow_run.specs.Places.{PlacedBy}
 use Rattle.flow_run.specs.Reached.{IsReached}
-use Rattle.wq_run.specs.Calm.{GoesWell}
+use Rattle.wq_run.specs.Calm.{ComeFew, GoesWell}
 use Rattle.wq_run.specs.Losses.{AreDueLosses}
 use Rattle.wq_run.specs.Results.{AreResults}
 use Rattle.wq_run.specs.Vain.{AreVain, IfWaited, NeedsAtMost}
@@ -39,7 +40,7 @@ use Rattle.flow_run.proofs.Calms.{well_begun}
 use Rattle.flow_run.proofs.Added.{adds_begun}
 use Rattle.flow_run.proofs.Placed.{placed_none}
 use Rattle.flow_run.proofs.Reliance.{of_begun}
-use Rattle.flow_run.proofs.Stops.{back_same}
+use Rattle.flow_run.proofs.Stops.{back_as, refused_damage, refused_sure, refused_spared, refused_unclosed, refused_whole, unmet_refused}
 use Rattle.flow_run.proofs.runs.run_by.Goals as goal
 
 pub run_desk-requires-clause-valid : goal.run_desk-requires-clause-valid
@@ -87,18 +88,18 @@ returns-in-Ok-clause-now g c told kept whole image now =
     (c.run_desk.ensures.now told kept whole image now)
 
 pub returns-in-Err-clause-more : goal.returns-in-Err-clause-more
-returns-in-Err-clause-more g c = adds_nothing g.T.Terms.trust g.F.Commands.gives g.F.Commands.may_fail g.T.Terms.sources c.args.plan c.args.history c.in-Err.refused.history c.in-Err.ensures.reply.0
+returns-in-Err-clause-more g c = adds_nothing g.T.Terms.trust g.F.Commands.gives g.F.Commands.may_fail g.T.Terms.sources c.args.plan c.args.history c.in-Err.unopened.records c.in-Err.ensures.declined.same
 
 pub returns-in-Err-clause-kept : goal.returns-in-Err-clause-kept
 returns-in-Err-clause-kept g c told kept image left =
-    refused_kept g.S.Site.may_leave g.S.Site.moment g.S.Site.images_since (Fits g.T.Terms.trust g.F.Commands.gives g.T.Terms.sources) c.args.plan c.args.log.name c.args.history c.in-Err.refused.history c.args.site c.in-Err.refused.site c.in-Err.refused.why
-    c.args.options c.now.result g.S.Site.tells (g.S.Site.files c.args.site) g.T.Terms.before g.T.Terms.born image c.in-Err.ensures.reply.0 (c.requires.later told kept)
+    refused_kept g.S.Site.may_leave g.S.Site.moment g.S.Site.images_since (Fits g.T.Terms.trust g.F.Commands.gives g.T.Terms.sources) c.args.plan c.args.log.name c.args.history c.in-Err.unopened.records c.args.site c.in-Err.unopened.site (Err c.in-Err.unopened.why)
+    c.args.options c.now.result g.S.Site.tells (g.S.Site.files c.args.site) g.T.Terms.before g.T.Terms.born image c.in-Err.ensures.declined.same (c.requires.later told kept)
     (c.requires.before told kept) (c.requires.kept told kept) (c.in-Err.ensures.any_moment told kept) (c.in-Err.ensures.quiet told) left
 
 pub returns-in-Err-clause-now : goal.returns-in-Err-clause-now
 returns-in-Err-clause-now g c told kept whole image now =
-    refused_now g.S.Site.may_leave g.S.Site.moment g.S.Site.images_since (Fits g.T.Terms.trust g.F.Commands.gives g.T.Terms.sources) c.args.plan c.args.log.name c.args.history c.in-Err.refused.history c.args.site c.in-Err.refused.site c.in-Err.refused.why
-    image c.in-Err.ensures.reply.0 (c.requires.kept told kept) (c.in-Err.ensures.quiet told) whole now
+    refused_now g.S.Site.may_leave g.S.Site.moment g.S.Site.images_since (Fits g.T.Terms.trust g.F.Commands.gives g.T.Terms.sources) c.args.plan c.args.log.name c.args.history c.in-Err.unopened.records c.args.site c.in-Err.unopened.site (Err c.in-Err.unopened.why)
+    image c.in-Err.ensures.declined.same (c.requires.kept told kept) (c.in-Err.ensures.quiet told) whole now
 
 pub returns-in-Ok-clause-legal : goal.returns-in-Ok-clause-legal
 returns-in-Ok-clause-legal g c admitted = subst (λ (P : Plan). IsLegal P c.run_desk.result.records) (begun g.S.Site.count c.args.plan c.args.options c.args.log.name c.args.history c.now.result g.S.Site.tells (g.S.Site.files c.args.site) c.args.site g.F.Commands.may_fail (serial c.args.plan g.F.Commands.gives g.T.Terms.sources) c.in-Ok.desk c.in-Ok.ensures.reply).plan c.run_desk.ensures.legal
@@ -124,20 +125,22 @@ pub returns-in-Ok-clause-waited : goal.returns-in-Ok-clause-waited
 returns-in-Ok-clause-waited g c alone =
     let b : IsBegun (g.S.Site.count c.args.site) c.args.plan c.args.options c.args.log.name c.args.history g.F.Commands.may_fail (serial c.args.plan g.F.Commands.gives g.T.Terms.sources) c.in-Ok.desk = (begun g.S.Site.count c.args.plan c.args.options c.args.log.name c.args.history c.now.result g.S.Site.tells (g.S.Site.files c.args.site) c.args.site g.F.Commands.may_fail (serial c.args.plan g.F.Commands.gives g.T.Terms.sources) c.in-Ok.desk c.in-Ok.ensures.reply) in
     let limit = c.args.workers.limit in
-    let rise = g.H.Hall.idle_count c.run_desk.new.hall - g.H.Hall.idle_count c.args.hall.now in
-    subst (λ (P : Plan). IfOk c.run_desk.result.how (EndsWaiting P c.args.options limit rise c.run_desk.result.records)) b.plan
-    (subst (λ (O : Options). IfOk c.run_desk.result.how (EndsWaiting c.in-Ok.desk.plan O limit rise c.run_desk.result.records)) b.options (c.run_desk.ensures.waited (ap (λ (O : Options). O.wq) b.options ∙ alone)))
+    let rise = g.H.Hall.idle_count c.run_desk.new.hall - g.H.Hall.idle_count c.open.new.hall in
+    subst (λ (n : ℕ). IfOk c.run_desk.result.how (EndsWaiting c.args.plan c.args.options limit (g.H.Hall.idle_count c.run_desk.new.hall - n) c.run_desk.result.records)) c.open.ensures.idles
+    (subst (λ (P : Plan). IfOk c.run_desk.result.how (EndsWaiting P c.args.options limit rise c.run_desk.result.records)) b.plan
+    (subst (λ (O : Options). IfOk c.run_desk.result.how (EndsWaiting c.in-Ok.desk.plan O limit rise c.run_desk.result.records)) b.options (c.run_desk.ensures.waited (ap (λ (O : Options). O.wq) b.options ∙ alone))))
 
 pub returns-in-Ok-clause-vain : goal.returns-in-Ok-clause-vain
 returns-in-Ok-clause-vain g c away tells =
     let b : IsBegun (g.S.Site.count c.args.site) c.args.plan c.args.options c.args.log.name c.args.history g.F.Commands.may_fail (serial c.args.plan g.F.Commands.gives g.T.Terms.sources) c.in-Ok.desk = (begun g.S.Site.count c.args.plan c.args.options c.args.log.name c.args.history c.now.result g.S.Site.tells (g.S.Site.files c.args.site) c.args.site g.F.Commands.may_fail (serial c.args.plan g.F.Commands.gives g.T.Terms.sources) c.in-Ok.desk c.in-Ok.ensures.reply) in
     let how = c.run_desk.result.how in
     let ended = before_end c.run_desk.result.records in
-    let got = g.H.Hall.got c.args.hall.now in
+    let got = g.H.Hall.got c.open.new.hall in
     let got_now = g.H.Hall.got c.run_desk.new.hall in
-    subst (λ (P : Plan). IfOk how (λ check. IfWaited check (AreVain g.F.Commands.gives g.F.Commands.may_fail g.H.Way.Link.history g.H.Way.Link.count g.H.Way.Link.idle_count g.H.Way.Link.is_closed c.args.workers.limit P c.args.options ended got got_now))) b.plan
+    subst (λ (links : List (Option LinkNo × g.row.H-Way.Denot)). IfOk how (λ check. IfWaited check (AreVain g.F.Commands.gives g.F.Commands.may_fail g.H.Way.Link.history g.H.Way.Link.count g.H.Way.Link.idle_count g.H.Way.Link.is_closed c.args.workers.limit c.args.plan c.args.options ended links got_now))) c.open.ensures.got
+    (subst (λ (P : Plan). IfOk how (λ check. IfWaited check (AreVain g.F.Commands.gives g.F.Commands.may_fail g.H.Way.Link.history g.H.Way.Link.count g.H.Way.Link.idle_count g.H.Way.Link.is_closed c.args.workers.limit P c.args.options ended got got_now))) b.plan
     (subst (λ (O : Options). IfOk how (λ check. IfWaited check (AreVain g.F.Commands.gives g.F.Commands.may_fail g.H.Way.Link.history g.H.Way.Link.count g.H.Way.Link.idle_count g.H.Way.Link.is_closed c.args.workers.limit c.in-Ok.desk.plan O ended got got_now))) b.options
-    (c.run_desk.ensures.vain (ap (λ (O : Options). O.wq) b.options ∙ away) tells (joins_begun c.in-Ok.desk c.args.history b.over)))
+    (c.run_desk.ensures.vain (ap (λ (O : Options). O.wq) b.options ∙ away) tells (joins_begun c.in-Ok.desk c.args.history b.over))))
 
 pub returns-in-Ok-clause-lost_away : goal.returns-in-Ok-clause-lost_away
 returns-in-Ok-clause-lost_away g c =
@@ -151,28 +154,30 @@ returns-in-Ok-clause-due_losses g c tells =
     let how = c.run_desk.result.how in
     let all = c.run_desk.result.records in
     let mid = records_of c.in-Ok.desk.moves in
-    let got = g.H.Hall.got c.args.hall.now in
+    let got = g.H.Hall.got c.open.new.hall in
     let got_now = g.H.Hall.got c.run_desk.new.hall in
     let wq : c.in-Ok.desk.options.wq ≡ c.args.options.wq = ap (λ (O : Options). O.wq) b.options in
-    by_either c.args.options.wq
+    subst (λ (links : List (Option LinkNo × g.row.H-Way.Denot)). OnOk how (AreDueLosses g.F.Commands.gives g.F.Commands.may_fail g.H.Way.Link.history g.H.Way.Link.count g.H.Way.Link.idle_count g.H.Way.Link.is_closed c.args.workers.limit links got_now c.args.history all)) c.open.ensures.got
+    (by_either c.args.options.wq
     (λ away. on_ok how (AreDueLosses g.F.Commands.gives g.F.Commands.may_fail g.H.Way.Link.history g.H.Way.Link.count g.H.Way.Link.idle_count g.H.Way.Link.is_closed c.args.workers.limit got got_now mid all) (AreDueLosses g.F.Commands.gives g.F.Commands.may_fail g.H.Way.Link.history g.H.Way.Link.count g.H.Way.Link.idle_count g.H.Way.Link.is_closed c.args.workers.limit got got_now c.args.history all)
     (due_begun g.F.Commands.gives g.F.Commands.may_fail g.H.Way.Link.history g.H.Way.Link.count g.H.Way.Link.idle_count g.H.Way.Link.is_closed c.args.workers.limit got got_now c.args.history mid all b.entry b.records b.kept)
     (c.run_desk.ensures.due_losses (wq ∙ away) tells (joins_begun c.in-Ok.desk c.args.history b.over)))
     (λ here. on_ok how (LosesNone c.args.history all) (AreDueLosses g.F.Commands.gives g.F.Commands.may_fail g.H.Way.Link.history g.H.Way.Link.count g.H.Way.Link.idle_count g.H.Way.Link.is_closed c.args.workers.limit got got_now c.args.history all)
     (due_none g.F.Commands.gives g.F.Commands.may_fail g.H.Way.Link.history g.H.Way.Link.count g.H.Way.Link.idle_count g.H.Way.Link.is_closed c.args.workers.limit got got_now c.args.history all (ap g.H.Hall.got {x = c.run_desk.new.hall} (c.run_desk.ensures.alone (wq ∙ here))))
-    (returns-in-Ok-clause-lost g c here))
+    (returns-in-Ok-clause-lost g c here)))
 
 pub returns-in-Ok-clause-results : goal.returns-in-Ok-clause-results
 returns-in-Ok-clause-results g c away tells =
     let b : IsBegun (g.S.Site.count c.args.site) c.args.plan c.args.options c.args.log.name c.args.history g.F.Commands.may_fail (serial c.args.plan g.F.Commands.gives g.T.Terms.sources) c.in-Ok.desk = (begun g.S.Site.count c.args.plan c.args.options c.args.log.name c.args.history c.now.result g.S.Site.tells (g.S.Site.files c.args.site) c.args.site g.F.Commands.may_fail (serial c.args.plan g.F.Commands.gives g.T.Terms.sources) c.in-Ok.desk c.in-Ok.ensures.reply) in
     let all = c.run_desk.result.records in
     let mid = records_of c.in-Ok.desk.moves in
-    let got = g.H.Hall.got c.args.hall.now in
+    let got = g.H.Hall.got c.open.new.hall in
     let got_now = g.H.Hall.got c.run_desk.new.hall in
     let wq : c.in-Ok.desk.options.wq ≡ c.args.options.wq = ap (λ (O : Options). O.wq) b.options in
-    on_ok c.run_desk.result.how (AreResults g.H.Way.Link.history got got_now mid all) (AreResults g.H.Way.Link.history got got_now c.args.history all)
+    subst (λ (links : List (Option LinkNo × g.row.H-Way.Denot)). OnOk c.run_desk.result.how (AreResults g.H.Way.Link.history links got_now c.args.history all)) c.open.ensures.got
+    (on_ok c.run_desk.result.how (AreResults g.H.Way.Link.history got got_now mid all) (AreResults g.H.Way.Link.history got got_now c.args.history all)
     (results_begun g.H.Way.Link.history got got_now c.args.history mid all b.over.1.0 (records_begun c.in-Ok.desk c.args.history b.over) (λ links. opened_result g.H.Way.Link.history links all b.over.1.0 b.over.1.1))
-    (c.run_desk.ensures.results (wq ∙ away) tells)
+    (c.run_desk.ensures.results (wq ∙ away) tells))
 
 pub run_desk-requires-clause-asked : goal.run_desk-requires-clause-asked
 run_desk-requires-clause-asked g c κs within =
@@ -182,7 +187,12 @@ run_desk-requires-clause-asked g c κs within =
 pub run_desk-requires-clause-honest : goal.run_desk-requires-clause-honest
 run_desk-requires-clause-honest g c κs within trusted is =
     let b : IsBegun (g.S.Site.count c.args.site) c.args.plan c.args.options c.args.log.name c.args.history g.F.Commands.may_fail (serial c.args.plan g.F.Commands.gives g.T.Terms.sources) c.in-Ok.desk = (begun g.S.Site.count c.args.plan c.args.options c.args.log.name c.args.history c.now.result g.S.Site.tells (g.S.Site.files c.args.site) c.args.site g.F.Commands.may_fail (serial c.args.plan g.F.Commands.gives g.T.Terms.sources) c.in-Ok.desk c.in-Ok.ensures.reply) in
-    c.requires.honest trusted (sym (ap (λ (O : Options). O.wq) b.options) ∙ is)
+    c.open.ensures.honest (c.requires.honest trusted (sym (ap (λ (O : Options). O.wq) b.options) ∙ is))
+
+pub run_desk-requires-clause-listens : goal.run_desk-requires-clause-listens
+run_desk-requires-clause-listens g c κs within is =
+    let b : IsBegun (g.S.Site.count c.args.site) c.args.plan c.args.options c.args.log.name c.args.history g.F.Commands.may_fail (serial c.args.plan g.F.Commands.gives g.T.Terms.sources) c.in-Ok.desk = (begun g.S.Site.count c.args.plan c.args.options c.args.log.name c.args.history c.now.result g.S.Site.tells (g.S.Site.files c.args.site) c.args.site g.F.Commands.may_fail (serial c.args.plan g.F.Commands.gives g.T.Terms.sources) c.in-Ok.desk c.in-Ok.ensures.reply) in
+    c.in-Ok.ensures.listens (sym (ap (λ (O : Options). O.wq) b.options) ∙ is)
 
 pub returns-in-Ok-clause-sure : goal.returns-in-Ok-clause-sure
 returns-in-Ok-clause-sure g c alone sure =
@@ -198,18 +208,36 @@ pub returns-in-Ok-clause-hall : goal.returns-in-Ok-clause-hall
 returns-in-Ok-clause-hall g c is =
     let b : IsBegun (g.S.Site.count c.args.site) c.args.plan c.args.options c.args.log.name c.args.history g.F.Commands.may_fail (serial c.args.plan g.F.Commands.gives g.T.Terms.sources) c.in-Ok.desk = (begun g.S.Site.count c.args.plan c.args.options c.args.log.name c.args.history c.now.result g.S.Site.tells (g.S.Site.files c.args.site) c.args.site g.F.Commands.may_fail (serial c.args.plan g.F.Commands.gives g.T.Terms.sources) c.in-Ok.desk c.in-Ok.ensures.reply) in
     let told = c.run_desk.ensures.hall is in
-    (sym (ap (λ (O : Options). O.wq) b.options) ∙ told.0, told.1)
+    let rose = told.1 in
+    let met = c.open.ensures.met in
+    (sym (ap (λ (O : Options). O.wq) b.options) ∙ told.0, omega (arith, rose, met))
 
 pub returns-in-Ok-clause-alone : goal.returns-in-Ok-clause-alone
 returns-in-Ok-clause-alone g c alone =
     let b : IsBegun (g.S.Site.count c.args.site) c.args.plan c.args.options c.args.log.name c.args.history g.F.Commands.may_fail (serial c.args.plan g.F.Commands.gives g.T.Terms.sources) c.in-Ok.desk = (begun g.S.Site.count c.args.plan c.args.options c.args.log.name c.args.history c.now.result g.S.Site.tells (g.S.Site.files c.args.site) c.args.site g.F.Commands.may_fail (serial c.args.plan g.F.Commands.gives g.T.Terms.sources) c.in-Ok.desk c.in-Ok.ensures.reply) in
-    c.run_desk.ensures.alone (ap (λ (O : Options). O.wq) b.options ∙ alone)
+    c.run_desk.ensures.alone (ap (λ (O : Options). O.wq) b.options ∙ alone) ∙ c.open.ensures.alone alone
 
 pub returns-in-Ok-clause-unmet : goal.returns-in-Ok-clause-unmet
-returns-in-Ok-clause-unmet g c refused = absurd (c.run_desk.ensures.started refused)
+returns-in-Ok-clause-unmet g c unmet = absurd (c.run_desk.ensures.started (unmet_refused c.run_desk.result.how unmet))
+
+pub returns-in-Ok-clause-back : goal.returns-in-Ok-clause-back
+returns-in-Ok-clause-back g c whole =
+    let b = c.run_desk.ensures.back whole in
+    record { more = b.more; are = b.are ∙ ap (λ l. l ++ b.more) c.open.ensures.got; many = (let all = b.many in let given = c.open.ensures.given in omega (arith, all, given)); apart = b.apart }
+
+pub returns-in-Ok-clause-met : goal.returns-in-Ok-clause-met
+returns-in-Ok-clause-met g c = let opened = c.open.ensures.met in let ran = c.run_desk.ensures.met in omega (arith, opened, ran)
+
+pub returns-in-Ok-clause-listens : goal.returns-in-Ok-clause-listens
+returns-in-Ok-clause-listens g c away started =
+    let b : IsBegun (g.S.Site.count c.args.site) c.args.plan c.args.options c.args.log.name c.args.history g.F.Commands.may_fail (serial c.args.plan g.F.Commands.gives g.T.Terms.sources) c.in-Ok.desk = (begun g.S.Site.count c.args.plan c.args.options c.args.log.name c.args.history c.now.result g.S.Site.tells (g.S.Site.files c.args.site) c.args.site g.F.Commands.may_fail (serial c.args.plan g.F.Commands.gives g.T.Terms.sources) c.in-Ok.desk c.in-Ok.ensures.reply) in
+    c.run_desk.ensures.listens (ap (λ (O : Options). O.wq) b.options ∙ away)
+
+pub returns-in-Ok-clause-vacant : goal.returns-in-Ok-clause-vacant
+returns-in-Ok-clause-vacant g c refused = absurd (c.run_desk.ensures.started refused)
 
 pub returns-in-Err-clause-back : goal.returns-in-Err-clause-back
-returns-in-Err-clause-back g c whole = back_same (g.H.Hall.got c.args.hall.now) (g.H.Hall.given c.args.hall.now)
+returns-in-Err-clause-back g c whole = back_as (g.H.Hall.got c.args.hall.now) (g.H.Hall.got c.open.new.hall) (g.H.Hall.given c.args.hall.now) (g.H.Hall.given c.open.new.hall) c.open.ensures.got c.open.ensures.given
 
 pub returns-in-Ok-clause-added : goal.returns-in-Ok-clause-added
 returns-in-Ok-clause-added g c =
@@ -218,7 +246,7 @@ returns-in-Ok-clause-added g c =
     (opens_by g.S.Site.count c.args.plan c.args.options c.args.log.name c.args.history c.now.result g.S.Site.tells (g.S.Site.files c.args.site) c.args.site g.F.Commands.may_fail (serial c.args.plan g.F.Commands.gives g.T.Terms.sources) c.in-Ok.desk c.in-Ok.ensures.reply) c.run_desk.ensures.added
 
 pub returns-in-Err-clause-added : goal.returns-in-Err-clause-added
-returns-in-Err-clause-added g c = inl (tt, c.in-Err.ensures.reply.0)
+returns-in-Err-clause-added g c = inl (c.in-Err.ensures.declined.refused, c.in-Err.ensures.declined.same)
 
 pub returns-in-Ok-clause-places : goal.returns-in-Ok-clause-places
 returns-in-Ok-clause-places g c =
@@ -227,7 +255,7 @@ returns-in-Ok-clause-places g c =
     (subst (λ (O : Options). PlacedBy c.in-Ok.desk.plan O c.args.history c.run_desk.result.records) b.options (c.run_desk.ensures.places c.args.history b.over))
 
 pub returns-in-Err-clause-places : goal.returns-in-Err-clause-places
-returns-in-Err-clause-places g c = placed_none c.args.plan c.args.options c.args.history c.in-Err.refused.history c.in-Err.ensures.reply.0
+returns-in-Err-clause-places g c = placed_none c.args.plan c.args.options c.args.history c.in-Err.unopened.records c.in-Err.ensures.declined.same
 
 pub returns-in-Ok-clause-others : goal.returns-in-Ok-clause-others
 returns-in-Ok-clause-others g c told =
@@ -242,19 +270,17 @@ returns-in-Ok-clause-reads g c told m spared =
     let ran : LeavesAlone g.S.Site.files g.S.Site.may_leave g.S.Site.moment g.S.Site.images_since (IsUnmade c.args.plan c.args.log.name) c.in-Ok.desk.site c.run_desk.result.site =
     subst (λ (P : Plan). LeavesAlone g.S.Site.files g.S.Site.may_leave g.S.Site.moment g.S.Site.images_since (IsUnmade P c.args.log.name) c.in-Ok.desk.site c.run_desk.result.site) (begun g.S.Site.count c.args.plan c.args.options c.args.log.name c.args.history c.now.result g.S.Site.tells (g.S.Site.files c.args.site) c.args.site g.F.Commands.may_fail (serial c.args.plan g.F.Commands.gives g.T.Terms.sources) c.in-Ok.desk c.in-Ok.ensures.reply).plan
     (subst (λ (n : List ℕ). LeavesAlone g.S.Site.files g.S.Site.may_leave g.S.Site.moment g.S.Site.images_since (IsUnmade c.in-Ok.desk.plan n) c.in-Ok.desk.site c.run_desk.result.site) (begun g.S.Site.count c.args.plan c.args.options c.args.log.name c.args.history c.now.result g.S.Site.tells (g.S.Site.files c.args.site) c.args.site g.F.Commands.may_fail (serial c.args.plan g.F.Commands.gives g.T.Terms.sources) c.in-Ok.desk c.in-Ok.ensures.reply).log_is (c.run_desk.ensures.others told)) in
-    ran.reads m spared.0 ∙ c.in-Ok.ensures.reads told m (spared.0.0, λ cut. absurd cut)
+    ran.reads m spared.0 ∙ c.in-Ok.ensures.reads told m spared.0.0
 
 pub returns-in-Err-clause-legal : goal.returns-in-Err-clause-legal
-returns-in-Err-clause-legal g c admitted =
-    subst (λ (G : List Record). IsLegal c.args.plan G) (sym c.in-Err.ensures.reply.0)
-    (refused_legal g.S.Site.count c.args.plan c.args.options c.args.history g.S.Site.tells (g.S.Site.files c.args.site) c.args.site c.in-Err.refused.site c.in-Err.refused.why c.in-Err.ensures.reply.1 admitted)
+returns-in-Err-clause-legal g c admitted = subst (λ (G : List Record). IsLegal c.args.plan G) (sym c.in-Err.ensures.declined.same) (c.in-Err.ensures.declined.legal admitted)
 
 pub returns-in-Err-clause-idle : goal.returns-in-Err-clause-idle
-returns-in-Err-clause-idle g c closed = absurd closed
+returns-in-Err-clause-idle g c closed = absurd (refused_unclosed (Err c.in-Err.unopened.why) c.in-Err.ensures.declined.refused closed)
 
 pub returns-in-Err-clause-others : goal.returns-in-Err-clause-others
 returns-in-Err-clause-others g c told =
-    beside_less g.S.Site.files g.S.Site.may_leave g.S.Site.moment g.S.Site.images_since (λ m. m ≢ c.args.log.name) (IsUnmade c.args.plan c.args.log.name) c.args.site c.in-Err.refused.site (λ m other. other.0) (c.in-Err.ensures.others told)
+    beside_less g.S.Site.files g.S.Site.may_leave g.S.Site.moment g.S.Site.images_since (λ m. m ≢ c.args.log.name) (IsUnmade c.args.plan c.args.log.name) c.args.site c.in-Err.unopened.site (λ m other. other.0) (c.in-Err.ensures.others told)
 
 pub returns-in-Err-clause-reads : goal.returns-in-Err-clause-reads
 returns-in-Err-clause-reads g c told m spared = c.in-Err.ensures.reads told m (spared.0.0, spared.1)
@@ -264,9 +290,7 @@ returns-in-Ok-clause-causes g c =
     subst (λ (n : ℕ). HasCauses n (g.S.Site.count c.run_desk.result.site) (sum_by g.R.Runner.count c.args.runners.now) (sum_by g.R.Runner.count c.run_desk.new.runners) c.run_desk.result.how) (begun g.S.Site.count c.args.plan c.args.options c.args.log.name c.args.history c.now.result g.S.Site.tells (g.S.Site.files c.args.site) c.args.site g.F.Commands.may_fail (serial c.args.plan g.F.Commands.gives g.T.Terms.sources) c.in-Ok.desk c.in-Ok.ensures.reply).faults c.run_desk.ensures.causes
 
 pub returns-in-Err-clause-causes : goal.returns-in-Err-clause-causes
-returns-in-Err-clause-causes g c =
-    refused_causes g.S.Site.count c.args.plan c.args.options c.args.history g.S.Site.tells (g.S.Site.files c.args.site) c.args.site c.in-Err.refused.site (sum_by g.R.Runner.count c.args.runners.now) (sum_by g.R.Runner.count c.args.runners.now)
-    c.in-Err.refused.why c.in-Err.ensures.reply.1
+returns-in-Err-clause-causes g c = c.in-Err.ensures.declined.causes (sum_by g.R.Runner.count c.args.runners.now) (sum_by g.R.Runner.count c.args.runners.now)
 
 pub run_desk-requires-clause-unset : goal.run_desk-requires-clause-unset
 run_desk-requires-clause-unset g c κs within = (begun g.S.Site.count c.args.plan c.args.options c.args.log.name c.args.history c.now.result g.S.Site.tells (g.S.Site.files c.args.site) c.args.site g.F.Commands.may_fail (serial c.args.plan g.F.Commands.gives g.T.Terms.sources) c.in-Ok.desk c.in-Ok.ensures.reply).unset
@@ -282,8 +306,7 @@ returns-in-Ok-clause-starts g c told =
     (sym (started_free g.S.Site.count c.args.plan c.args.options c.args.history c.args.log.name c.now.result g.S.Site.tells (g.S.Site.files c.args.site) c.args.site c.in-Ok.desk c.in-Ok.ensures.reply told)) c.run_desk.ensures.starts
 
 pub returns-in-Err-clause-starts : goal.returns-in-Err-clause-starts
-returns-in-Err-clause-starts g c told uncut =
-    refused_ends g.S.Site.count c.args.plan c.args.options c.args.history g.S.Site.tells (g.S.Site.files c.args.site) c.args.site c.in-Err.refused.site c.in-Err.refused.why c.in-Err.ensures.reply.1 told uncut
+returns-in-Err-clause-starts g c told = c.in-Err.ensures.declined.starts told
 
 pub returns-in-Ok-clause-ending : goal.returns-in-Ok-clause-ending
 returns-in-Ok-clause-ending g c here =
@@ -303,7 +326,7 @@ returns-in-Ok-clause-failures g c alone closed =
     logs_then c.args.history (records_of c.in-Ok.desk.moves) c.run_desk.result.records _ _ _ (logs_plain c.args.history (records_of c.in-Ok.desk.moves) b.entry _ _ b.records b.failed refl) (c.run_desk.ensures.failures (ap (λ (O : Options). O.wq) b.options ∙ alone) closed)
 
 pub returns-in-Err-clause-failures : goal.returns-in-Err-clause-failures
-returns-in-Err-clause-failures g c alone closed = absurd closed
+returns-in-Err-clause-failures g c alone closed = absurd (refused_unclosed (Err c.in-Err.unopened.why) c.in-Err.ensures.declined.refused closed)
 
 pub returns-in-Ok-clause-completes : goal.returns-in-Ok-clause-completes
 returns-in-Ok-clause-completes g c here told kept trusted fit room sure =
@@ -321,11 +344,10 @@ pub returns-in-Ok-clause-quiet : goal.returns-in-Ok-clause-quiet
 returns-in-Ok-clause-quiet g c early = absurd (c.run_desk.ensures.started (early_refused c.run_desk.result.how early))
 
 pub returns-in-Err-clause-same : goal.returns-in-Err-clause-same
-returns-in-Err-clause-same g c refused = c.in-Err.ensures.reply.0
+returns-in-Err-clause-same g c refused = c.in-Err.ensures.declined.same
 
 pub returns-in-Err-clause-quiet : goal.returns-in-Err-clause-quiet
-returns-in-Err-clause-quiet g c early =
-    early_same g.S.Site.count c.args.plan c.args.options c.args.history g.S.Site.tells (g.S.Site.files c.args.site) c.args.site c.in-Err.refused.site c.in-Err.refused.why c.in-Err.ensures.reply.1 early
+returns-in-Err-clause-quiet g c early = c.in-Err.ensures.declined.early early
 
 pub returns-in-Ok-clause-modes : goal.returns-in-Ok-clause-modes
 returns-in-Ok-clause-modes g c =
@@ -334,7 +356,7 @@ returns-in-Ok-clause-modes g c =
     (subst (λ (O : Options). CollectsBy c.in-Ok.desk.plan O.mode c.args.history c.run_desk.result.records) b.options (c.run_desk.ensures.modes c.args.history b.over))
 
 pub returns-in-Err-clause-modes : goal.returns-in-Err-clause-modes
-returns-in-Err-clause-modes g c = collects_none c.args.plan c.args.options.mode c.args.history c.in-Err.refused.history c.in-Err.ensures.reply.0
+returns-in-Err-clause-modes g c = collects_none c.args.plan c.args.options.mode c.args.history c.in-Err.unopened.records c.in-Err.ensures.declined.same
 
 pub returns-in-Ok-clause-gone : goal.returns-in-Ok-clause-gone
 returns-in-Ok-clause-gone g c told whole =
@@ -344,7 +366,7 @@ returns-in-Ok-clause-gone g c told whole =
     (c.run_desk.ensures.gone told whole (subst (λ (P : Plan). IsApart P c.in-Ok.desk.log) (sym b.plan) (subst (λ (n : List ℕ). IsApart c.args.plan n) (sym b.log_is) c.requires.apart))))
 
 pub returns-in-Err-clause-gone : goal.returns-in-Err-clause-gone
-returns-in-Err-clause-gone g c told whole = gone_none c.args.plan (g.S.Site.files c.in-Err.refused.site) c.args.history c.in-Err.refused.history c.in-Err.ensures.reply.0
+returns-in-Err-clause-gone g c told whole = gone_none c.args.plan (g.S.Site.files c.in-Err.unopened.site) c.args.history c.in-Err.unopened.records c.in-Err.ensures.declined.same
 
 pub returns-in-Ok-clause-collects : goal.returns-in-Ok-clause-collects
 returns-in-Ok-clause-collects g c started =
@@ -353,7 +375,7 @@ returns-in-Ok-clause-collects g c started =
     (subst (λ (O : Options). RunCollects c.in-Ok.desk.plan O.mode c.run_desk.result.records) b.options (c.run_desk.ensures.collects c.args.history b.over))
 
 pub returns-in-Err-clause-collects : goal.returns-in-Err-clause-collects
-returns-in-Err-clause-collects g c started = absurd (started tt)
+returns-in-Err-clause-collects g c started = absurd (started c.in-Err.ensures.declined.refused)
 
 pub returns-in-Ok-clause-unused : goal.returns-in-Ok-clause-unused
 returns-in-Ok-clause-unused g c refused = absurd (c.run_desk.ensures.started refused)
@@ -363,7 +385,28 @@ returns-in-Ok-clause-opened g c started =
     c.run_desk.ensures.opened c.args.options (opens_by g.S.Site.count c.args.plan c.args.options c.args.log.name c.args.history c.now.result g.S.Site.tells (g.S.Site.files c.args.site) c.args.site g.F.Commands.may_fail (serial c.args.plan g.F.Commands.gives g.T.Terms.sources) c.in-Ok.desk c.in-Ok.ensures.reply)
 
 pub returns-in-Err-clause-opened : goal.returns-in-Err-clause-opened
-returns-in-Err-clause-opened g c started = absurd (started tt)
+returns-in-Err-clause-opened g c started = absurd (started c.in-Err.ensures.declined.refused)
+
+pub returns-in-Err-clause-damage : goal.returns-in-Err-clause-damage
+returns-in-Err-clause-damage g c told = refused_damage c.args.plan c.in-Err.unopened.records (g.S.Site.files c.in-Err.unopened.site) (Err c.in-Err.unopened.why) c.in-Err.ensures.declined.refused
+
+pub returns-in-Err-clause-whole : goal.returns-in-Err-clause-whole
+returns-in-Err-clause-whole g c told kept = refused_whole (Err c.in-Err.unopened.why) c.in-Err.ensures.declined.refused
+
+pub returns-in-Err-clause-sure : goal.returns-in-Err-clause-sure
+returns-in-Err-clause-sure g c alone sure = refused_sure (Err c.in-Err.unopened.why) c.in-Err.ensures.declined.refused
+
+pub returns-in-Err-clause-never : goal.returns-in-Err-clause-never
+returns-in-Err-clause-never g c sure = refused_spared (Err c.in-Err.unopened.why) c.in-Err.ensures.declined.refused
+
+pub returns-in-Err-clause-hall : goal.returns-in-Err-clause-hall
+returns-in-Err-clause-hall g c is = c.in-Err.ensures.declined.failed is
+
+pub returns-in-Err-clause-vacant : goal.returns-in-Err-clause-vacant
+returns-in-Err-clause-vacant g c refused = record { none_back = c.open.ensures.got; none_given = c.open.ensures.given; none_awaited = c.open.ensures.idles }
+
+pub returns-in-Err-clause-listens : goal.returns-in-Err-clause-listens
+returns-in-Err-clause-listens g c away started = absurd (started c.in-Err.ensures.declined.refused)
 
 pub returns-in-Ok-clause-calm : goal.returns-in-Ok-clause-calm
 returns-in-Ok-clause-calm g c away tells sure all few =
@@ -371,7 +414,8 @@ returns-in-Ok-clause-calm g c away tells sure all few =
     let records = c.run_desk.result.records in
     let mid = records_of c.in-Ok.desk.moves in
     let wq : c.in-Ok.desk.options.wq ≡ c.args.options.wq = ap (λ (O : Options). O.wq) b.options in
-    on_ok c.run_desk.result.how (GoesWell mid records) (GoesWell c.args.history records) (well_begun c.args.history mid records b.entry b.records b.failed b.kept) (c.run_desk.ensures.calm (wq ∙ away) tells (joins_begun c.in-Ok.desk c.args.history b.over) sure all few)
+    on_ok c.run_desk.result.how (GoesWell mid records) (GoesWell c.args.history records) (well_begun c.args.history mid records b.entry b.records b.failed b.kept) (c.run_desk.ensures.calm (wq ∙ away) tells (joins_begun c.in-Ok.desk c.args.history b.over) (c.open.ensures.sure sure) all
+    (subst (λ (links : List (Option LinkNo × g.row.H-Way.Denot)). ComeFew g.H.Way.Link.history g.H.Way.Link.count g.H.Way.Link.idle_count g.H.Way.Link.is_closed links (g.H.Hall.got c.run_desk.new.hall)) (sym c.open.ensures.got) few))
 
 pub returns-in-Ok-clause-reaches : goal.returns-in-Ok-clause-reaches
 returns-in-Ok-clause-reaches g c away tells sure all few told kept trusted fit room =
@@ -380,7 +424,8 @@ returns-in-Ok-clause-reaches g c away tells sure all few told kept trusted fit r
     subst (λ (P : Plan). records_due P (records_of c.in-Ok.desk.moves) ≤ records_due c.args.plan c.args.history + 1) (sym b.plan) b.due in
     let wq : c.in-Ok.desk.options.wq ≡ c.args.options.wq = ap (λ (O : Options). O.wq) b.options in
     subst (λ (O : Options). IfOk c.run_desk.result.how (IsReached O.limit)) b.options
-    (c.run_desk.ensures.reaches (wq ∙ away) tells (joins_begun c.in-Ok.desk c.args.history b.over) sure all few told kept trusted
+    (c.run_desk.ensures.reaches (wq ∙ away) tells (joins_begun c.in-Ok.desk c.args.history b.over) (c.open.ensures.sure sure) all
+    (subst (λ (links : List (Option LinkNo × g.row.H-Way.Denot)). ComeFew g.H.Way.Link.history g.H.Way.Link.count g.H.Way.Link.idle_count g.H.Way.Link.is_closed links (g.H.Hall.got c.run_desk.new.hall)) (sym c.open.ensures.got) few) told kept trusted
     (subst (λ (P : Plan). SerialInputsFit P g.F.Commands.gives g.T.Terms.sources) (sym b.plan) fit) (has_room_due c.args.plan c.args.history _ due room))
 
 pub returns-in-Ok-clause-manned : goal.returns-in-Ok-clause-manned
@@ -390,6 +435,7 @@ returns-in-Ok-clause-manned g c away least tells sure manned all few once needs 
     subst (λ (P : Plan). records_due P (records_of c.in-Ok.desk.moves) ≤ records_due c.args.plan c.args.history + 1) (sym b.plan) b.due in
     let wq : c.in-Ok.desk.options.wq ≡ c.args.options.wq = ap (λ (O : Options). O.wq) b.options in
     subst (λ (O : Options). IfOk c.run_desk.result.how (IsCompleteEnd O.limit)) b.options
-    (c.run_desk.ensures.manned (wq ∙ away) least tells (joins_begun c.in-Ok.desk c.args.history b.over) sure manned all few once
+    (c.run_desk.ensures.manned (wq ∙ away) least tells (joins_begun c.in-Ok.desk c.args.history b.over) (c.open.ensures.sure sure) (c.open.ensures.manned least manned) all
+    (subst (λ (links : List (Option LinkNo × g.row.H-Way.Denot)). ComeFew g.H.Way.Link.history g.H.Way.Link.count g.H.Way.Link.idle_count g.H.Way.Link.is_closed links (g.H.Hall.got c.run_desk.new.hall)) (sym c.open.ensures.got) few) once
     (subst (λ (P : Plan). NeedsAtMost P c.in-Ok.desk.options least) (sym b.plan) (subst (λ (O : Options). NeedsAtMost c.args.plan O least) (sym b.options) needs)) told kept trusted
     (subst (λ (P : Plan). SerialInputsFit P g.F.Commands.gives g.T.Terms.sources) (sym b.plan) fit) (has_room_due c.args.plan c.args.history _ due room))

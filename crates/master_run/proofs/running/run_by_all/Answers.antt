@@ -167,7 +167,7 @@ returns-in-Ok-resume-clause-due_losses g c tells t H spelled keeps =
     let records = c.in-Ok-resume.ended.records in
     lost_run (AreDueLosses g.F.Commands.gives g.F.Commands.may_fail g.H.Way.Link.history g.H.Way.Link.count g.H.Way.Link.idle_count g.H.Way.Link.is_closed c.args.ask.workers.limit got got_now H records)
     (site_rise (counts c.args.before (map g.R.Runner.count c.args.runners.now) (g.H.Hall.count c.args.hall.now) (g.H.Hall.idle_count c.args.hall.now) 0) (counts (g.S.Site.count c.in-Ok-resume.ended.site) (map g.R.Runner.count c.resume.new.runners) (g.H.Hall.count c.resume.new.hall) (g.H.Hall.idle_count c.resume.new.hall) 0)) c.first_rise-runner.result (hall_rise (counts c.args.before (map g.R.Runner.count c.args.runners.now) (g.H.Hall.count c.args.hall.now) (g.H.Hall.idle_count c.args.hall.now) 0) (counts (g.S.Site.count c.in-Ok-resume.ended.site) (map g.R.Runner.count c.resume.new.runners) (g.H.Hall.count c.resume.new.hall) (g.H.Hall.idle_count c.resume.new.hall) 0)) c.args.ask.plan c.in-Ok-resume.ended.how
-    (λ refused. due_none g.F.Commands.gives g.F.Commands.may_fail g.H.Way.Link.history g.H.Way.Link.count g.H.Way.Link.idle_count g.H.Way.Link.is_closed c.args.ask.workers.limit got got_now H records (ap g.H.Hall.got (c.in-Ok-resume.ensures.unmet refused)) (loses_none H records (c.in-Ok-resume.ensures.same t H spelled refused)))
+    (λ refused. due_none g.F.Commands.gives g.F.Commands.may_fail g.H.Way.Link.history g.H.Way.Link.count g.H.Way.Link.idle_count g.H.Way.Link.is_closed c.args.ask.workers.limit got got_now H records ((c.in-Ok-resume.ensures.vacant refused).none_back) (loses_none H records (c.in-Ok-resume.ensures.same t H spelled refused)))
     (c.in-Ok-resume.ensures.due_losses tells t H spelled) (subst (λ (cause : Cause). may_lose (kind_of cause) ≡ false) same keeps)
 
 pub returns-clause-due_losses : goal.returns-clause-due_losses
@@ -188,7 +188,7 @@ returns-in-Ok-resume-clause-results g c tells t H spelled wq work keeps =
     let records = c.in-Ok-resume.ended.records in
     lost_run (AreResults g.H.Way.Link.history got got_now H records)
     (site_rise (counts c.args.before (map g.R.Runner.count c.args.runners.now) (g.H.Hall.count c.args.hall.now) (g.H.Hall.idle_count c.args.hall.now) 0) (counts (g.S.Site.count c.in-Ok-resume.ended.site) (map g.R.Runner.count c.resume.new.runners) (g.H.Hall.count c.resume.new.hall) (g.H.Hall.idle_count c.resume.new.hall) 0)) c.first_rise-runner.result (hall_rise (counts c.args.before (map g.R.Runner.count c.args.runners.now) (g.H.Hall.count c.args.hall.now) (g.H.Hall.idle_count c.args.hall.now) 0) (counts (g.S.Site.count c.in-Ok-resume.ended.site) (map g.R.Runner.count c.resume.new.runners) (g.H.Hall.count c.resume.new.hall) (g.H.Hall.idle_count c.resume.new.hall) 0)) c.args.ask.plan c.in-Ok-resume.ended.how
-    (λ refused. results_none g.H.Way.Link.history got got_now H records (ap g.H.Hall.got (c.in-Ok-resume.ensures.unmet refused)) (c.in-Ok-resume.ensures.same t H spelled refused))
+    (λ refused. results_none g.H.Way.Link.history got got_now H records ((c.in-Ok-resume.ensures.vacant refused).none_back) (c.in-Ok-resume.ensures.same t H spelled refused))
     (c.in-Ok-resume.ensures.results wq tells t H spelled) (subst (λ (cause : Cause). may_lose (kind_of cause) ≡ false) same keeps)
 
 pub returns-clause-results : goal.returns-clause-results
@@ -251,22 +251,22 @@ returns-in-Ok-resume-clause-leaves g c =
     let same : c.run_cause.result ≡ run_cause (site_rise (counts c.args.before (map g.R.Runner.count c.args.runners.now) (g.H.Hall.count c.args.hall.now) (g.H.Hall.idle_count c.args.hall.now) 0) (counts (g.S.Site.count c.in-Ok-resume.ended.site) (map g.R.Runner.count c.resume.new.runners) (g.H.Hall.count c.resume.new.hall) (g.H.Hall.idle_count c.resume.new.hall) 0)) c.first_rise-runner.result (hall_rise (counts c.args.before (map g.R.Runner.count c.args.runners.now) (g.H.Hall.count c.args.hall.now) (g.H.Hall.idle_count c.args.hall.now) 0) (counts (g.S.Site.count c.in-Ok-resume.ended.site) (map g.R.Runner.count c.resume.new.runners) (g.H.Hall.count c.resume.new.hall) (g.H.Hall.idle_count c.resume.new.hall) 0)) c.args.ask.plan c.in-Ok-resume.ended.how =
     c.run_cause.ensures ∙ told_cause c.args.before c.faults-after.result (g.S.Site.count c.in-Ok-resume.ended.site) c.faults-met.result (g.H.Hall.count c.args.hall.now) c.faults.result (g.H.Hall.count c.resume.new.hall) c.first_rise-runner.result c.in-Ok.copied c.args.ask.plan c.in-Ok-resume.ended.how c.faults-after.ensures c.faults-met.ensures c.faults.ensures c.in-Ok.ensures.0 in
     let ended = c.in-Ok-resume.ended in
-    subst (λ (cause : Cause). RunLeaves (λ (past : List Record). g.S.Site.tells → Spells past (g.S.Site.files c.args.site c.args.ask.log)) g.H.Way.Link.tells g.F.Commands.gives g.F.Commands.may_fail g.H.Way.Link.history g.H.Way.Link.count g.H.Way.Link.idle_count g.H.Way.Link.is_closed c.args.ask (g.H.Hall.idle_count c.resume.new.hall - g.H.Hall.idle_count c.args.hall.now) (g.H.Hall.got c.args.hall.now) (g.H.Hall.got c.resume.new.hall) ended.records cause) (sym same)
-    (ran_leaves (λ (past : List Record). g.S.Site.tells → Spells past (g.S.Site.files c.args.site c.args.ask.log)) g.H.Way.Link.tells g.F.Commands.gives g.F.Commands.may_fail g.H.Way.Link.history g.H.Way.Link.count g.H.Way.Link.idle_count g.H.Way.Link.is_closed c.args.ask (g.H.Hall.idle_count c.resume.new.hall - g.H.Hall.idle_count c.args.hall.now) (g.H.Hall.got c.args.hall.now) (g.H.Hall.got c.resume.new.hall)
-    (site_rise (counts c.args.before (map g.R.Runner.count c.args.runners.now) (g.H.Hall.count c.args.hall.now) (g.H.Hall.idle_count c.args.hall.now) 0) (counts (g.S.Site.count c.in-Ok-resume.ended.site) (map g.R.Runner.count c.resume.new.runners) (g.H.Hall.count c.resume.new.hall) (g.H.Hall.idle_count c.resume.new.hall) 0)) c.first_rise-runner.result (hall_rise (counts c.args.before (map g.R.Runner.count c.args.runners.now) (g.H.Hall.count c.args.hall.now) (g.H.Hall.idle_count c.args.hall.now) 0) (counts (g.S.Site.count c.in-Ok-resume.ended.site) (map g.R.Runner.count c.resume.new.runners) (g.H.Hall.count c.resume.new.hall) (g.H.Hall.idle_count c.resume.new.hall) 0)) ended.records ended.how c.in-Ok-resume.ensures.over (λ refused. ap g.H.Hall.got (c.in-Ok-resume.ensures.unmet refused))
-    (λ alone. c.in-Ok-resume.ensures.closed (fits_here c.args.ask.plan c.args.ask.options c.requires.fits alone)) c.in-Ok-resume.ensures.ends c.in-Ok-resume.ensures.waited)
+    subst (λ (cause : Cause). RunLeaves (λ (past : List Record). g.S.Site.tells → Spells past (g.S.Site.files c.args.site c.args.ask.log)) g.H.Way.Link.tells (g.H.Hall.listens c.resume.new.hall) g.F.Commands.gives g.F.Commands.may_fail g.H.Way.Link.history g.H.Way.Link.count g.H.Way.Link.idle_count g.H.Way.Link.is_closed c.args.ask (g.H.Hall.idle_count c.resume.new.hall - g.H.Hall.idle_count c.args.hall.now) (g.H.Hall.got c.args.hall.now) (g.H.Hall.got c.resume.new.hall) ended.records cause) (sym same)
+    (ran_leaves (λ (past : List Record). g.S.Site.tells → Spells past (g.S.Site.files c.args.site c.args.ask.log)) g.H.Way.Link.tells (g.H.Hall.listens c.resume.new.hall) g.F.Commands.gives g.F.Commands.may_fail g.H.Way.Link.history g.H.Way.Link.count g.H.Way.Link.idle_count g.H.Way.Link.is_closed c.args.ask (g.H.Hall.idle_count c.resume.new.hall - g.H.Hall.idle_count c.args.hall.now) (g.H.Hall.got c.args.hall.now) (g.H.Hall.got c.resume.new.hall)
+    (site_rise (counts c.args.before (map g.R.Runner.count c.args.runners.now) (g.H.Hall.count c.args.hall.now) (g.H.Hall.idle_count c.args.hall.now) 0) (counts (g.S.Site.count c.in-Ok-resume.ended.site) (map g.R.Runner.count c.resume.new.runners) (g.H.Hall.count c.resume.new.hall) (g.H.Hall.idle_count c.resume.new.hall) 0)) c.first_rise-runner.result (hall_rise (counts c.args.before (map g.R.Runner.count c.args.runners.now) (g.H.Hall.count c.args.hall.now) (g.H.Hall.idle_count c.args.hall.now) 0) (counts (g.S.Site.count c.in-Ok-resume.ended.site) (map g.R.Runner.count c.resume.new.runners) (g.H.Hall.count c.resume.new.hall) (g.H.Hall.idle_count c.resume.new.hall) 0)) ended.records ended.how c.in-Ok-resume.ensures.over (λ refused. (c.in-Ok-resume.ensures.vacant refused).none_back)
+    (λ alone. c.in-Ok-resume.ensures.closed (fits_here c.args.ask.plan c.args.ask.options c.requires.fits alone)) c.in-Ok-resume.ensures.ends c.in-Ok-resume.ensures.waited c.in-Ok-resume.ensures.listens c.in-Ok-resume.ensures.spent c.in-Ok-resume.ensures.collects)
 
 pub returns-in_default-clause-leaves : goal.returns-in_default-clause-leaves
 returns-in_default-clause-leaves g c =
-    subst (λ (xs : List Record). RunLeaves (λ (past : List Record). g.S.Site.tells → Spells past (g.S.Site.files c.args.site c.args.ask.log)) g.H.Way.Link.tells g.F.Commands.gives g.F.Commands.may_fail g.H.Way.Link.history g.H.Way.Link.count g.H.Way.Link.idle_count g.H.Way.Link.is_closed c.args.ask (g.H.Hall.idle_count c.args.hall.now - g.H.Hall.idle_count c.args.hall.now) (g.H.Hall.got c.args.hall.now) (g.H.Hall.got c.args.hall.now) xs causes.Memory) (sym c.new.ensures)
-    (memory_leaves (λ (past : List Record). g.S.Site.tells → Spells past (g.S.Site.files c.args.site c.args.ask.log)) g.H.Way.Link.tells g.F.Commands.gives g.F.Commands.may_fail g.H.Way.Link.history g.H.Way.Link.count g.H.Way.Link.idle_count g.H.Way.Link.is_closed c.args.ask (g.H.Hall.idle_count c.args.hall.now - g.H.Hall.idle_count c.args.hall.now) (g.H.Hall.got c.args.hall.now) (g.H.Hall.got c.args.hall.now) refl)
+    subst (λ (xs : List Record). RunLeaves (λ (past : List Record). g.S.Site.tells → Spells past (g.S.Site.files c.args.site c.args.ask.log)) g.H.Way.Link.tells (g.H.Hall.listens c.args.hall.now) g.F.Commands.gives g.F.Commands.may_fail g.H.Way.Link.history g.H.Way.Link.count g.H.Way.Link.idle_count g.H.Way.Link.is_closed c.args.ask (g.H.Hall.idle_count c.args.hall.now - g.H.Hall.idle_count c.args.hall.now) (g.H.Hall.got c.args.hall.now) (g.H.Hall.got c.args.hall.now) xs causes.Memory) (sym c.new.ensures)
+    (memory_leaves (λ (past : List Record). g.S.Site.tells → Spells past (g.S.Site.files c.args.site c.args.ask.log)) g.H.Way.Link.tells (g.H.Hall.listens c.args.hall.now) g.F.Commands.gives g.F.Commands.may_fail g.H.Way.Link.history g.H.Way.Link.count g.H.Way.Link.idle_count g.H.Way.Link.is_closed c.args.ask (g.H.Hall.idle_count c.args.hall.now - g.H.Hall.idle_count c.args.hall.now) (g.H.Hall.got c.args.hall.now) (g.H.Hall.got c.args.hall.now) refl)
 
 pub returns-clause-leaves : goal.returns-clause-leaves
 returns-clause-leaves g c =
     let s : Rise = record { before = c.args.before; after = c.faults-after-in-Err.result } in
-    subst (λ (cause : Cause). RunLeaves (λ (past : List Record). g.S.Site.tells → Spells past (g.S.Site.files c.args.site c.args.ask.log)) g.H.Way.Link.tells g.F.Commands.gives g.F.Commands.may_fail g.H.Way.Link.history g.H.Way.Link.count g.H.Way.Link.idle_count g.H.Way.Link.is_closed c.args.ask (g.H.Hall.idle_count c.resume.new.hall - g.H.Hall.idle_count c.args.hall.now) (g.H.Hall.got c.args.hall.now) (g.H.Hall.got c.resume.new.hall) c.new-in-Err.result cause) (sym c.unread_cause.ensures)
-    (subst (λ (xs : List Record). RunLeaves (λ (past : List Record). g.S.Site.tells → Spells past (g.S.Site.files c.args.site c.args.ask.log)) g.H.Way.Link.tells g.F.Commands.gives g.F.Commands.may_fail g.H.Way.Link.history g.H.Way.Link.count g.H.Way.Link.idle_count g.H.Way.Link.is_closed c.args.ask (g.H.Hall.idle_count c.resume.new.hall - g.H.Hall.idle_count c.args.hall.now) (g.H.Hall.got c.args.hall.now) (g.H.Hall.got c.resume.new.hall) xs (unread_cause s c.in-Err.refused.why)) (sym c.new-in-Err.ensures)
-    (unread_leaves (λ (past : List Record). g.S.Site.tells → Spells past (g.S.Site.files c.args.site c.args.ask.log)) g.H.Way.Link.tells g.F.Commands.gives g.F.Commands.may_fail g.H.Way.Link.history g.H.Way.Link.count g.H.Way.Link.idle_count g.H.Way.Link.is_closed c.args.ask (g.H.Hall.idle_count c.resume.new.hall - g.H.Hall.idle_count c.args.hall.now) (g.H.Hall.got c.args.hall.now) (g.H.Hall.got c.resume.new.hall) s c.in-Err.refused.why (ap g.H.Hall.got c.in-Err.ensures.unopened)))
+    subst (λ (cause : Cause). RunLeaves (λ (past : List Record). g.S.Site.tells → Spells past (g.S.Site.files c.args.site c.args.ask.log)) g.H.Way.Link.tells (g.H.Hall.listens c.resume.new.hall) g.F.Commands.gives g.F.Commands.may_fail g.H.Way.Link.history g.H.Way.Link.count g.H.Way.Link.idle_count g.H.Way.Link.is_closed c.args.ask (g.H.Hall.idle_count c.resume.new.hall - g.H.Hall.idle_count c.args.hall.now) (g.H.Hall.got c.args.hall.now) (g.H.Hall.got c.resume.new.hall) c.new-in-Err.result cause) (sym c.unread_cause.ensures)
+    (subst (λ (xs : List Record). RunLeaves (λ (past : List Record). g.S.Site.tells → Spells past (g.S.Site.files c.args.site c.args.ask.log)) g.H.Way.Link.tells (g.H.Hall.listens c.resume.new.hall) g.F.Commands.gives g.F.Commands.may_fail g.H.Way.Link.history g.H.Way.Link.count g.H.Way.Link.idle_count g.H.Way.Link.is_closed c.args.ask (g.H.Hall.idle_count c.resume.new.hall - g.H.Hall.idle_count c.args.hall.now) (g.H.Hall.got c.args.hall.now) (g.H.Hall.got c.resume.new.hall) xs (unread_cause s c.in-Err.refused.why)) (sym c.new-in-Err.ensures)
+    (unread_leaves (λ (past : List Record). g.S.Site.tells → Spells past (g.S.Site.files c.args.site c.args.ask.log)) g.H.Way.Link.tells (g.H.Hall.listens c.resume.new.hall) g.F.Commands.gives g.F.Commands.may_fail g.H.Way.Link.history g.H.Way.Link.count g.H.Way.Link.idle_count g.H.Way.Link.is_closed c.args.ask (g.H.Hall.idle_count c.resume.new.hall - g.H.Hall.idle_count c.args.hall.now) (g.H.Hall.got c.args.hall.now) (g.H.Hall.got c.resume.new.hall) s c.in-Err.refused.why (ap g.H.Hall.got c.in-Err.ensures.unopened)))
 
 pub returns-in-Ok-resume-clause-sure_links : goal.returns-in-Ok-resume-clause-sure_links
 returns-in-Ok-resume-clause-sure_links g c t H spelled wq work sure links =

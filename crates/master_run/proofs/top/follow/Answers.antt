@@ -261,8 +261,8 @@ pub returns-in-Ok-clause-leaves : goal.returns-in-Ok-clause-leaves
 returns-in-Ok-clause-leaves g c options chosen work =
     let of : c.in-Ok.ask ≡ ask_of options c.in-Ok.ask.plan = c.in-Ok.ensures.asked options chosen in
     let so : c.in-Ok.ask ≡ ask_of options c.serve.result.plan = of ∙ ap (ask_of options) (sym c.serve.ensures.plan) in
-    subst (λ (a : Ask). RunLeaves (λ (past : List Record). g.S.Site.tells → AreLogged (request c.args.words.now c.args.env.now (g.S.Site.files c.args.site)) (g.S.Site.files c.args.site) past) g.H.Way.Link.tells g.F.Commands.gives g.F.Commands.may_fail g.H.Way.Link.history g.H.Way.Link.count g.H.Way.Link.idle_count g.H.Way.Link.is_closed a (g.H.Hall.idle_count c.serve.new.hall - g.H.Hall.idle_count c.args.hall.now) (g.H.Hall.got c.args.hall.now) (g.H.Hall.got c.serve.new.hall) c.serve.result.records c.serve.result.cause) so
-    (leaves_less (λ (past : List Record). g.S.Site.tells → Spells past (g.S.Site.files c.read_ask.new.site c.in-Ok.ask.log)) g.H.Way.Link.tells g.F.Commands.gives g.F.Commands.may_fail g.H.Way.Link.history g.H.Way.Link.count g.H.Way.Link.idle_count g.H.Way.Link.is_closed c.in-Ok.ask (g.H.Hall.idle_count c.serve.new.hall - g.H.Hall.idle_count c.args.hall.now) (g.H.Hall.got c.args.hall.now) (g.H.Hall.got c.serve.new.hall)
+    subst (λ (a : Ask). RunLeaves (λ (past : List Record). g.S.Site.tells → AreLogged (request c.args.words.now c.args.env.now (g.S.Site.files c.args.site)) (g.S.Site.files c.args.site) past) g.H.Way.Link.tells (g.H.Hall.listens c.serve.new.hall) g.F.Commands.gives g.F.Commands.may_fail g.H.Way.Link.history g.H.Way.Link.count g.H.Way.Link.idle_count g.H.Way.Link.is_closed a (g.H.Hall.idle_count c.serve.new.hall - g.H.Hall.idle_count c.args.hall.now) (g.H.Hall.got c.args.hall.now) (g.H.Hall.got c.serve.new.hall) c.serve.result.records c.serve.result.cause) so
+    (leaves_less (λ (past : List Record). g.S.Site.tells → Spells past (g.S.Site.files c.read_ask.new.site c.in-Ok.ask.log)) g.H.Way.Link.tells (g.H.Hall.listens c.serve.new.hall) g.F.Commands.gives g.F.Commands.may_fail g.H.Way.Link.history g.H.Way.Link.count g.H.Way.Link.idle_count g.H.Way.Link.is_closed c.in-Ok.ask (g.H.Hall.idle_count c.serve.new.hall - g.H.Hall.idle_count c.args.hall.now) (g.H.Hall.got c.args.hall.now) (g.H.Hall.got c.serve.new.hall)
     (λ (past : List Record). g.S.Site.tells → AreLogged (request c.args.words.now c.args.env.now (g.S.Site.files c.args.site)) (g.S.Site.files c.args.site) past) c.serve.result.records c.serve.result.cause
     (λ past spelled told ask asked.
     subst (λ (a : Ask). Spells past (g.S.Site.files c.args.site a.log)) (same_ask c.in-Ok.ask ask (sym (c.in-Ok.ensures.stage told) ∙ asked))
@@ -272,6 +272,6 @@ returns-in-Ok-clause-leaves g c options chosen work =
 pub returns-in-Err-clause-leaves : goal.returns-in-Err-clause-leaves
 returns-in-Err-clause-leaves g c options chosen work =
     let s : Rise = record { before = c.faults-before.result; after = c.faults-after.result } in
-    subst (λ (cause : Cause). RunLeaves (λ (past : List Record). g.S.Site.tells → AreLogged (request c.args.words.now c.args.env.now (g.S.Site.files c.args.site)) (g.S.Site.files c.args.site) past) g.H.Way.Link.tells g.F.Commands.gives g.F.Commands.may_fail g.H.Way.Link.history g.H.Way.Link.count g.H.Way.Link.idle_count g.H.Way.Link.is_closed (ask_of options c.no_plan.result) (g.H.Hall.idle_count c.args.hall.now - g.H.Hall.idle_count c.args.hall.now) (g.H.Hall.got c.args.hall.now) (g.H.Hall.got c.args.hall.now) c.new.result cause) (sym c.refusal_cause.ensures)
-    (subst (λ (xs : List Record). RunLeaves (λ (past : List Record). g.S.Site.tells → AreLogged (request c.args.words.now c.args.env.now (g.S.Site.files c.args.site)) (g.S.Site.files c.args.site) past) g.H.Way.Link.tells g.F.Commands.gives g.F.Commands.may_fail g.H.Way.Link.history g.H.Way.Link.count g.H.Way.Link.idle_count g.H.Way.Link.is_closed (ask_of options c.no_plan.result) (g.H.Hall.idle_count c.args.hall.now - g.H.Hall.idle_count c.args.hall.now) (g.H.Hall.got c.args.hall.now) (g.H.Hall.got c.args.hall.now) xs (refusal_cause s c.in-Err.refusal)) (sym c.new.ensures)
-    (refused_leaves (λ (past : List Record). g.S.Site.tells → AreLogged (request c.args.words.now c.args.env.now (g.S.Site.files c.args.site)) (g.S.Site.files c.args.site) past) g.H.Way.Link.tells g.F.Commands.gives g.F.Commands.may_fail g.H.Way.Link.history g.H.Way.Link.count g.H.Way.Link.idle_count g.H.Way.Link.is_closed (ask_of options c.no_plan.result) (g.H.Hall.idle_count c.args.hall.now - g.H.Hall.idle_count c.args.hall.now) (g.H.Hall.got c.args.hall.now) (g.H.Hall.got c.args.hall.now) s c.in-Err.refusal c.in-Err.ensures.kind refl))
+    subst (λ (cause : Cause). RunLeaves (λ (past : List Record). g.S.Site.tells → AreLogged (request c.args.words.now c.args.env.now (g.S.Site.files c.args.site)) (g.S.Site.files c.args.site) past) g.H.Way.Link.tells (g.H.Hall.listens c.args.hall.now) g.F.Commands.gives g.F.Commands.may_fail g.H.Way.Link.history g.H.Way.Link.count g.H.Way.Link.idle_count g.H.Way.Link.is_closed (ask_of options c.no_plan.result) (g.H.Hall.idle_count c.args.hall.now - g.H.Hall.idle_count c.args.hall.now) (g.H.Hall.got c.args.hall.now) (g.H.Hall.got c.args.hall.now) c.new.result cause) (sym c.refusal_cause.ensures)
+    (subst (λ (xs : List Record). RunLeaves (λ (past : List Record). g.S.Site.tells → AreLogged (request c.args.words.now c.args.env.now (g.S.Site.files c.args.site)) (g.S.Site.files c.args.site) past) g.H.Way.Link.tells (g.H.Hall.listens c.args.hall.now) g.F.Commands.gives g.F.Commands.may_fail g.H.Way.Link.history g.H.Way.Link.count g.H.Way.Link.idle_count g.H.Way.Link.is_closed (ask_of options c.no_plan.result) (g.H.Hall.idle_count c.args.hall.now - g.H.Hall.idle_count c.args.hall.now) (g.H.Hall.got c.args.hall.now) (g.H.Hall.got c.args.hall.now) xs (refusal_cause s c.in-Err.refusal)) (sym c.new.ensures)
+    (refused_leaves (λ (past : List Record). g.S.Site.tells → AreLogged (request c.args.words.now c.args.env.now (g.S.Site.files c.args.site)) (g.S.Site.files c.args.site) past) g.H.Way.Link.tells (g.H.Hall.listens c.args.hall.now) g.F.Commands.gives g.F.Commands.may_fail g.H.Way.Link.history g.H.Way.Link.count g.H.Way.Link.idle_count g.H.Way.Link.is_closed (ask_of options c.no_plan.result) (g.H.Hall.idle_count c.args.hall.now - g.H.Hall.idle_count c.args.hall.now) (g.H.Hall.got c.args.hall.now) (g.H.Hall.got c.args.hall.now) s c.in-Err.refusal c.in-Err.ensures.kind refl))

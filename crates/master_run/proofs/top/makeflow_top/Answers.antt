@@ -17,7 +17,7 @@ returns g c =
     record {
       ends = top_ends (record { gives = g.F.Commands.gives; may_fail = g.F.Commands.may_fail })
           (site_words g.S.Site.tells g.S.Site.files g.S.Site.may_leave g.S.Site.moment g.S.Site.images_since g.S.Site.count)
-          (hall_words (link_words g.H.Way.Link.tells g.H.Way.Link.history g.H.Way.Link.count g.H.Way.Link.idle_count g.H.Way.Link.is_closed) g.H.Hall.given g.H.Hall.got g.H.Hall.honest g.H.Hall.sure g.H.Hall.manned g.H.Hall.count g.H.Hall.idle_count)
+          (hall_words (link_words g.H.Way.Link.tells g.H.Way.Link.history g.H.Way.Link.count g.H.Way.Link.idle_count g.H.Way.Link.is_closed) g.H.Hall.listens g.H.Hall.given g.H.Hall.got g.H.Hall.honest g.H.Hall.sure g.H.Hall.manned g.H.Hall.count g.H.Hall.idle_count)
           (record { sure = g.R.Runner.sure; count = g.R.Runner.count; failures = g.R.Runner.failures })
           (record { tells = g.O.Sink.tells; bytes = g.O.Sink.bytes; count = g.O.Sink.count })
           (AllTell g.R.Runner.tells c.args.runners.now) c.args.words.now c.args.env.now

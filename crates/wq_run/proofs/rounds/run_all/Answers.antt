@@ -57,6 +57,7 @@ returns-in-Ok-Over g c = record {
       (subst (λ (t : Turn). Rounds g.T.Terms.trust g.F.Commands.gives g.F.Commands.may_fail g.T.Terms.sources g.S.Site.tells g.T.Terms.kept (AllSure g.R.Runner.sure c.loop.runners) g.S.Site.files g.S.Site.may_leave g.S.Site.moment g.S.Site.images_since c.args.limit c.loop.desk c.go_round.new.desk (sum_by g.R.Runner.count c.loop.runners) (sum_by g.R.Runner.count c.go_round.new.runners) (sum_by g.R.Runner.failures c.loop.runners) (sum_by g.R.Runner.failures c.go_round.new.runners) k (g.H.Hall.count c.go_round.new.hall) (g.H.Hall.idle_count c.loop.hall) (g.H.Hall.idle_count c.go_round.new.hall) (Ok t)) c.in-Ok-Over.field-0-is (c.in-Ok-Over.ensures.rounds k (let later = c.loop.invariant.met.later in omega (arith, less, later)) (hall_rose k (g.H.Hall.count c.args.hall.now) (g.H.Hall.count c.loop.hall) c.args.company.now.failed c.loop.company.failed less failed c.loop.invariant.met.fails c.loop.invariant.met.later)));
   seats = c.go_round.ensures.seats;
   none = c.go_round.ensures.none;
+  listens = c.go_round.ensures.listens;
   met = met_then c.loop.invariant.met c.go_round.ensures.met;
   due = λ tells. due_then _ _ (c.loop.invariant.due tells) (c.in-Ok-Over.ensures.due tells);
   sound = c.in-Ok-Over.ensures.sound (subst IsLast (sym c.in-Ok-Over.field-0-is) tt);
@@ -70,6 +71,7 @@ returns-in-Err g c = record {
       (c.in-Err.ensures.rounds k (let later = c.loop.invariant.met.later in omega (arith, less, later)) (hall_rose k (g.H.Hall.count c.args.hall.now) (g.H.Hall.count c.loop.hall) c.args.company.now.failed c.loop.company.failed less failed c.loop.invariant.met.fails c.loop.invariant.met.later));
   seats = c.go_round.ensures.seats;
   none = c.go_round.ensures.none;
+  listens = c.go_round.ensures.listens;
   met = met_then c.loop.invariant.met c.go_round.ensures.met;
   due = λ tells. tt;
   sound = tt;
@@ -164,6 +166,7 @@ returns-then-stop g c =
       seats = seats_goes g.T.Terms.trust g.F.Commands.gives g.F.Commands.may_fail g.T.Terms.sources g.S.Site.tells g.S.Site.files g.S.Site.may_leave g.S.Site.moment g.S.Site.images_since c.stop.new.self c.end_waiting.new.desk c.end_waiting.ensures.ended.goes c.go_round.new.company.seats
           (subst (λ (x : DeskState g.row.S.Denot). AreSeats x.plan x.options x.moves c.go_round.new.company.seats) (sym c.stop.ensures.stop) c.go_round.ensures.seats);
       none = c.go_round.ensures.none;
+      listens = c.go_round.ensures.listens;
       met = met_then c.loop.invariant.met c.go_round.ensures.met;
       due = λ tells.
           let rounds = subst (λ (x : DeskState g.row.S.Denot). let none : Option Halt = None in KeepsOn (IsIllLink g.F.Commands.gives g.F.Commands.may_fail g.H.Way.Link.history g.H.Way.Link.count g.H.Way.Link.idle_count g.H.Way.Link.is_closed c.args.limit) g.H.Way.Link.history c.args.desk.now.moves x.moves none none c.args.company.now c.go_round.new.company (g.H.Hall.got c.args.hall.now) (g.H.Hall.got c.go_round.new.hall)) (sym c.stop.ensures.stop) (due_then _ _ (c.loop.invariant.due tells) (c.in-Ok-Vain.ensures.due tells)) in

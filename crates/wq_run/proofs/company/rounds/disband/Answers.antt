@@ -32,6 +32,7 @@ loop-seat-preserved g c =
     let same_guests : c.company.inside.guests.items ≡ c.loop-seat.company.guests = search rules in
     record {
       failed = c.hand_back.ensures.failed ∙ failed ∙ c.loop-seat.invariant.failed;
+      listens = λ is. c.hand_back.ensures.listens (c.loop-seat.invariant.listens is);
       due = λ limit moves tells.
           let was = c.loop-seat.company in
           let mid : CompanyState g.row.H-Way.Denot = record was { seats = c.pop.new.self.items ++ (c.farewell.new.self ∷ []) } in
@@ -81,6 +82,7 @@ loop-peer-preserved g c =
       seats = c.hand_back-in-Some-pop.ensures.seats ∙ same ∙ c.loop-peer.invariant.seats;
       met = met_then c.loop-peer.invariant.met (met_then (still_met (record { links = omega (arith, many, both, seats); fewer = λ k. let e = ap (seats_under k) same in omega (arith, e); newest = newest }) failed lost) c.hand_back-in-Some-pop.ensures.met);
       failed = c.hand_back-in-Some-pop.ensures.failed ∙ failed ∙ c.loop-peer.invariant.failed;
+      listens = λ is. c.hand_back-in-Some-pop.ensures.listens (c.loop-peer.invariant.listens is);
       hands = λ tells none kept.
           let was = c.loop-peer.invariant.hands tells none (sym lost ∙ (c.hand_back-in-Some-pop.ensures.met.counted kept).0) in
           let some = ap length (sym are ∙ was.1) in
@@ -117,6 +119,7 @@ pub loop-seat-init : goal.loop-seat-init
 loop-seat-init g c = record {
   none = c.requires.none;
   failed = refl;
+  listens = λ is. is;
   guests = refl;
   due = λ limit moves tells. due_none _ _;
   hands = λ tells kept. hands_none g.H.Way.Link.history c.args.company.now.seats (g.H.Hall.got c.args.hall.now);
@@ -146,6 +149,7 @@ loop-peer-init g c =
         same ∙ c.loop-seat.invariant.guests ∙ alone,
       );
       failed = failed ∙ c.loop-seat.invariant.failed;
+      listens = c.loop-seat.invariant.listens;
       due = λ limit moves tells. due_then _ _ (c.loop-seat.invariant.due limit moves tells) (due_from _ _ (sym behind) failed lost (due_none _ _));
       met = met_then c.loop-seat.invariant.met (still_met (record { links = omega (arith, many, guests); fewer = λ k. let e = ap (seats_under k) behind in omega (arith, e); newest = newest }) failed lost);
     }
