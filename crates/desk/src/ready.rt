@@ -5,6 +5,7 @@ ghost use Rattle.desk.specs.Begins.{Begins, site_in};
 ghost use Rattle.desk.specs.Kept.{Fits, KeepsEither, ReadsStay, StaysBeside};
 ghost use Rattle.desk.specs.Room.{KeepsAmple};
 
+use crate::inputs::ShelfSite;
 use crate::{Desk, StartRefused, Terms};
 use flow_types::{Record, Rows};
 use outside::{Commands, Site};
@@ -22,7 +23,7 @@ pub struct Ready<F: Commands, S: Site, T: Terms, A: Admission> {
     pub(crate) alloc: Global,
     // It has taken the first record in already.
     pub(crate) table: Table,
-    pub(crate) site: S,
+    pub(crate) site: ShelfSite<S>,
     pub(crate) log: Log,
     pub(crate) history: Rows<Record>,
     // How often the site had failed.
@@ -108,6 +109,6 @@ impl<F: Commands, S: Site, T: Terms, A: Admission> Ready<F, S, T, A> {
             entry: _,
             of: _,
         } = self;
-        (site, history)
+        (site.into_site(), history)
     }
 }

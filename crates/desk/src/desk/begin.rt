@@ -28,7 +28,7 @@ impl<F: Commands, S: Site, T: Terms, A: Admission> Desk<F, S, T, A> {
     fn begin_in_room(
         alloc: Global,
         table: Table,
-        site: S,
+        site: ShelfSite<S>,
         log: Log,
         history: Rows<Record>,
         faults: u64,
@@ -72,7 +72,7 @@ impl<F: Commands, S: Site, T: Terms, A: Admission> Desk<F, S, T, A> {
                 records,
                 steps,
                 trouble: Trouble::Fine,
-                site: ShelfSite::new(alloc, site),
+                site,
                 of: PhantomData,
             }),
             Err(Fault::Failed) => {
@@ -82,13 +82,13 @@ impl<F: Commands, S: Site, T: Terms, A: Admission> Desk<F, S, T, A> {
                         before: faults,
                         after,
                     },
-                    site,
+                    site: site.into_site(),
                     history: Rows::of(records),
                 })
             }
             Err(Fault::Memory) => Err(StartRefused {
                 why: StartFault::Memory,
-                site,
+                site: site.into_site(),
                 history: Rows::of(records),
             }),
         }
@@ -99,7 +99,7 @@ impl<F: Commands, S: Site, T: Terms, A: Admission> Desk<F, S, T, A> {
     pub(crate) fn begin(
         alloc: Global,
         table: Table,
-        site: S,
+        site: ShelfSite<S>,
         log: Log,
         history: Rows<Record>,
         faults: u64,
@@ -131,7 +131,7 @@ impl<F: Commands, S: Site, T: Terms, A: Admission> Desk<F, S, T, A> {
             Ok(()) => Self::begin_in_room(alloc, table, site, log, history, faults, entry),
             Err(_) => Err(StartRefused {
                 why: StartFault::Memory,
-                site,
+                site: site.into_site(),
                 history,
             }),
         }

@@ -76,7 +76,7 @@ impl<F: Commands, S: Site, T: Terms, A: Admission> Desk<F, S, T, A> {
             return Err(InputRefused::Memory);
         };
         let row = &self.table.plan().files.as_slice()[file.0 as usize];
-        match self.site.read_logged(alloc, buffer, &row.name, logged) {
+        match self.site.read_logged(buffer, &row.name, logged) {
             Ok(Ok(bytes)) => Ok(bytes),
             Ok(Err(found)) => Err(InputRefused::Damaged {
                 file,
@@ -98,9 +98,9 @@ impl<F: Commands, S: Site, T: Terms, A: Admission> Desk<F, S, T, A> {
 
     /// The content of a file, as it was logged, or what stands in its place. Memory that is wanting
     /// for it alone doesn't end the desk's work, and nothing has changed. A content of 64 KiB to 64
-    /// MiB is copied once as it is read, and that copy is kept, 128 MiB of them together; while it
-    /// is kept, a call makes a copy of it, and neither reads nor hashes. Condition: the file is
-    /// present.
+    /// MiB is copied once as it is read, and that copy is kept, 128 MiB of them together, as is what
+    /// was read of a source before the run was opened; while it is kept, a call makes a copy of it,
+    /// and neither reads nor hashes. Condition: the file is present.
     pub fn read_input(&mut self, alloc: Global, file: FileNo) -> Result<Bytes, InputRefused>
         requires present { is_present self.old.plan (records_of self.old.moves) file.0 ≡ true }
         ensures reply { (logged : Content)

@@ -1,11 +1,11 @@
 //! Contents that were read and are kept, so that they aren't read and hashed again.
 ghost use Rattle.std.specs.Prelude.{◌≡◌, ◌≤◌, ◌<◌, ◌+◌, ℕ, [], length, drop, filter, not};
-ghost use Rattle.std.specs.Prelude.{Contains, IfOk, IfSome, true};
+ghost use Rattle.std.specs.Prelude.{Contains, IfSome, true};
 ghost use Rattle.std.specs.Str.{bytes_eq};
 ghost use Rattle.desk.specs.Kept.{logged};
-ghost use Rattle.desk.specs.Shelves.{IsPutOn, bytes_on, most_together};
+ghost use Rattle.desk.specs.Shelves.{IsPutOn, bytes_on, least_kept, most_kept, most_together};
 
-use flow_types::{Bytes, Content, Memory, Name};
+use flow_types::{Bytes, Content, Name};
 use std::alloc::Global;
 use std::marker::Model;
 
@@ -18,6 +18,13 @@ const MOST_KEPT: u64 = 67_108_864;
 /// So many bytes are kept of all contents together.
 const MOST_TOGETHER: u64 = 134_217_728;
 
+/// Whether a content of so many bytes is kept.
+fn is_kept(size: u64) -> bool
+    ensures { result ≡ true → (least_kept ≤ size) × (size ≤ most_kept) }
+{
+    LEAST_KEPT <= size && size <= MOST_KEPT
+}
+
 /// A content that is kept, and the name of its file.
 #[derive(Drop)]
 pub(crate) struct Shelved {
@@ -27,19 +34,6 @@ pub(crate) struct Shelved {
 }
 
 impl Shelved {
-    fn of(alloc: Global, name: &Name, content: Content, bytes: &[u8]) -> Result<Shelved, Memory>
-        ensures { IfOk result (λ shelved. shelved
-            ≡ record { name = name.now; content = content; bytes = bytes.now }) }
-    {
-        let name = name.copy(alloc)?;
-        let bytes = Bytes::of(alloc, bytes)?;
-        Ok(Shelved {
-            name,
-            content,
-            bytes,
-        })
-    }
-
     fn is_named(&self, name: &Name) -> bool
         ensures { result ≡ bytes_eq self.now.name name.now }
     {
@@ -140,19 +134,37 @@ impl Shelf {
         }
     }
 
-    /// Keeps a copy of a content, unless it is small, or large, or memory is wanting. The oldest
-    /// contents leave for it.
-    pub(crate) fn keep(&mut self, alloc: Global, name: &Name, content: Content, bytes: &[u8])
+    /// Keeps a content, unless it is small, or large, or memory is wanting. The oldest contents
+    /// leave for it.
+    pub(crate) fn keep(&mut self, alloc: Global, name: &Name, content: Content, bytes: Bytes)
+        requires { content ≡ logged bytes }
+        ensures { IsPutOn self.old
+            (record { name = name.now; content = content; bytes = bytes }) self.new }
+    {
+        if !is_kept(content.size) {
+            return;
+        }
+        self.make_room(content.size);
+        if let Ok(name) = name.copy(alloc) {
+            let _kept = self.items.push(Shelved {
+                name,
+                content,
+                bytes,
+            });
+        }
+    }
+
+    /// Keeps a copy of a content, as `keep` does.
+    pub(crate) fn keep_copy(&mut self, alloc: Global, name: &Name, content: Content, bytes: &[u8])
         requires { content ≡ logged bytes.now }
         ensures { IsPutOn self.old
             (record { name = name.now; content = content; bytes = bytes.now }) self.new }
     {
-        if content.size < LEAST_KEPT || content.size > MOST_KEPT {
+        if !is_kept(content.size) {
             return;
         }
-        self.make_room(content.size);
-        if let Ok(shelved) = Shelved::of(alloc, name, content, bytes) {
-            let _kept = self.items.push(shelved);
+        if let Ok(bytes) = Bytes::of(alloc, bytes) {
+            self.keep(alloc, name, content, bytes);
         }
     }
 }

@@ -1,5 +1,5 @@
 //! A site, and what was read from it.
-ghost use Rattle.std.specs.Prelude.{◌≡◌, ◌≤◌, length, IfOk};
+ghost use Rattle.std.specs.Prelude.{◌≡◌, ◌≤◌, length, IfOk, Some};
 ghost use Rattle.outside.specs.Causes.{HasCause, IsAmple};
 ghost use Rattle.outside.specs.Disk.{IsImage, LeavesOnly, Within};
 ghost use Rattle.desk.specs.Inputs.{Finds};
@@ -17,6 +17,7 @@ use std::marker::Model;
 /// its name: whatever is written, cut, synced or removed isn't kept any more.
 #[derive(Drop)]
 pub(crate) struct ShelfSite<S: Site> {
+    alloc: Global,
     site: S,
     shelf: Shelf,
 }
@@ -37,6 +38,7 @@ impl<S: Site> ShelfSite<S> {
         ensures { result ≡ site }
     {
         ShelfSite {
+            alloc,
             site,
             shelf: Shelf::new(alloc),
         }
@@ -49,11 +51,19 @@ impl<S: Site> ShelfSite<S> {
         self.site
     }
 
+    /// Keeps what was read of a file, and stands under its name still.
+    pub(crate) fn keep(&mut self, name: &Name, content: Content, bytes: Bytes)
+        requires there { S.tells → S.files self.old name.now ≡ Some bytes }
+        requires whole { content ≡ logged bytes }
+        ensures { self.new ≡ self.old }
+    {
+        self.shelf.keep(self.alloc, name, content, bytes);
+    }
+
     /// The content of a file as it was logged, or what stands in its place. Where it is kept the
     /// site isn't called. The buffer is as long as what was logged.
     pub(crate) fn read_logged(
         &mut self,
-        alloc: Global,
         buffer: Vec<u8>,
         name: &Name,
         content: Content,
@@ -74,7 +84,8 @@ impl<S: Site> ShelfSite<S> {
         }
         match read_logged(buffer, &mut self.site, name, content) {
             Ok(Ok(bytes)) => {
-                self.shelf.keep(alloc, name, content, bytes.as_slice());
+                self.shelf
+                    .keep_copy(self.alloc, name, content, bytes.as_slice());
                 Ok(Ok(bytes))
             }
             Ok(Err(found)) => Ok(Err(found)),

@@ -1,4 +1,4 @@
-use Rattle.std.proofs.Common.{◌≤◌, ◌+◌, List, sym, subst, arith}
+use Rattle.std.proofs.Common.{◌≤◌, ◌+◌, List, refl, sym, subst}
 use Rattle.desk.specs.declared.inputs.shelf.Shelved.{Shelved}
 use Rattle.desk.specs.Shelves.{IsShelved, bytes_on}
 use Rattle.desk.proofs.Shelving.{shelf_pushed}
@@ -6,14 +6,12 @@ use Rattle.desk.proofs.inputs.shelf.Shelf.keep.Goals as goal
 
 pub invariant_of-self-in-Ok-2 : goal.invariant_of-self-in-Ok-2
 invariant_of-self-in-Ok-2 c =
-    let shelved : Shelved = record { name = c.args.name.now; content = c.args.content; bytes = c.args.bytes.now } in
+    let shelved : Shelved = record { name = c.in-Ok.name; content = c.args.content; bytes = c.args.bytes } in
     let kept : List Shelved = c.self.inside.items.items in
     let one : IsShelved shelved = record {
       whole = c.requires;
-      least = omega (arith, c.if-content-lt-LEAST_KEPT.false);
-      most = omega (arith, c.if-content-gt-MOST_KEPT.false);
+      least = (c.if-not-is_kept.ensures refl).0;
+      most = (c.if-not-is_kept.ensures refl).1;
     } in
     let room : bytes_on kept + c.args.content.size ≤ 134217728 = subst (λ (l : List Shelved). bytes_on l + c.args.content.size ≤ 134217728) (sym c.self.view_is) c.make_room.ensures.room in
-    shelf_pushed _ kept c.push-kept.new.self.items c.in-Ok.shelved c.push-kept.ensures.items c.self.invariant
-    (subst IsShelved (sym c.in-Ok.ensures) one)
-    (subst (λ (s : Shelved). bytes_on kept + s.content.size ≤ 134217728) (sym c.in-Ok.ensures) room)
+    shelf_pushed _ kept c.push-kept.new.self.items shelved c.push-kept.ensures.items c.self.invariant one room
