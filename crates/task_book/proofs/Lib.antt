@@ -3,3 +3,4 @@ pub mod Times
 pub mod Staging
 pub mod Sizes
 pub mod Rising
+pub mod Stopping

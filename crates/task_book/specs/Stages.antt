@@ -5,6 +5,7 @@ use Rattle.flow_types.specs.declared.numbers.AttemptNo.{AttemptNo}
 use Rattle.task_book.specs.declared.task.Held.{Held}
 use Rattle.task_book.specs.declared.task.Stage.TheVariants as stages
 use Rattle.task_book.specs.declared.task.Submission.{Submission}
+use Rattle.task_book.specs.declared.task.TaskId.{TaskId}
 
 -- A held task runs with the attempt.
 abbrev pub Runs : List Held → AttemptNo → Submission → Type 0
@@ -38,3 +39,14 @@ EndsWith old new attempt outcome = (a : AttemptNo) (o : Outcome) (task : Submiss
 abbrev pub RunsWith : List Held → List Held → AttemptNo → Submission → Type 0
 RunsWith old new attempt task = (a : AttemptNo) (t : Submission) → Runs new a t
     → Runs old a t ⊎ ((a ≡ attempt) × (t ≡ task))
+
+-- The held task of the id runs with the attempt.
+abbrev pub RunsAs : List Held → TaskId → AttemptNo → Type 0
+RunsAs [] id attempt = ⊥
+RunsAs (h ∷ held) id attempt =
+    ((h.id ≡ id) × (h.stage ≡ stages.Runs attempt)) ⊎ RunsAs held id attempt
+
+-- What runs ran before with the same attempt, and the task of the id runs with this one no more.
+abbrev pub Stops : List Held → List Held → TaskId → AttemptNo → Type 0
+Stops old new id attempt = (i : TaskId) (a : AttemptNo) → RunsAs new i a
+    → RunsAs old i a × ((i ≡ id) → (a ≡ attempt) → ⊥)

@@ -3,10 +3,10 @@ ghost use Rattle.std.specs.Prelude.{◌≡◌, ◌≤◌, ℕ, IfNone, IfSome, N
 ghost use Rattle.std.specs.Option.{option_copied};
 ghost use Rattle.flow_types.specs.declared.numbers.AttemptNo.{AttemptNo as Number};
 ghost use Rattle.task_book.specs.declared.task.Stage.TheVariants as stages;
-ghost use Rattle.task_book.specs.Kept.{IsEndedAt, given_at, place_ended, place_running, staged_at, staged_by};
+ghost use Rattle.task_book.specs.Kept.{AreKept, IsEndedAt, given_at, place_ended, place_running, staged_at, staged_by};
 ghost use Rattle.task_book.specs.Submissions.{IsShort};
 ghost use Rattle.task_book.specs.Lines.{NoneBefore, is_waiting, waiting_in};
-ghost use Rattle.task_book.specs.Stages.{EndsOn, EndsWith, Runs, RunsOn, RunsWith};
+ghost use Rattle.task_book.specs.Stages.{EndsOn, EndsWith, Runs, RunsOn, RunsWith, Stops};
 
 use crate::book::Book;
 use crate::task::{Given, Held, Ready, Stage, Submission, TaskId};
@@ -82,6 +82,7 @@ impl Book {
     // The task of an id that runs with this attempt is in this stage from now on.
     fn stage(&mut self, id: TaskId, attempt: AttemptNo, stage: Stage) -> bool
         ensures was { result ≡ is_some (place_running id attempt self.old.held) }
+        ensures once { AreKept self.old }
         ensures held { self.new ≡ record self.old {
           held = staged_at self.old.held (place_running id attempt self.old.held) stage;
         } }
@@ -100,6 +101,7 @@ impl Book {
           held = staged_at self.old.held (place_running id attempt self.old.held) stages.Waits;
         } }
         ensures runs { RunsOn self.old.held self.new.held }
+        ensures stops { Stops self.old.held self.new.held id attempt }
         ensures ends { EndsOn self.old.held self.new.held }
     {
         self.stage(id, attempt, Stage::Waits)
@@ -113,6 +115,7 @@ impl Book {
               (stages.Ended attempt outcome);
         } }
         ensures runs { RunsOn self.old.held self.new.held }
+        ensures stops { Stops self.old.held self.new.held id attempt }
         ensures ends { EndsWith self.old.held self.new.held attempt outcome }
     {
         self.stage(id, attempt, Stage::Ended { attempt, outcome })
