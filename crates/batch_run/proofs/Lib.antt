@@ -1,3 +1,4 @@
 pub mod Batches
 pub mod Texts
 pub mod Tops
+pub mod Manned

@@ -7,6 +7,7 @@ use Rattle.std.specs.Str.{is_utf8}
 use Rattle.command_words.specs.Numbers.{number_in}
 use Rattle.flow_types.specs.declared.job.Outcome.{Outcome}
 use Rattle.flow_types.specs.declared.job.Outcome.TheVariants as outcomes
+use Rattle.flow_types.specs.declared.numbers.Amounts.{Amounts}
 use Rattle.flow_types.specs.declared.numbers.Needs.TheVariants as needs
 use Rattle.flow_types.specs.Names.{name_of}
 use Rattle.flow_types.specs.Plans.{most_bytes, most_command_bytes}
@@ -46,12 +47,16 @@ abbrev pub bad_line_from : ℕ → List (List ℕ) → Option ℕ
 bad_line_from n [] = None
 bad_line_from n (line ∷ lines) = if is_good_line line then bad_line_from (n + 1) lines else Some n
 
+-- what each task of a batch needs
+abbrev pub one_core : Amounts
+one_core = record { cores = 1; memory = 0; disk = 0 }
+
 -- the task of a command: one core, no input, and the one output `out` of the default bound
 abbrev pub batch_task : List ℕ → Submission
 batch_task command = record {
   command = command;
   env = [];
-  needs = needs.Stated (record { cores = 1; memory = 0; disk = 0 });
+  needs = needs.Stated one_core;
   inputs = [];
   outputs = record { remote = codes "out"; bound = most_bytes } ∷ [];
 }

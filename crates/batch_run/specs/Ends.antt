@@ -1,9 +1,10 @@
 -- How a batch ends.
-use Rattle.std.specs.Prelude.{◌≡◌, ◌≤◌, ◌<◌, ◌+◌, ◌⊎◌, ℕ, List, [], ◌∷◌, ◌++◌, length, map, take, true, slice_get, slice_set, Option, Some, None, Result, Ok}
+use Rattle.std.specs.Prelude.{◌≡◌, ◌≤◌, ◌<◌, ◌+◌, ◌⊎◌, ℕ, List, [], ◌∷◌, ◌++◌, length, map, take, true, slice_get, slice_set, Option, Some, None, Result, Ok, IfErr}
 use Rattle.std.specs.List.{AllByRecursion, list_all}
 use Rattle.flow_types.specs.declared.job.Failure.{Failure}
 use Rattle.flow_types.specs.declared.job.Job.{Job}
 use Rattle.flow_types.specs.declared.job.Outcome.{Outcome}
+use Rattle.flow_types.specs.declared.numbers.Amounts.{Amounts}
 use Rattle.flow_types.specs.declared.numbers.AttemptNo.{AttemptNo}
 use Rattle.flow_types.specs.Serial.{Function}
 use Rattle.links.specs.declared.passing.Passed.{Passed}
@@ -16,7 +17,7 @@ use Rattle.task_book.specs.Stages.{Ends as EndsAt}
 use Rattle.wq_submit.specs.declared.cause.QueueCame.{QueueCame}
 use Rattle.wq_submit.specs.declared.cause.QueueCame.TheVariants as came
 use Rattle.wq_submit.specs.declared.cause.WaitFault.{WaitFault}
-use Rattle.wq_submit.specs.Queues.{AreIdle, work_of}
+use Rattle.wq_submit.specs.Queues.{AreIdle, IsWithin, work_of}
 use Rattle.wq_submit.specs.Shown.{IsRightOf, IsShownOn}
 use Rattle.batch_run.specs.declared.cause.BatchCause.{BatchCause}
 use Rattle.batch_run.specs.declared.cause.BatchCause.TheVariants as causes
@@ -179,6 +180,27 @@ Prints tells before now old new text (causes.SinkFault low high) =
     Rose before now low high × (tells → (n : ℕ) × (new ≡ old ++ take n text))
 Prints tells before now old new text causes.Memory = tells → new ≡ old
 Prints tells before now old new text _ = ⊥
+
+-- The tasks need no more than these amounts.
+abbrev pub AreFit : Amounts → List Submission → Type 0
+AreFit least tasks = AllByRecursion (λ t. IsWithin least t.needs) tasks
+
+-- Where it failed, then not since all were idle.
+abbrev pub IsNotIdle : {T : Type 0} → Result T BatchCause → Type 0
+IsNotIdle result = IfErr result (λ why. why ≡ causes.Idle → ⊥)
+
+-- All is done, memory is wanting, or what was asked for is refused: the status is 0, 8, 2 or 3.
+abbrev pub EndsWell : BatchCause → Type 0
+EndsWell causes.Done = Unit {0}
+EndsWell causes.Memory = Unit {0}
+EndsWell causes.Usage = Unit {0}
+EndsWell causes.FileMissing = Unit {0}
+EndsWell (causes.BadLine line) = Unit {0}
+EndsWell causes.TooMany = Unit {0}
+EndsWell (causes.SiteFault low high) = ⊥
+EndsWell (causes.HallFault low high) = ⊥
+EndsWell (causes.SinkFault low high) = ⊥
+EndsWell causes.Idle = ⊥
 
 -- ---- the call
 

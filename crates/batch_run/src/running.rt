@@ -1,12 +1,14 @@
 //! The run of a batch.
-ghost use Rattle.std.specs.Prelude.{◌≡◌, ◌≤◌, ◌<◌, ◌+◌, ℕ, [], List, IfErr, IfNone, IfOk, IfSome, OnErr, OnOk, false, length, replicate, string_bytes, true};
+ghost use Rattle.std.specs.Prelude.{◌≡◌, ◌≤◌, ◌<◌, ◌+◌, ℕ, [], List, IfErr, IfNone, IfOk, IfSome, Ok, OnErr, OnOk, false, is_ok, length, replicate, string_bytes, true};
 ghost use Rattle.task_book.specs.declared.task.Submission.{Submission as SubmissionValue};
 ghost use Rattle.task_book.specs.Kept.{nothing_kept, submitted_to};
 ghost use Rattle.task_book.specs.Stages.{EndsOn};
-ghost use Rattle.wq_submit.specs.Queues.{IsHallFault, IsTrusted};
+ghost use Rattle.flow_types.specs.declared.numbers.Amounts.{Amounts as AmountsValue};
+ghost use Rattle.wq_submit.specs.declared.cause.QueueCame.TheVariants as came;
+ghost use Rattle.wq_submit.specs.Queues.{IsHallFault, IsStaffed, IsTrusted, IsWithin};
 ghost use Rattle.batch_run.specs.declared.ends.End.{End as EndValue};
 ghost use Rattle.batch_run.specs.Batch.{printed};
-ghost use Rattle.batch_run.specs.Ends.{AreOf, AreShown, CountsIdle, EndSo, IsBrought, MayEndSo, Notes, RunFails, WasIdle, most_idles, noted};
+ghost use Rattle.batch_run.specs.Ends.{AreFit, AreOf, AreShown, CountsIdle, EndSo, IsBrought, IsNotIdle, MayEndSo, Notes, RunFails, WasIdle, most_idles, noted};
 
 use crate::cause::BatchCause;
 use crate::ends::{End, are_over, note, open_ends, text_of};
@@ -29,6 +31,9 @@ fn submit_one<F: Commands, H: Hall<F>>(
     ensures files { queue.new.files ≡ queue.old.files }
     ensures trusted { IsTrusted H.Way.tells F.gives F.may_fail H.Way.honest queue.old
         → IsTrusted H.Way.tells F.gives F.may_fail H.Way.honest queue.new }
+    ensures staffed { (least : AmountsValue) (hall : H) → IsWithin least task.needs
+        → IsStaffed H.Way.sure H.Way.offers H.manned H.staffed least hall queue.old
+        → IsStaffed H.Way.sure H.Way.offers H.manned H.staffed least hall queue.new }
     ensures cause { IfErr result (λ why. why ≡ BatchCause.Memory) }
 {
     match queue.submit(task) {
@@ -48,6 +53,9 @@ fn submit_all<F: Commands, H: Hall<F>>(
     ensures files { queue.new.files ≡ queue.old.files }
     ensures trusted { IsTrusted H.Way.tells F.gives F.may_fail H.Way.honest queue.old
         → IsTrusted H.Way.tells F.gives F.may_fail H.Way.honest queue.new }
+    ensures staffed { (least : AmountsValue) (hall : H) → AreFit least tasks.items
+        → IsStaffed H.Way.sure H.Way.offers H.manned H.staffed least hall queue.old
+        → IsStaffed H.Way.sure H.Way.offers H.manned H.staffed least hall queue.new }
     ensures cause { IfErr result (λ why. why ≡ BatchCause.Memory) }
 {
     for task in tasks {
@@ -63,6 +71,7 @@ fn submit_all<F: Commands, H: Hall<F>>(
 fn listen<F: Commands, H: Hall<F>>(hall: &mut H, port: u16) -> Result<(), BatchCause>
     ensures listens { OnOk result (H.listens hall.new) }
     ensures honest { H.honest hall.old → H.honest hall.new }
+    ensures manned { (least : AmountsValue) → H.manned hall.old least → H.manned hall.new least }
     ensures idles { H.idle_count hall.new ≡ H.idle_count hall.old }
     ensures rises { H.count hall.old ≤ H.count hall.new }
     ensures cause { IfErr result (RunFails ⊥ (H.count hall.old) (H.count hall.new)) }
@@ -101,6 +110,8 @@ fn heed(
     ensures few { IfNone result (idles.new < 1000000) }
     ensures cause { (before now : ℕ) → IsHallFault before now answer
         → IfSome result (λ end. IfErr end (RunFails (idles.new ≡ 1000000) before now)) }
+    ensures on { IfNone result (is_ok answer ≡ true) }
+    ensures late { (answer ≡ Ok came.Idle → ⊥) → IfSome result IsNotIdle }
 {
     match answer {
         Ok(QueueCame::Got(ready)) => {
@@ -153,6 +164,13 @@ fn step<F: Commands, W: Wait, H: Hall<F>>(
     ensures few { IfNone result (idles.new < 1000000) }
     ensures cause { IfSome result (λ end. IfErr end
         (RunFails (idles.new ≡ 1000000) (H.count hall.old) (H.count hall.new))) }
+    ensures staffed { (least : AmountsValue)
+        → IsStaffed H.Way.sure H.Way.offers H.manned H.staffed least hall.old queue.old
+        → IfNone result
+        (IsStaffed H.Way.sure H.Way.offers H.manned H.staffed least hall.new queue.new) }
+    ensures manned { (least : AmountsValue)
+        → IsStaffed H.Way.sure H.Way.offers H.manned H.staffed least hall.old queue.old
+        → IfSome result IsNotIdle }
 {
     let answer = queue.wait(rt, hall);
     heed(answer, ends, idles)
@@ -178,6 +196,9 @@ fn wait_all<F: Commands, W: Wait, H: Hall<F>>(
     ensures rises { H.count hall.old ≤ H.count hall.new }
     ensures cause { IfErr result (RunFails (WasIdle H.Way.idle_count (H.idle_count hall.old)
         (H.idle_count hall.new) most_idles) (H.count hall.old) (H.count hall.new)) }
+    ensures manned { (least : AmountsValue)
+        → IsStaffed H.Way.sure H.Way.offers H.manned H.staffed least hall.old queue.old
+        → IsNotIdle result }
 {
     let mut idles = 0;
     for _ in rt.forever() {
@@ -207,6 +228,9 @@ fn run_queue<F: Commands, W: Wait, H: Hall<F>>(
     ensures rises { H.count hall.old ≤ H.count hall.new }
     ensures cause { IfErr result (RunFails (WasIdle H.Way.idle_count (H.idle_count hall.old)
         (H.idle_count hall.new) most_idles) (H.count hall.old) (H.count hall.new)) }
+    ensures manned { (least : AmountsValue) → AreFit least tasks.items
+        → IsStaffed H.Way.sure H.Way.offers H.manned H.staffed least hall.old queue.old
+        → IsNotIdle result }
 {
     match submit_all(queue, tasks) {
         Ok(()) => wait_all(rt, queue, hall, ends),
@@ -229,6 +253,8 @@ fn done_of<F: Commands, W: Wait, H: Hall<F>>(
     ensures rises { H.count hall.old ≤ H.count hall.new }
     ensures cause { IfErr result (RunFails (WasIdle H.Way.idle_count (H.idle_count hall.old)
         (H.idle_count hall.new) most_idles) (H.count hall.old) (H.count hall.new)) }
+    ensures manned { (least : AmountsValue) → AreFit least tasks.items
+        → H.manned hall.old least → IsNotIdle result }
 {
     let mut queue = Queue::<F, H>::new(alloc);
     let done = run_queue(rt, &mut queue, hall, tasks, ends);
@@ -250,6 +276,8 @@ fn ends_of<F: Commands, W: Wait, H: Hall<F>>(
     ensures rises { H.count hall.old ≤ H.count hall.new }
     ensures cause { IfErr result (RunFails (WasIdle H.Way.idle_count (H.idle_count hall.old)
         (H.idle_count hall.new) most_idles) (H.count hall.old) (H.count hall.new)) }
+    ensures manned { (least : AmountsValue) → AreFit least tasks.items
+        → H.manned hall.old least → IsNotIdle result }
 {
     let Ok(mut ends) = open_ends(alloc, tasks.len()) else {
         return Err(BatchCause::Memory);
@@ -285,6 +313,8 @@ fn run_tasks<F: Commands, W: Wait, H: Hall<F>>(
     ensures rises { H.count hall.old ≤ H.count hall.new }
     ensures cause { IfErr result (RunFails (WasIdle H.Way.idle_count (H.idle_count hall.old)
         (H.idle_count hall.new) most_idles) (H.count hall.old) (H.count hall.new)) }
+    ensures manned { (least : AmountsValue) → AreFit least tasks.items
+        → H.manned hall.old least → IsNotIdle result }
 {
     let ends = match ends_of::<F, W, H>(rt, alloc, hall, tasks) {
         Ok(ends) => ends,
@@ -310,6 +340,8 @@ pub(crate) fn listen_and_run<F: Commands, W: Wait, H: Hall<F>>(
         H.Way.history) tasks.items ends × (string_bytes text ≡ printed ends)) }
     ensures cause { IfErr result (RunFails (WasIdle H.Way.idle_count (H.idle_count hall.old)
         (H.idle_count hall.new) most_idles) (H.count hall.old) (H.count hall.new)) }
+    ensures manned { (least : AmountsValue) → AreFit least tasks.items
+        → H.manned hall.old least → IsNotIdle result }
 {
     match listen::<F, H>(hall, port) {
         Ok(()) => run_tasks::<F, W, H>(rt, alloc, hall, tasks),

@@ -1,7 +1,7 @@
 //! The top call.
 ghost use Rattle.std.specs.Prelude.{◌≡◌, IfErr, IfOk, map, string_bytes};
-ghost use Rattle.batch_run.specs.Batch.{asked_by, printed, status_of};
-ghost use Rattle.batch_run.specs.Ends.{Ended, Ends, IsBrought, IsRefusal, Prints, Stops, WasIdle, most_idles};
+ghost use Rattle.batch_run.specs.Batch.{asked_by, one_core, printed, status_of};
+ghost use Rattle.batch_run.specs.Ends.{Ended, Ends, EndsWell, IsBrought, IsNotIdle, IsRefusal, Prints, Stops, WasIdle, most_idles};
 
 use crate::cause::BatchCause;
 use crate::lines::read_batch;
@@ -57,6 +57,7 @@ fn run_batch<F: Commands, W: Wait, S: Site, H: Hall<F>>(
           hall_now = H.count hall.new;
         })) }
     ensures unheard { IfErr result (λ cause. IsRefusal cause → hall.new ≡ hall.old) }
+    ensures manned { H.manned hall.old one_core → IsNotIdle result }
     ensures files { S.tells → S.files site.new ≡ S.files site.old }
 {
     let ask = match read_words(alloc, words) {
@@ -92,6 +93,9 @@ fn run<F: Commands, W: Wait, S: Site, H: Hall<F>, O: Sink>(
         })
         (O.count out.old) (O.count out.new) (O.bytes out.old) (O.bytes out.new) result }
     ensures unheard { IsRefusal result → hall.new ≡ hall.old }
+    ensures manned { H.manned hall.old one_core → S.count site.new ≡ S.count site.old
+        → H.count hall.new ≡ H.count hall.old → O.count out.new ≡ O.count out.old
+        → EndsWell result }
     ensures files { S.tells → S.files site.new ≡ S.files site.old }
 {
     match run_batch::<F, W, S, H>(rt, alloc, words, site, hall) {
@@ -125,6 +129,9 @@ pub fn submit_top<F: Commands, W: Wait, S: Site, H: Hall<F>, O: Sink>(
         })
         (O.count out.old) (O.count out.new) (O.bytes out.old) (O.bytes out.new) result.1 }
     ensures unheard { IsRefusal result.1 → hall.new ≡ hall.old }
+    ensures manned { H.manned hall.old one_core → S.count site.new ≡ S.count site.old
+        → H.count hall.new ≡ H.count hall.old → O.count out.new ≡ O.count out.old
+        → EndsWell result.1 }
     ensures files { S.tells → S.files site.new ≡ S.files site.old }
 {
     let cause = run::<F, W, S, H, O>(rt, alloc, words, site, hall, out);

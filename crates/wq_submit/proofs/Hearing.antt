@@ -9,30 +9,37 @@ use Rattle.flow_types.specs.declared.job.Task.{Task}
 use Rattle.flow_types.specs.declared.messages.Message.{Message}
 use Rattle.flow_types.specs.declared.messages.Message.TheVariants as messages
 use Rattle.flow_types.specs.declared.numbers.AttemptNo.{AttemptNo}
-use Rattle.flow_types.specs.declared.numbers.FileNo.{FileNo}
 use Rattle.flow_types.specs.Serial.{Function, given_by}
 use Rattle.links.specs.declared.passing.Passed.{Passed}
 use Rattle.links.specs.Honesty.{task_job}
 use Rattle.links.specs.Passings.{received_in, sent_in}
-use Rattle.message_forms.specs.Streams.{Carries, IsAmong}
+use Rattle.message_forms.specs.Streams.{Carries, IsAmong, IsStream}
 use Rattle.outside.specs.Jobs.{IsHonest}
 use Rattle.peers.specs.declared.leave.Leave.{Leave}
 use Rattle.peers.specs.declared.told.Told.{Told}
 use Rattle.peers.specs.declared.told.Told.TheVariants as tell
-use Rattle.peers.specs.Hears.{IsResult, ServesOn}
+use Rattle.link_session.specs.declared.word.Word.{Word}
+use Rattle.link_session.specs.Sessions.{State, told}
+use Rattle.peers.specs.Hears.{Hears, IsResult, IsTold, Means, ServesOn, Tells, Turns}
+use Rattle.peers.specs.Provides.{Provides}
 use Rattle.peers.specs.Serves.{AreDue, Serves, WasHonest, WhatIsSaidWentOut}
 use Rattle.peers.specs.States.{PeerState}
+use Rattle.peers.proofs.Providing.{provides_heard}
+use Rattle.resource_pack.specs.declared.occupied.Stated.{Stated}
 use Rattle.task_book.specs.declared.task.Held.{Held}
 use Rattle.task_book.specs.declared.task.Submission.{Submission}
 use Rattle.task_book.specs.Kept.{Kept}
 use Rattle.task_book.specs.Stages.{Ends, EndsOn, EndsWith, Runs}
+use Rattle.wq_frames.specs.Frames.{front, part}
+use Rattle.wq_frames.specs.Streams.{Stream}
 use Rattle.wq_submit.specs.declared.run.Again.{Again}
 use Rattle.wq_submit.specs.declared.run.Run.{Run}
-use Rattle.wq_submit.specs.Rounds.{EndsRight, GoesOnAs, ShowsOn, id_of, told_again, told_book}
-use Rattle.wq_submit.specs.Seats.{AreOwn, IsAtWork, SpokenTo, WasSaid, contents_of, task_of}
+use Rattle.wq_submit.specs.Rounds.{EndsRight, GoesOnAs, IsSilent, ShowsOn, StaysRested, id_of, told_again, told_book, told_runs, told_stated}
+use Rattle.wq_submit.specs.Seats.{AreOpen, AreOwn, AreWell, IsAtWork, IsRested, IsStated, SeatState, WasSaid, contents_of, task_of}
 use Rattle.wq_submit.specs.Shown.{IsRightOf, IsShownOn}
 use Rattle.wq_submit.proofs.Going.{ended_where, ended_where_ends, goes_same, waits_where, waits_where_ends}
-use Rattle.wq_submit.proofs.Speaking.{works_on}
+use Rattle.wq_submit.proofs.Speaking.{same_said, works_on}
+use Rattle.wq_submit.proofs.Telling.{now_open, now_owed, now_stated, now_well, same_message, told_after, well_before}
 
 abbrev ok_told : Told → Result Told Leave
 ok_told t = Ok t
@@ -49,45 +56,91 @@ module _ {L : Type 0} (gives : Function) (may_fail : Job → Failure → Type 0)
   abbrev pub Listens : PeerState L → PeerState L → Type 0
   Listens p p_now = (said heard : List Message) → ServesBy p said heard → ServesBy p_now said heard
 
-  abbrev pub AtWork : List (List ℕ) → List Held → ℕ → PeerState L → Option Again → Type 0
-  AtWork files held next p again = IsAtWork gives may_fail history files held next p again
+  -- What it tells, by session and stream.
+  abbrev pub HearsBy : PeerState L → PeerState L → Told → Type 0
+  HearsBy p p_now t = (p.feed.stop ≡ None → Hears p.feed p.session (ok_told t) p_now.feed p_now.session) × (p_now.way ≡ p.way)
 
-  heard_more : (files : List (List ℕ)) (held : List Held) (next : ℕ) (p p_now : PeerState L) (again : Option Again) (w : AtWork files held next p again) (heard : List Message)
-      → ServesBy p_now w.said heard → AtWork files held next p_now again
-  heard_more files held next p p_now again w heard serves = record {
+  abbrev pub AtWork : List (List ℕ) → List Held → ℕ → SeatState L → Type 0
+  AtWork files held next s = IsAtWork gives may_fail history files held next s
+
+  pub listen_works : (files : List (List ℕ)) (held : List Held) (next : ℕ) (s : SeatState L) (p_now : PeerState L) → p_now.session ≡ s.peer.session → Listens s.peer p_now → AtWork files held next s → AtWork files held next (record s { peer = p_now })
+  listen_works files held next s p_now same listens w = same_said gives may_fail history files held next s p_now None [] w same (listens w.said w.heard w.spoken.serves)
+
+  -- nothing whole is there, and nothing changes
+  still_works : (files : List (List ℕ)) (held : List Held) (next : ℕ) (s now : SeatState L) (w : AtWork files held next s) → now.peer.session ≡ s.peer.session → ServesBy now.peer w.said w.heard
+      → now.runs ≡ s.runs → now.stated ≡ s.stated → now.again ≡ s.again → (IsRested s.health → IsRested now.health) → AtWork files held next now
+  still_works files held next s now w same serves runs stated again rested = record {
     said = w.said;
-    heard = heard;
+    heard = w.heard;
     spoken = record { serves = serves; due = w.spoken.due; own = w.spoken.own; older = w.spoken.older };
-    owed = w.owed;
+    owed = λ a is. w.owed a (sym again ∙ is);
+    provides = subst (λ (z : State). let none : Option Task = None in Provides z.known w.said none []) (sym same) w.provides;
+    runs = subst (λ (rs : List Run). AreOpen rs now.peer.session.attempts) (sym runs) (subst (λ (z : State). AreOpen s.runs z.attempts) (sym same) w.runs);
+    stated = subst (λ (o : Option Stated). IsStated o now.peer.session.stage w.heard) (sym stated) (subst (λ (z : State). IsStated s.stated z.stage w.heard) (sym same) w.stated);
+    well = λ well. (again ∙ (w.well well).0, rested (w.well well).1);
   }
 
-  pub listen_works : (files : List (List ℕ)) (held : List Held) (next : ℕ) (p p_now : PeerState L) (again : Option Again) → Listens p p_now → AtWork files held next p again → AtWork files held next p_now again
-  listen_works files held next p p_now again listens w = heard_more files held next p p_now again w w.heard (listens w.said w.heard w.spoken.serves)
+  -- a message was heard, and this is how the seat is then
+  heard_works : (files : List (List ℕ)) (held : List Held) (next : ℕ) (s now : SeatState L) (w : AtWork files held next s) (m : Message) (word : Word) → (told s.peer.session m).answer ≡ Ok word → now.peer.session ≡ (told s.peer.session m).state
+      → ServesBy now.peer w.said (w.heard ++ m ∷ []) → ((a : Again) → now.again ≡ Some a → WasSaid a.attempt w.said) → AreOpen now.runs now.peer.session.attempts → IsStated now.stated now.peer.session.stage (w.heard ++ m ∷ [])
+      → (AreWell (w.heard ++ m ∷ []) → (now.again ≡ None) × IsRested now.health) → AtWork files held next now
+  heard_works files held next s now w m word answer after serves owed runs stated well = record {
+    said = w.said;
+    heard = w.heard ++ m ∷ [];
+    spoken = record { serves = serves; due = w.spoken.due; own = w.spoken.own; older = w.spoken.older };
+    owed = owed;
+    provides = subst (λ (z : State). let none : Option Task = None in Provides z.known w.said none []) (sym after) (provides_heard s.peer.session w.said m w.provides);
+    runs = runs;
+    stated = stated;
+    well = well;
+  }
 
-  pub hear_works : (files : List (List ℕ)) (held : List Held) (next : ℕ) (p p_now : PeerState L) (again : Option Again) (t : Told) → HearsAs p p_now t → AtWork files held next p again → AtWork files held next p_now again
-  hear_works files held next p p_now again t hears w = by t (hears w.said w.heard w.spoken.serves)
-    where
-      by : (t : Told) → ServesOn gives may_fail (history p_now.way) w.said w.heard (ok_told t) p_now.feed p_now.session → AtWork files held next p_now again
-      by tell.Nothing serves = heard_more files held next p p_now again w w.heard serves
-      by (tell.Joined total largest cache) tells = heard_more files held next p p_now again w (w.heard ++ tells.message ∷ []) tells.serves
-      by (tell.Changed total largest cache) tells = heard_more files held next p p_now again w (w.heard ++ tells.message ∷ []) tells.serves
-      by (tell.Finish attempt outs) tells = heard_more files held next p p_now again w (w.heard ++ tells.message ∷ []) tells.serves
-      by (tell.Fail attempt why) tells = heard_more files held next p p_now again w (w.heard ++ tells.message ∷ []) tells.serves
-      by (tell.Lose attempt) tells = heard_more files held next p p_now again w (w.heard ++ tells.message ∷ []) tells.serves
-      by (tell.PutAgain attempt files_lacked) tells = heard_more files held next p p_now again w (w.heard ++ tells.message ∷ []) tells.serves
-      by (tell.Stale attempt) tells = heard_more files held next p p_now again w (w.heard ++ tells.message ∷ []) tells.serves
+  -- ---- by what is told
 
-  -- inputs are lacking, and the task is to be asked for once more
-  pub lacks_works : (files : List (List ℕ)) (held : List Held) (next : ℕ) (p p_now : PeerState L) (again : Option Again) (attempt : AttemptNo) (lacked : List FileNo) (now : Again)
-      → now.attempt ≡ attempt → HearsAs p p_now (tell.PutAgain attempt lacked) → AtWork files held next p again → AtWork files held next p_now (Some now)
-  lacks_works files held next p p_now again attempt lacked now same hears w =
-      let tells = hears w.said w.heard w.spoken.serves in
-      record {
-        said = w.said;
-        heard = w.heard ++ tells.message ∷ [];
-        spoken = record { serves = tells.serves; due = w.spoken.due; own = w.spoken.own; older = w.spoken.older };
-        owed = λ a is. let one : now ≡ a = cc in (tells.is_so.0, tells.is_so.1 ∙ sym same ∙ ap (λ (x : Again). x.attempt) one, tells.is_so.2);
-      }
+  told_at : (files : List (List ℕ)) (held : List Held) (next : ℕ) (s now : SeatState L) (t : Told) (w : AtWork files held next s) (m : Message) → ServesBy now.peer w.said (w.heard ++ m ∷ [])
+      → IsTold gives may_fail (history now.peer.way) w.said (w.heard ++ m ∷ []) t → (let r : Result Told Leave = Ok t in Turns s.peer.session m r now.peer.session)
+      → now.runs ≡ told_runs t s.runs → now.stated ≡ told_stated t s.stated → now.again ≡ told_again t s.again → StaysRested t s.health now.health → AtWork files held next now
+  told_at files held next s now t w m serves is_so turns runs stated again rested =
+      let word = turns.0 in
+      let answer = turns.1 in
+      let is = told_after s.peer.session m word answer in
+      heard_works files held next s now w m word answer turns.2 serves
+      (now_owed gives may_fail (history now.peer.way) w.said (w.heard ++ m ∷ []) t s.again now.again again is_so w.owed)
+      (subst (λ (rs : List Run). AreOpen rs now.peer.session.attempts) (sym runs) (subst (λ (z : State). AreOpen (told_runs t s.runs) z.attempts) (sym turns.2)
+      (now_open s.runs s.peer.session (told s.peer.session m).state t word m turns.4 is w.runs)))
+      (subst (λ (o : Option Stated). IsStated o now.peer.session.stage (w.heard ++ m ∷ [])) (sym stated) (subst (λ (z : State). IsStated (told_stated t s.stated) z.stage (w.heard ++ m ∷ [])) (sym turns.2)
+      (now_stated gives may_fail (history now.peer.way) w.said w.heard s.stated s.peer.session (told s.peer.session m).state t word m turns.4 is is_so w.stated)))
+      (λ well. now_well gives may_fail (history now.peer.way) w.said w.heard s.again now.again s.health now.health t word m s.peer.session (told s.peer.session m).state turns.4 is is_so again rested well (w.well (well_before w.heard m well)))
+
+  tells_at : (files : List (List ℕ)) (held : List Held) (next : ℕ) (s now : SeatState L) (t : Told) (w : AtWork files held next s) → Tells gives may_fail (history now.peer.way) now.peer.feed now.peer.session w.said w.heard t
+      → Means s.peer.feed s.peer.session (ok_told t) now.peer.feed now.peer.session → now.peer.way ≡ s.peer.way
+      → now.runs ≡ told_runs t s.runs → now.stated ≡ told_stated t s.stated → now.again ≡ told_again t s.again → StaysRested t s.health now.health → AtWork files held next now
+  tells_at files held next s now t w tells h way runs stated again rested =
+      let one : tells.message ≡ h.0 =
+      same_message (received_in (history s.peer.way)) w.heard s.peer.feed now.peer.feed now.peer.feed.rest tells.message h.0 w.spoken.serves.came h.1
+      (subst (λ (x : L). IsStream (received_in (history x)) (w.heard ++ tells.message ∷ []) now.peer.feed.rest) way tells.serves.came) in
+      told_at files held next s now t w h.0 (subst (λ (x : Message). ServesBy now.peer w.said (w.heard ++ x ∷ [])) one tells.serves)
+      (subst (λ (x : Message). IsTold gives may_fail (history now.peer.way) w.said (w.heard ++ x ∷ []) t) one tells.is_so) h.2 runs stated again rested
+
+  -- the peer stays at work, whatever it tells
+  pub told_works_at : (files : List (List ℕ)) (held : List Held) (next : ℕ) (s now : SeatState L) (t : Told) → HearsAs s.peer now.peer t → HearsBy s.peer now.peer t
+      → now.runs ≡ told_runs t s.runs → now.stated ≡ told_stated t s.stated → now.again ≡ told_again t s.again → StaysRested t s.health now.health → AtWork files held next s → AtWork files held next now
+  told_works_at files held next s now tell.Nothing hears means runs stated again rested w =
+      still_works files held next s now w (means.0 w.spoken.serves.going).2 (hears w.said w.heard w.spoken.serves) runs stated again rested
+  told_works_at files held next s now (tell.Joined total largest cache) hears means runs stated again rested w =
+      tells_at files held next s now (tell.Joined total largest cache) w (hears w.said w.heard w.spoken.serves) (means.0 w.spoken.serves.going) means.1 runs stated again rested
+  told_works_at files held next s now (tell.Changed total largest cache) hears means runs stated again rested w =
+      tells_at files held next s now (tell.Changed total largest cache) w (hears w.said w.heard w.spoken.serves) (means.0 w.spoken.serves.going) means.1 runs stated again rested
+  told_works_at files held next s now (tell.Finish attempt outs) hears means runs stated again rested w =
+      tells_at files held next s now (tell.Finish attempt outs) w (hears w.said w.heard w.spoken.serves) (means.0 w.spoken.serves.going) means.1 runs stated again rested
+  told_works_at files held next s now (tell.Fail attempt why) hears means runs stated again rested w =
+      tells_at files held next s now (tell.Fail attempt why) w (hears w.said w.heard w.spoken.serves) (means.0 w.spoken.serves.going) means.1 runs stated again rested
+  told_works_at files held next s now (tell.Lose attempt) hears means runs stated again rested w =
+      tells_at files held next s now (tell.Lose attempt) w (hears w.said w.heard w.spoken.serves) (means.0 w.spoken.serves.going) means.1 runs stated again rested
+  told_works_at files held next s now (tell.PutAgain attempt lacked) hears means runs stated again rested w =
+      tells_at files held next s now (tell.PutAgain attempt lacked) w (hears w.said w.heard w.spoken.serves) (means.0 w.spoken.serves.going) means.1 runs stated again rested
+  told_works_at files held next s now (tell.Stale attempt) hears means runs stated again rested w =
+      tells_at files held next s now (tell.Stale attempt) w (hears w.said w.heard w.spoken.serves) (means.0 w.spoken.serves.going) means.1 runs stated again rested
 
   -- ---- what is shown
 
@@ -136,29 +189,29 @@ module _ {L : Type 0} (gives : Function) (may_fail : Job → Failure → Type 0)
   pub none_right : (files : List (List ℕ)) (held new : List Held) → EndsOn held new → EndsRight gives may_fail files held new
   none_right files held new on a o task end = inl (on a o task end)
 
-  pub finish_shown : (files : List (List ℕ)) (held new : List Held) (next : ℕ) (p p_now : PeerState L) (again : Option Again) (attempt : AttemptNo) (outs : List (List ℕ)) → WhatIsSaidWentOut gives may_fail
-      → HearsAs p p_now (tell.Finish attempt outs) → EndsWith held new attempt (outcomes.Success outs) → AtWork files held next p again → ShowsOn history held new p_now.way
-  finish_shown files held new next p p_now again attempt outs went hears ends w =
+  pub finish_shown : (files : List (List ℕ)) (held new : List Held) (next : ℕ) (s : SeatState L) (p_now : PeerState L) (attempt : AttemptNo) (outs : List (List ℕ)) → WhatIsSaidWentOut gives may_fail
+      → HearsAs s.peer p_now (tell.Finish attempt outs) → EndsWith held new attempt (outcomes.Success outs) → AtWork files held next s → ShowsOn history held new p_now.way
+  finish_shown files held new next s p_now attempt outs went hears ends w =
       let tells = hears w.said w.heard w.spoken.serves in
       result_shown held new attempt (outcomes.Success outs) p_now.way w.said (w.heard ++ tells.message ∷ []) w.spoken.own tells.is_so
       (λ m. went (history p_now.way) p_now.feed p_now.session w.said (w.heard ++ tells.message ∷ []) None m tells.serves) ends
 
-  pub fail_shown : (files : List (List ℕ)) (held new : List Held) (next : ℕ) (p p_now : PeerState L) (again : Option Again) (attempt : AttemptNo) (why : Failure) → WhatIsSaidWentOut gives may_fail
-      → HearsAs p p_now (tell.Fail attempt why) → EndsWith held new attempt (outcomes.Failed why) → AtWork files held next p again → ShowsOn history held new p_now.way
-  fail_shown files held new next p p_now again attempt why went hears ends w =
+  pub fail_shown : (files : List (List ℕ)) (held new : List Held) (next : ℕ) (s : SeatState L) (p_now : PeerState L) (attempt : AttemptNo) (why : Failure) → WhatIsSaidWentOut gives may_fail
+      → HearsAs s.peer p_now (tell.Fail attempt why) → EndsWith held new attempt (outcomes.Failed why) → AtWork files held next s → ShowsOn history held new p_now.way
+  fail_shown files held new next s p_now attempt why went hears ends w =
       let tells = hears w.said w.heard w.spoken.serves in
       result_shown held new attempt (outcomes.Failed why) p_now.way w.said (w.heard ++ tells.message ∷ []) w.spoken.own tells.is_so
       (λ m. went (history p_now.way) p_now.feed p_now.session w.said (w.heard ++ tells.message ∷ []) None m tells.serves) ends
 
-  pub finish_right : (files : List (List ℕ)) (held new : List Held) (next : ℕ) (p p_now : PeerState L) (again : Option Again) (attempt : AttemptNo) (outs : List (List ℕ)) → WasHonest gives may_fail (history p_now.way)
-      → HearsAs p p_now (tell.Finish attempt outs) → EndsWith held new attempt (outcomes.Success outs) → AtWork files held next p again → EndsRight gives may_fail files held new
-  finish_right files held new next p p_now again attempt outs was hears ends w =
+  pub finish_right : (files : List (List ℕ)) (held new : List Held) (next : ℕ) (s : SeatState L) (p_now : PeerState L) (attempt : AttemptNo) (outs : List (List ℕ)) → WasHonest gives may_fail (history p_now.way)
+      → HearsAs s.peer p_now (tell.Finish attempt outs) → EndsWith held new attempt (outcomes.Success outs) → AtWork files held next s → EndsRight gives may_fail files held new
+  finish_right files held new next s p_now attempt outs was hears ends w =
       let tells = hears w.said w.heard w.spoken.serves in
       result_right files held new attempt (outcomes.Success outs) (history p_now.way) w.said (w.heard ++ tells.message ∷ []) w.spoken.own w.spoken.due tells.is_so was ends
 
-  pub fail_right : (files : List (List ℕ)) (held new : List Held) (next : ℕ) (p p_now : PeerState L) (again : Option Again) (attempt : AttemptNo) (why : Failure) → WasHonest gives may_fail (history p_now.way)
-      → HearsAs p p_now (tell.Fail attempt why) → EndsWith held new attempt (outcomes.Failed why) → AtWork files held next p again → EndsRight gives may_fail files held new
-  fail_right files held new next p p_now again attempt why was hears ends w =
+  pub fail_right : (files : List (List ℕ)) (held new : List Held) (next : ℕ) (s : SeatState L) (p_now : PeerState L) (attempt : AttemptNo) (why : Failure) → WasHonest gives may_fail (history p_now.way)
+      → HearsAs s.peer p_now (tell.Fail attempt why) → EndsWith held new attempt (outcomes.Failed why) → AtWork files held next s → EndsRight gives may_fail files held new
+  fail_right files held new next s p_now attempt why was hears ends w =
       let tells = hears w.said w.heard w.spoken.serves in
       result_right files held new attempt (outcomes.Failed why) (history p_now.way) w.said (w.heard ++ tells.message ∷ []) w.spoken.own w.spoken.due tells.is_so was ends
 
@@ -175,49 +228,56 @@ module _ {L : Type 0} (gives : Function) (may_fail : Job → Failure → Type 0)
   told_goes k runs (tell.PutAgain attempt files) = goes_same k
   told_goes k runs (tell.Stale attempt) = goes_same k
 
-  -- the peer stays at work
-  pub told_works : (files : List (List ℕ)) (k : Kept) (runs : List Run) (next : ℕ) (p p_now : PeerState L) (again : Option Again) (t : Told) → HearsAs p p_now t
-      → AtWork files k.held next p again → AtWork files (told_book runs t k).held next p_now (told_again t again)
-  told_works files k runs next p p_now again tell.Nothing hears w = hear_works files k.held next p p_now again tell.Nothing hears w
-  told_works files k runs next p p_now again (tell.Joined total largest cache) hears w = hear_works files k.held next p p_now again (tell.Joined total largest cache) hears w
-  told_works files k runs next p p_now again (tell.Changed total largest cache) hears w = hear_works files k.held next p p_now again (tell.Changed total largest cache) hears w
-  told_works files k runs next p p_now again (tell.Finish attempt outs) hears w =
-      works_on gives may_fail history files k.held (told_book runs (tell.Finish attempt outs) k).held next p_now again (told_goes k runs (tell.Finish attempt outs)).runs (hear_works files k.held next p p_now again (tell.Finish attempt outs) hears w)
-  told_works files k runs next p p_now again (tell.Fail attempt why) hears w =
-      works_on gives may_fail history files k.held (told_book runs (tell.Fail attempt why) k).held next p_now again (told_goes k runs (tell.Fail attempt why)).runs (hear_works files k.held next p p_now again (tell.Fail attempt why) hears w)
-  told_works files k runs next p p_now again (tell.Lose attempt) hears w =
-      works_on gives may_fail history files k.held (told_book runs (tell.Lose attempt) k).held next p_now again (told_goes k runs (tell.Lose attempt)).runs (hear_works files k.held next p p_now again (tell.Lose attempt) hears w)
-  told_works files k runs next p p_now again (tell.PutAgain attempt lacked) hears w = lacks_works files k.held next p p_now again attempt lacked (record { attempt = attempt; files = lacked }) refl hears w
-  told_works files k runs next p p_now again (tell.Stale attempt) hears w = hear_works files k.held next p p_now again (tell.Stale attempt) hears w
+  -- the peer stays at work, and the book goes on
+  pub told_works : (files : List (List ℕ)) (k : Kept) (next : ℕ) (s now : SeatState L) (t : Told) → HearsAs s.peer now.peer t → HearsBy s.peer now.peer t
+      → now.runs ≡ told_runs t s.runs → now.stated ≡ told_stated t s.stated → now.again ≡ told_again t s.again → StaysRested t s.health now.health
+      → AtWork files k.held next s → AtWork files (told_book s.runs t k).held next now
+  told_works files k next s now t hears means runs stated again rested w =
+      works_on gives may_fail history files k.held (told_book s.runs t k).held next now (told_goes k s.runs t).runs (told_works_at files k.held next s now t hears means runs stated again rested w)
 
   -- what came to its end is shown
-  pub told_shows : (files : List (List ℕ)) (k : Kept) (runs : List Run) (next : ℕ) (p p_now : PeerState L) (again : Option Again) (t : Told) → WhatIsSaidWentOut gives may_fail → HearsAs p p_now t → AtWork files k.held next p again → ShowsOn history k.held (told_book runs t k).held p_now.way
-  told_shows files k runs next p p_now again tell.Nothing went hears w = none_shown k.held k.held p_now.way (λ a o task end. end)
-  told_shows files k runs next p p_now again (tell.Joined total largest cache) went hears w = none_shown k.held k.held p_now.way (λ a o task end. end)
-  told_shows files k runs next p p_now again (tell.Changed total largest cache) went hears w = none_shown k.held k.held p_now.way (λ a o task end. end)
-  told_shows files k runs next p p_now again (tell.Finish attempt outs) went hears w =
-      finish_shown files k.held (told_book runs (tell.Finish attempt outs) k).held next p p_now again attempt outs went hears (ended_where_ends k (id_of attempt runs) attempt (outcomes.Success outs)) w
-  told_shows files k runs next p p_now again (tell.Fail attempt why) went hears w =
-      fail_shown files k.held (told_book runs (tell.Fail attempt why) k).held next p p_now again attempt why went hears (ended_where_ends k (id_of attempt runs) attempt (outcomes.Failed why)) w
-  told_shows files k runs next p p_now again (tell.Lose attempt) went hears w = none_shown k.held (told_book runs (tell.Lose attempt) k).held p_now.way (waits_where_ends k (id_of attempt runs) attempt)
-  told_shows files k runs next p p_now again (tell.PutAgain attempt lacked) went hears w = none_shown k.held k.held p_now.way (λ a o task end. end)
-  told_shows files k runs next p p_now again (tell.Stale attempt) went hears w = none_shown k.held k.held p_now.way (λ a o task end. end)
+  pub told_shows : (files : List (List ℕ)) (k : Kept) (runs : List Run) (next : ℕ) (s : SeatState L) (p_now : PeerState L) (t : Told) → WhatIsSaidWentOut gives may_fail → HearsAs s.peer p_now t → AtWork files k.held next s → ShowsOn history k.held (told_book runs t k).held p_now.way
+  told_shows files k runs next s p_now tell.Nothing went hears w = none_shown k.held k.held p_now.way (λ a o task end. end)
+  told_shows files k runs next s p_now (tell.Joined total largest cache) went hears w = none_shown k.held k.held p_now.way (λ a o task end. end)
+  told_shows files k runs next s p_now (tell.Changed total largest cache) went hears w = none_shown k.held k.held p_now.way (λ a o task end. end)
+  told_shows files k runs next s p_now (tell.Finish attempt outs) went hears w =
+      finish_shown files k.held (told_book runs (tell.Finish attempt outs) k).held next s p_now attempt outs went hears (ended_where_ends k (id_of attempt runs) attempt (outcomes.Success outs)) w
+  told_shows files k runs next s p_now (tell.Fail attempt why) went hears w =
+      fail_shown files k.held (told_book runs (tell.Fail attempt why) k).held next s p_now attempt why went hears (ended_where_ends k (id_of attempt runs) attempt (outcomes.Failed why)) w
+  told_shows files k runs next s p_now (tell.Lose attempt) went hears w = none_shown k.held (told_book runs (tell.Lose attempt) k).held p_now.way (waits_where_ends k (id_of attempt runs) attempt)
+  told_shows files k runs next s p_now (tell.PutAgain attempt lacked) went hears w = none_shown k.held k.held p_now.way (λ a o task end. end)
+  told_shows files k runs next s p_now (tell.Stale attempt) went hears w = none_shown k.held k.held p_now.way (λ a o task end. end)
 
   -- what came to its end did so as its job does, where the link was honest
-  pub told_right : (files : List (List ℕ)) (k : Kept) (runs : List Run) (next : ℕ) (p p_now : PeerState L) (again : Option Again) (t : Told) → WasHonest gives may_fail (history p_now.way) → HearsAs p p_now t
-      → AtWork files k.held next p again → EndsRight gives may_fail files k.held (told_book runs t k).held
-  told_right files k runs next p p_now again tell.Nothing was hears w = none_right files k.held k.held (λ a o task end. end)
-  told_right files k runs next p p_now again (tell.Joined total largest cache) was hears w = none_right files k.held k.held (λ a o task end. end)
-  told_right files k runs next p p_now again (tell.Changed total largest cache) was hears w = none_right files k.held k.held (λ a o task end. end)
-  told_right files k runs next p p_now again (tell.Finish attempt outs) was hears w =
-      finish_right files k.held (told_book runs (tell.Finish attempt outs) k).held next p p_now again attempt outs was hears (ended_where_ends k (id_of attempt runs) attempt (outcomes.Success outs)) w
-  told_right files k runs next p p_now again (tell.Fail attempt why) was hears w =
-      fail_right files k.held (told_book runs (tell.Fail attempt why) k).held next p p_now again attempt why was hears (ended_where_ends k (id_of attempt runs) attempt (outcomes.Failed why)) w
-  told_right files k runs next p p_now again (tell.Lose attempt) was hears w = none_right files k.held (told_book runs (tell.Lose attempt) k).held (waits_where_ends k (id_of attempt runs) attempt)
-  told_right files k runs next p p_now again (tell.PutAgain attempt lacked) was hears w = none_right files k.held k.held (λ a o task end. end)
-  told_right files k runs next p p_now again (tell.Stale attempt) was hears w = none_right files k.held k.held (λ a o task end. end)
+  pub told_right : (files : List (List ℕ)) (k : Kept) (runs : List Run) (next : ℕ) (s : SeatState L) (p_now : PeerState L) (t : Told) → WasHonest gives may_fail (history p_now.way) → HearsAs s.peer p_now t
+      → AtWork files k.held next s → EndsRight gives may_fail files k.held (told_book runs t k).held
+  told_right files k runs next s p_now tell.Nothing was hears w = none_right files k.held k.held (λ a o task end. end)
+  told_right files k runs next s p_now (tell.Joined total largest cache) was hears w = none_right files k.held k.held (λ a o task end. end)
+  told_right files k runs next s p_now (tell.Changed total largest cache) was hears w = none_right files k.held k.held (λ a o task end. end)
+  told_right files k runs next s p_now (tell.Finish attempt outs) was hears w =
+      finish_right files k.held (told_book runs (tell.Finish attempt outs) k).held next s p_now attempt outs was hears (ended_where_ends k (id_of attempt runs) attempt (outcomes.Success outs)) w
+  told_right files k runs next s p_now (tell.Fail attempt why) was hears w =
+      fail_right files k.held (told_book runs (tell.Fail attempt why) k).held next s p_now attempt why was hears (ended_where_ends k (id_of attempt runs) attempt (outcomes.Failed why)) w
+  told_right files k runs next s p_now (tell.Lose attempt) was hears w = none_right files k.held (told_book runs (tell.Lose attempt) k).held (waits_where_ends k (id_of attempt runs) attempt)
+  told_right files k runs next s p_now (tell.PutAgain attempt lacked) was hears w = none_right files k.held k.held (λ a o task end. end)
+  told_right files k runs next s p_now (tell.Stale attempt) was hears w = none_right files k.held k.held (λ a o task end. end)
 
 -- what is so, is so where a call went well
 pub where_ok : {T E : Type 0} {P : Type 0} (r : Result T E) → P → OnOk r P
 where_ok (Ok x) p = p
 where_ok (Err e) p = tt
+
+-- peers of the same parts are one
+pub peer_is : {L : Type 0} (p q : PeerState L) → p.way ≡ q.way → p.feed ≡ q.feed → p.session ≡ q.session → p ≡ q
+peer_is {L} p q way feed session =
+    ap (λ (w : L). let x : PeerState L = record { way = w; feed = p.feed; session = p.session } in x) way
+    ∙ ap (λ (f : Stream). let x : PeerState L = record { way = q.way; feed = f; session = p.session } in x) feed
+    ∙ ap (λ (z : State). let x : PeerState L = record { way = q.way; feed = q.feed; session = z } in x) session
+
+-- from where nothing had been heard
+pub silent_from : {L : Type 0} (first book now : Kept) (old s new : SeatState L) → s ≡ old → book ≡ first → IsSilent book now s new → IsSilent first now old new
+silent_from {L} first book now old s new same kept is = record {
+  peer_is = is.peer_is ∙ same;
+  kept_is = is.kept_is ∙ kept;
+  part_of = subst (λ (x : SeatState L). front x.peer.feed.rest ≡ part) same is.part_of;
+}

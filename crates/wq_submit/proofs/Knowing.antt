@@ -1,15 +1,21 @@
 -- Tasks that take in files alone that are there.
 use Rattle.std.proofs.Common.{◌≡◌, ◌≤◌, ◌<◌, ◌⊎◌, ◌∙◌, inl, inr, cond, ltb, ℕ, zero, suc, Bool, true, false, List, [], ◌∷◌, ◌++◌, length, map, Option, Some, None, Result, Ok, Err, refl, sym, ap, subst, arith}
-use Rattle.std.specs.Prelude.{IfOk, OnErr, OnOk, if◌then◌else◌, nat_le, remove, slice_get, unwrap_or}
+use Rattle.std.specs.Prelude.{◌&&◌, IfOk, OnErr, OnOk, if◌then◌else◌, nat_le, remove, slice_get, unwrap_or}
 use Rattle.std.specs.List.{AllByRecursion}
 use Rattle.std.specs.Option.{option_map_or}
-use Rattle.std.proofs.lemmas.Bool.{lt-ltb, ltb-true}
+use Rattle.std.proofs.lemmas.Bool.{and_parts, leb-true, lt-ltb, ltb-true}
+use Rattle.std.proofs.lemmas.List.{length-map}
+use Rattle.std.proofs.lemmas.List.Sums.{sum_by-cons}
 use Rattle.flow_types.specs.declared.job.Failure.{Failure}
 use Rattle.flow_types.specs.declared.job.Given.{Given}
 use Rattle.flow_types.specs.declared.job.Job.{Job}
 use Rattle.flow_types.specs.declared.job.Outcome.{Outcome}
+use Rattle.flow_types.specs.declared.numbers.Amounts.{Amounts}
 use Rattle.flow_types.specs.declared.numbers.AttemptNo.{AttemptNo}
+use Rattle.flow_types.specs.Plans.{most_bytes, most_input_bytes}
+use Rattle.flow_types.specs.declared.messages.Key.{Key}
 use Rattle.flow_types.specs.declared.numbers.FileNo.{FileNo}
+use Rattle.link_session.specs.Keys.{contains_key, key_of, lacking}
 use Rattle.flow_types.specs.declared.plan.Port.{Port}
 use Rattle.flow_types.specs.Serial.{Function, given_by}
 use Rattle.outside.specs.Jobs.{IsHonest}
@@ -20,24 +26,54 @@ use Rattle.task_book.specs.declared.task.Submission.{Submission}
 use Rattle.task_book.specs.declared.task.TaskId.{TaskId}
 use Rattle.task_book.specs.Kept.{Kept, cancelled_at, next_id, submitted_to, waiting_as}
 use Rattle.task_book.specs.Stages.{Ends, EndsOn}
-use Rattle.task_book.specs.Submissions.{is_good, most_held, submit_refusal, unknown_file}
-use Rattle.wq_submit.specs.Queues.{AreKnown, IsSameWork, work_of}
+use Rattle.task_book.specs.Submissions.{has_names_apart, input_bytes, is_good, is_short, is_small, most_held, output_bytes, submit_refusal, unknown_file}
+use Rattle.wq_submit.specs.Queues.{AreKnown, IsKnown, IsSameWork, IsWithin, work_of}
 use Rattle.wq_submit.specs.Shown.{AreRight, job_of}
 
--- ---- the calls of a queue
+-- The task of a held one takes in files alone that are there.
+abbrev pub Known : List (List ℕ) → TaskId × Submission → Type 0
+Known files w = IsKnown files w.1
 
-pub known_on : (n : ℕ) (k m : Kept) → IsSameWork k m → AreKnown n (map work_of k.held) → AreKnown n (map work_of m.held)
-known_on n k m work all = subst (λ (ws : List (TaskId × Submission)). AreKnown n ws) (sym work.held) all
+-- It states no more than these amounts.
+abbrev pub Within : Amounts → TaskId × Submission → Type 0
+Within least w = IsWithin least w.1.needs
 
-pub known_left : (n : ℕ) (held : List Held) (at : ℕ) → AreKnown n (map work_of held) → AreKnown n (map work_of (remove held at))
-known_left n [] zero all = tt
-known_left n [] (suc at) all = tt
-known_left n (h ∷ held) zero all = all.1
-known_left n (h ∷ held) (suc at) all = (all.0, known_left n held at all.1)
+-- ---- the calls of a queue, over what is so of each task
 
-pub known_cancelled : (n : ℕ) (k m : Kept) (id : TaskId) (p : Option ℕ) → m ≡ cancelled_at k id p → AreKnown n (map work_of k.held) → AreKnown n (map work_of m.held)
-known_cancelled n k m id None is all = subst (λ (x : Kept). AreKnown n (map work_of x.held)) (sym is) all
-known_cancelled n k m id (Some at) is all = subst (λ (x : Kept). AreKnown n (map work_of x.held)) (sym is) (known_left n k.held at all)
+module _ (P : TaskId × Submission → Type 0) where
+  pub known_on : (k m : Kept) → IsSameWork k m → AllByRecursion P (map work_of k.held) → AllByRecursion P (map work_of m.held)
+  known_on k m work all = subst (λ (ws : List (TaskId × Submission)). AllByRecursion P ws) (sym work.held) all
+
+  pub known_left : (held : List Held) (at : ℕ) → AllByRecursion P (map work_of held) → AllByRecursion P (map work_of (remove held at))
+  known_left [] zero all = tt
+  known_left [] (suc at) all = tt
+  known_left (h ∷ held) zero all = all.1
+  known_left (h ∷ held) (suc at) all = (all.0, known_left held at all.1)
+
+  pub known_cancelled : (k m : Kept) (id : TaskId) (p : Option ℕ) → m ≡ cancelled_at k id p → AllByRecursion P (map work_of k.held) → AllByRecursion P (map work_of m.held)
+  known_cancelled k m id None is all = subst (λ (x : Kept). AllByRecursion P (map work_of x.held)) (sym is) all
+  known_cancelled k m id (Some at) is all = subst (λ (x : Kept). AllByRecursion P (map work_of x.held)) (sym is) (known_left k.held at all)
+
+  pub known_last : (held : List Held) (id : TaskId) (task : Submission) → P (id, task) → AllByRecursion P (map work_of held) → AllByRecursion P (map work_of (held ++ waiting_as id task ∷ []))
+  known_last [] id task is all = (is, tt)
+  known_last (h ∷ held) id task is all = (all.0, known_last held id task is all.1)
+
+  pub known_at : (held : List Held) (at : ℕ) (h : Held) → slice_get held at ≡ Some h → AllByRecursion P (map work_of held) → P (work_of h)
+  known_at [] at h is all = absurd cc
+  known_at (x ∷ held) zero h is all = let same : x ≡ h = cc in subst (λ (y : Held). P (work_of y)) same all.0
+  known_at (x ∷ held) (suc at) h is all = known_at held at h is all.1
+
+  -- a task comes, where this is so of it
+  pub known_with : (k n : Kept) (task : Submission) (r : Result TaskId SubmitRefused) → IfOk r (λ id. (id ≡ next_id k) × (n ≡ submitted_to k task)) → OnErr r (n ≡ k) → OnOk r (P (next_id k, task))
+      → AllByRecursion P (map work_of k.held) → AllByRecursion P (map work_of n.held)
+  known_with k n task (Ok id) ok err is all = subst (λ (x : Kept). AllByRecursion P (map work_of x.held)) (sym ok.1) (known_last k.held (next_id k) task is all)
+  known_with k n task (Err why) ok err is all = subst (λ (x : Kept). AllByRecursion P (map work_of x.held)) (sym err) all
+
+-- as many are held where the same work goes on
+pub held_long : (k m : Kept) → IsSameWork k m → length m.held ≡ length k.held
+held_long k m work = sym (length-map m.held work_of) ∙ ap (λ (ws : List (TaskId × Submission)). length ws) work.held ∙ length-map k.held work_of
+
+-- ---- more files
 
 known_more_ports : (n m : ℕ) (ports : List Port) → n ≤ m → unknown_file n ports ≡ None → unknown_file m ports ≡ None
 known_more_ports n m [] less is = refl
@@ -50,46 +86,80 @@ known_more_ports n m (port ∷ ports) less is = by (ltb port.file.0 n) refl (kno
         ap (λ (b : Bool). cond b (unknown_file m ports) (Some port.file)) below ∙ rest was
     by false high rest = absurd (let none : Some port.file ≡ None = sym (ap (λ (b : Bool). cond b (unknown_file n ports) (Some port.file)) high) ∙ is in let wrong : ⊥ = cc in wrong)
 
-pub known_more : (n m : ℕ) (works : List (TaskId × Submission)) → n ≤ m → AreKnown n works → AreKnown m works
-known_more n m [] less all = tt
-known_more n m (w ∷ works) less all = (known_more_ports n m w.1.inputs less all.0, known_more n m works less all.1)
-
 longer : (files : List (List ℕ)) (content : List ℕ) → length files ≤ length (files ++ content ∷ [])
 longer [] content = omega arith
 longer (x ∷ files) content = let more = longer files content in omega (arith, more)
-
--- a file comes
-pub known_added : {E : Type 0} (files now : List (List ℕ)) (content : List ℕ) (r : Result FileNo E) (works : List (TaskId × Submission)) → IfOk r (λ file. (file.0 ≡ length files) × (now ≡ files ++ content ∷ [])) → OnErr r (now ≡ files)
-    → AreKnown (length files) works → AreKnown (length now) works
-known_added files now content (Ok file) works ok err all =
-    subst (λ (fs : List (List ℕ)). AreKnown (length fs) works) (sym ok.1) (known_more (length files) (length (files ++ content ∷ [])) works (longer files content) all)
-known_added files now content (Err why) works ok err all = subst (λ (fs : List (List ℕ)). AreKnown (length fs) works) (sym err) all
-
--- a task comes
-known_last : (n : ℕ) (held : List Held) (id : TaskId) (task : Submission) → unknown_file n task.inputs ≡ None → AreKnown n (map work_of held) → AreKnown n (map work_of (held ++ waiting_as id task ∷ []))
-known_last n [] id task is all = (is, tt)
-known_last n (h ∷ held) id task is all = (all.0, known_last n held id task is all.1)
-
-refused_not : (b : Bool) (p : Option FileNo) (rest : Option SubmitRefused) → (if b then Some refusals.TooMany else option_map_or (λ number. Some (refusals.UnknownFile number)) p rest) ≡ None → p ≡ None
-refused_not true p rest is = absurd (let wrong : ⊥ = cc in wrong)
-refused_not false None rest is = refl
-refused_not false (Some file) rest is = absurd (let wrong : ⊥ = cc in wrong)
-
-taken_known : (files : List (List ℕ)) (held : ℕ) (task : Submission) → submit_refusal files held task ≡ None → unknown_file (length files) task.inputs ≡ None
-taken_known files held task is = refused_not (nat_le most_held held) (unknown_file (length files) task.inputs) (if is_good files task then None else Some refusals.BadSubmission) is
-
-pub known_submitted : (files : List (List ℕ)) (k n : Kept) (task : Submission) (r : Result TaskId SubmitRefused) → IfOk r (λ id. (id ≡ next_id k) × (n ≡ submitted_to k task)) → OnErr r (n ≡ k)
-    → OnOk r (submit_refusal files (length k.held) task ≡ None) → AreKnown (length files) (map work_of k.held) → AreKnown (length files) (map work_of n.held)
-known_submitted files k n task (Ok id) ok err taken all =
-    subst (λ (x : Kept). AreKnown (length files) (map work_of x.held)) (sym ok.1) (known_last (length files) k.held (next_id k) task (taken_known files (length k.held) task taken) all)
-known_submitted files k n task (Err why) ok err taken all = subst (λ (x : Kept). AreKnown (length files) (map work_of x.held)) (sym err) all
-
--- ---- what came to its end did so as its job does, over more files
 
 get_more : (files more : List (List ℕ)) (f : ℕ) → f < length files → slice_get (files ++ more) f ≡ slice_get files f
 get_more [] more f less = absurd (let wrong : ⊥ = omega (arith, less) in wrong)
 get_more (x ∷ files) more zero less = refl
 get_more (x ∷ files) more (suc f) less = get_more files more f (omega (arith, less))
+
+-- the first of these inputs is there, and so are the others
+pub first_there : (n : ℕ) (port : Port) (ports : List Port) → unknown_file n (port ∷ ports) ≡ None → (port.file.0 < n) × (unknown_file n ports ≡ None)
+first_there n port ports is = by (ltb port.file.0 n) refl
+  where
+    by : (b : Bool) → ltb port.file.0 n ≡ b → (port.file.0 < n) × (unknown_file n ports ≡ None)
+    by true low = (ltb-true port.file.0 n low, sym (ap (λ (b : Bool). cond b (unknown_file n ports) (Some port.file)) low) ∙ is)
+    by false high = absurd (let none : Some port.file ≡ None = sym (ap (λ (b : Bool). cond b (unknown_file n ports) (Some port.file)) high) ∙ is in let wrong : ⊥ = cc in wrong)
+
+abbrev bytes_in : List (List ℕ) → Port → ℕ
+bytes_in files port = length (unwrap_or (slice_get files port.file.0) [])
+
+bytes_same : (files more : List (List ℕ)) (ports : List Port) → unknown_file (length files) ports ≡ None → input_bytes (files ++ more) ports ≡ input_bytes files ports
+bytes_same files more [] is = refl
+bytes_same files more (port ∷ ports) is =
+    let parts = first_there (length files) port ports is in
+    let one : bytes_in (files ++ more) port ≡ bytes_in files port = ap (λ (p : Option (List ℕ)). length (unwrap_or p [])) (get_more files more port.file.0 parts.0) in
+    let rest = bytes_same files more ports parts.1 in
+    let now = sum_by-cons (bytes_in (files ++ more)) port ports in
+    let was = sum_by-cons (bytes_in files) port ports in
+    omega (arith, one, rest, now, was)
+
+known_one : (files : List (List ℕ)) (content : List ℕ) (task : Submission) → IsKnown files task → IsKnown (files ++ content ∷ []) task
+known_one files content task is = record {
+  there = known_more_ports (length files) (length (files ++ content ∷ [])) task.inputs (longer files content) is.there;
+  small = let same = bytes_same files (content ∷ []) task.inputs is.there in let was = is.small in omega (arith, same, was);
+}
+
+known_all : (files : List (List ℕ)) (content : List ℕ) (works : List (TaskId × Submission)) → AreKnown files works → AreKnown (files ++ content ∷ []) works
+known_all files content [] all = tt
+known_all files content (w ∷ works) all = (known_one files content w.1 all.0, known_all files content works all.1)
+
+-- a file comes
+pub known_added : {E : Type 0} (files now : List (List ℕ)) (content : List ℕ) (r : Result FileNo E) (works : List (TaskId × Submission)) → IfOk r (λ file. (file.0 ≡ length files) × (now ≡ files ++ content ∷ [])) → OnErr r (now ≡ files)
+    → AreKnown files works → AreKnown now works
+known_added files now content (Ok file) works ok err all = subst (λ (fs : List (List ℕ)). AreKnown fs works) (sym ok.1) (known_all files content works all)
+known_added files now content (Err why) works ok err all = subst (λ (fs : List (List ℕ)). AreKnown fs works) (sym err) all
+
+-- ---- a task comes
+
+refused_not : (b : Bool) (p : Option FileNo) (rest : Option SubmitRefused) → (if b then Some refusals.TooMany else option_map_or (λ number. Some (refusals.UnknownFile number)) p rest) ≡ None → (p ≡ None) × (rest ≡ None)
+refused_not true p rest is = absurd (let wrong : ⊥ = cc in wrong)
+refused_not false None rest is = (refl, is)
+refused_not false (Some file) rest is = absurd (let wrong : ⊥ = cc in wrong)
+
+good_by : (b : Bool) → (if b then None else Some refusals.BadSubmission) ≡ None → b ≡ true
+good_by true is = refl
+good_by false is = absurd (let wrong : ⊥ = cc in wrong)
+
+pub taken_known : (files : List (List ℕ)) (held : ℕ) (task : Submission) → submit_refusal files held task ≡ None → IsKnown files task
+taken_known files held task is =
+    let parts = refused_not (nat_le most_held held) (unknown_file (length files) task.inputs) (if is_good files task then None else Some refusals.BadSubmission) is in
+    let good = good_by (is_good files task) parts.1 in
+    let small = (and_parts (is_short task) (is_small files task) (and_parts (is_short task && is_small files task) (has_names_apart task) good).0).1 in
+    let few = (and_parts (nat_le (output_bytes task.outputs) most_bytes) (nat_le (input_bytes files task.inputs) most_input_bytes) small).1 in
+    record { there = parts.0; small = leb-true (input_bytes files task.inputs) most_input_bytes few }
+
+taken_by : (files : List (List ℕ)) (held : ℕ) (task : Submission) (r : Result TaskId SubmitRefused) → OnOk r (submit_refusal files held task ≡ None) → OnOk r (IsKnown files task)
+taken_by files held task (Ok id) taken = taken_known files held task taken
+taken_by files held task (Err why) taken = tt
+
+pub known_submitted : (files : List (List ℕ)) (k n : Kept) (task : Submission) (r : Result TaskId SubmitRefused) → IfOk r (λ id. (id ≡ next_id k) × (n ≡ submitted_to k task)) → OnErr r (n ≡ k)
+    → OnOk r (submit_refusal files (length k.held) task ≡ None) → AreKnown files (map work_of k.held) → AreKnown files (map work_of n.held)
+known_submitted files k n task r ok err taken all = known_with (Known files) k n task r ok err (taken_by files (length k.held) task r taken) all
+
+-- ---- what came to its end did so as its job does, over more files
 
 -- what is given to a job of a file
 abbrev given_in : List (List ℕ) → Port → Given
@@ -110,22 +180,36 @@ inputs_same files more (port ∷ ports) is = by (ltb port.file.0 (length files))
 job_same : (files more : List (List ℕ)) (task : Submission) → unknown_file (length files) task.inputs ≡ None → job_of (files ++ more) task ≡ job_of files task
 job_same files more task is = ap (λ (gs : List Given). let job : Job = record { command = task.command; env = task.env; inputs = gs; outputs = task.outputs } in job) (inputs_same files more task.inputs is)
 
-ends_known : (n : ℕ) (held : List Held) (a : AttemptNo) (o : Outcome) (task : Submission) → AreKnown n (map work_of held) → Ends held a o task → unknown_file n task.inputs ≡ None
-ends_known n [] a o task all end = absurd end
-ends_known n (h ∷ held) a o task all (inl this) = ap (λ (t : Submission). unknown_file n t.inputs) (sym this.1) ∙ all.0
-ends_known n (h ∷ held) a o task all (inr rest) = ends_known n held a o task all.1 rest
+ends_known : (files : List (List ℕ)) (held : List Held) (a : AttemptNo) (o : Outcome) (task : Submission) → AreKnown files (map work_of held) → Ends held a o task → unknown_file (length files) task.inputs ≡ None
+ends_known files [] a o task all end = absurd end
+ends_known files (h ∷ held) a o task all (inl this) = ap (λ (t : Submission). unknown_file (length files) t.inputs) (sym this.1) ∙ all.0.there
+ends_known files (h ∷ held) a o task all (inr rest) = ends_known files held a o task all.1 rest
 
 module _ (gives : Function) (may_fail : Job → Failure → Type 0) where
-  right_more : (files : List (List ℕ)) (content : List ℕ) (held : List Held) → AreKnown (length files) (map work_of held) → AreRight gives may_fail files held → AreRight gives may_fail (files ++ content ∷ []) held
+  right_more : (files : List (List ℕ)) (content : List ℕ) (held : List Held) → AreKnown files (map work_of held) → AreRight gives may_fail files held → AreRight gives may_fail (files ++ content ∷ []) held
   right_more files content held known all a o task end =
-      subst (λ (j : Job). IsHonest (given_by gives j) (may_fail j) o) (sym (job_same files (content ∷ []) task (ends_known (length files) held a o task known end))) (all a o task end)
+      subst (λ (j : Job). IsHonest (given_by gives j) (may_fail j) o) (sym (job_same files (content ∷ []) task (ends_known files held a o task known end))) (all a o task end)
 
   -- a file comes
   pub right_added : {E : Type 0} (files now : List (List ℕ)) (content : List ℕ) (r : Result FileNo E) (held : List Held) → IfOk r (λ file. (file.0 ≡ length files) × (now ≡ files ++ content ∷ [])) → OnErr r (now ≡ files)
-      → AreKnown (length files) (map work_of held) → AreRight gives may_fail files held → AreRight gives may_fail now held
+      → AreKnown files (map work_of held) → AreRight gives may_fail files held → AreRight gives may_fail now held
   right_added files now content (Ok file) held ok err known all = subst (λ (fs : List (List ℕ)). AreRight gives may_fail fs held) (sym ok.1) (right_more files content held known all)
   right_added files now content (Err why) held ok err known all = subst (λ (fs : List (List ℕ)). AreRight gives may_fail fs held) (sym err) all
 
   -- no further task came to its end
   pub right_on : (files : List (List ℕ)) (old new : List Held) → EndsOn old new → AreRight gives may_fail files old → AreRight gives may_fail files new
   right_on files old new on all a o task end = all a o task (on a o task end)
+
+-- ---- files that are lacking are among the inputs
+
+lacking_by : (n : ℕ) (known : List Key) (run : ℕ) (port : Port) (ports : List Port) (b : Bool) → port.file.0 < n → AllByRecursion (λ (file : FileNo). file.0 < n) (lacking known run ports)
+    → AllByRecursion (λ (file : FileNo). file.0 < n) (lacking (known ++ key_of run port.file ∷ []) run ports)
+    → AllByRecursion (λ (file : FileNo). file.0 < n) (cond b (lacking known run ports) (port.file ∷ lacking (known ++ key_of run port.file ∷ []) run ports))
+lacking_by n known run port ports true less rest more = rest
+lacking_by n known run port ports false less rest more = (less, more)
+
+pub lacking_there : (n : ℕ) (known : List Key) (run : ℕ) (ports : List Port) → unknown_file n ports ≡ None → AllByRecursion (λ (file : FileNo). file.0 < n) (lacking known run ports)
+lacking_there n known run [] is = tt
+lacking_there n known run (port ∷ ports) is =
+    let parts = first_there n port ports is in
+    lacking_by n known run port ports (contains_key (key_of run port.file) known) parts.0 (lacking_there n known run ports parts.1) (lacking_there n (known ++ key_of run port.file ∷ []) run ports parts.1)

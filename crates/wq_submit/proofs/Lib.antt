@@ -10,3 +10,10 @@ pub mod Sizes
 pub mod Waiting
 pub mod Parting
 pub mod Knowing
+pub mod Counting
+pub mod Telling
+pub mod Settling
+pub mod Placing
+pub mod Beginning
+pub mod Staffing
+pub mod Once

@@ -3,7 +3,8 @@ use Rattle.std.proofs.Common.{◌≡◌, ◌≤◌, ◌<◌, ◌+◌, ◌∙◌,
 use Rattle.std.specs.Prelude.{remove}
 use Rattle.std.specs.List.{AllByRecursion}
 use Rattle.task_book.proofs.Sizes.{next_item}
-use Rattle.wq_submit.specs.Rounds.{SeatState, live_of, ways_of}
+use Rattle.wq_submit.specs.Rounds.{live_of, ways_of}
+use Rattle.wq_submit.specs.Seats.{SeatState}
 
 pub ways_left : {L : Type 0} (P : L → Type 0) (seats : List (SeatState L)) (at : ℕ) → AllByRecursion P (ways_of seats) → AllByRecursion P (ways_of (remove seats at))
 ways_left P [] zero all = tt

@@ -9,7 +9,8 @@ use Rattle.links.specs.declared.passing.Passed.{Passed}
 use Rattle.task_book.specs.declared.task.Held.{Held}
 use Rattle.task_book.specs.Stages.{RunsOn}
 use Rattle.task_book.proofs.Positions.{all_at, all_set, as_long}
-use Rattle.wq_submit.specs.Rounds.{AreServed, EndsRight, IsQuiet, IsServed, ReadsAt, SeatState, ways_of}
+use Rattle.wq_submit.specs.Rounds.{AreServed, EndsRight, IsQuiet, IsServed, ReadsAt, ways_of}
+use Rattle.wq_submit.specs.Seats.{SeatState}
 use Rattle.wq_submit.specs.Shown.{ShowsEnds}
 use Rattle.wq_submit.proofs.Serving.{served_on}
 use Rattle.wq_submit.proofs.Showing.{shows_next}

@@ -3,9 +3,14 @@ use Rattle.std.specs.Prelude.{◌≡◌, ◌≤◌, ◌<◌, ◌↔◌, ◌⊎�
 use Rattle.std.specs.List.{AllByRecursion}
 use Rattle.flow_types.specs.declared.job.Failure.{Failure}
 use Rattle.flow_types.specs.declared.job.Job.{Job}
+use Rattle.flow_types.specs.declared.numbers.Amounts.{Amounts}
 use Rattle.flow_types.specs.declared.numbers.AttemptNo.{AttemptNo}
+use Rattle.flow_types.specs.declared.numbers.Needs.{Needs}
+use Rattle.flow_types.specs.declared.numbers.Needs.TheVariants.{Whole, Stated}
+use Rattle.flow_types.specs.Plans.{most_input_bytes}
 use Rattle.flow_types.specs.Serial.{Function}
 use Rattle.links.specs.declared.passing.Passed.{Passed}
+use Rattle.links.specs.Honesty.{IsAtLeast}
 use Rattle.task_book.specs.declared.task.Held.{Held}
 use Rattle.task_book.specs.declared.task.Ready.{Ready}
 use Rattle.task_book.specs.declared.task.Submission.{Submission}
@@ -16,7 +21,7 @@ use Rattle.wq_submit.specs.declared.cause.QueueCame.{QueueCame}
 use Rattle.wq_submit.specs.declared.cause.QueueCame.TheVariants as came
 use Rattle.wq_submit.specs.declared.cause.WaitFault.{WaitFault}
 use Rattle.wq_submit.specs.declared.cause.WaitFault.TheVariants as faults
-use Rattle.task_book.specs.Submissions.{unknown_file}
+use Rattle.task_book.specs.Submissions.{input_bytes, unknown_file}
 use Rattle.wq_submit.specs.Shown.{AreRight, IsRightOf, ShowsEnds}
 
 -- the most links that live at once
@@ -125,11 +130,67 @@ abbrev pub IsIdleThen : {L : Type 0} → (L → ℕ) → ℕ → ℕ → List L
 IsIdleThen idles before now live (Ok came.Idle) = AreIdle idles before now live
 IsIdleThen idles before now live _ = Unit {0}
 
--- The tasks take in files alone that are there.
-abbrev pub AreKnown : ℕ → List (TaskId × Submission) → Type 0
-AreKnown count works = AllByRecursion (λ w. unknown_file count w.1.inputs ≡ None) works
+-- The task takes in files alone that are there, and of them no more bytes than a task may.
+pub record IsKnown (files : List (List ℕ)) (task : Submission) : Type 0 where
+  pub there : unknown_file (length files) task.inputs ≡ None
+  pub small : input_bytes files task.inputs ≤ most_input_bytes
+
+-- The tasks do.
+abbrev pub AreKnown : List (List ℕ) → List (TaskId × Submission) → Type 0
+AreKnown files works = AllByRecursion (λ w. IsKnown files w.1) works
 
 -- All attempts that run are before this one.
 abbrev pub RunBefore : ℕ → List Held → Type 0
 RunBefore next held = (attempt : AttemptNo) (task : Submission) → Runs held attempt task
     → attempt.0 < next
+
+-- ---- a hall that is manned
+
+-- The needs state no more than these amounts.
+abbrev pub IsWithin : Amounts → Needs → Type 0
+IsWithin least Whole = Unit {0}
+IsWithin least (Stated amounts) = IsAtLeast amounts least
+
+-- These tasks state no more.
+abbrev pub AreWithin : Amounts → List (TaskId × Submission) → Type 0
+AreWithin least works = AllByRecursion (λ w. IsWithin least w.1.needs) works
+
+-- The link is sure, and its peer offers at least these amounts.
+pub record IsSureOf {L : Type 0} (sure : L → Type 0) (offers : L → Amounts → Type 0)
+    (least : Amounts) (way : L) : Type 0 where
+  pub surely : sure way
+  pub offering : offers way least
+
+-- Each of these links is.
+abbrev pub AreSureOf : {L : Type 0} → (L → Type 0) → (L → Amounts → Type 0) → Amounts → List L
+    → Type 0
+AreSureOf sure offers least ways = AllByRecursion (IsSureOf sure offers least) ways
+
+-- The hall gives a link first; or one lives, and each link that the hall still gives is sure and
+-- offers at least these amounts.
+abbrev pub IsMet : {L X : Type 0} → (X → Amounts → Type 0) → (X → Amounts → Type 0) → Amounts → X
+    → List L → Type 0
+IsMet manned staffed least hall live =
+    manned hall least ⊎ (staffed hall least × (0 < length live))
+
+-- It is so, each link that lives is sure and offers that much, and no task that is held states more.
+pub record IsStaffed {L X : Type 0} (sure : L → Type 0) (offers : L → Amounts → Type 0)
+    (manned staffed : X → Amounts → Type 0) (least : Amounts) (hall : X) (q : QueueState L)
+    : Type 0 where
+  pub met : IsMet manned staffed least hall q.live
+  pub links : AreSureOf sure offers least q.live
+  pub tasks : AreWithin least (map work_of q.kept.held)
+
+-- This is so, unless memory was wanting.
+abbrev pub UnlessMemory : Result QueueCame WaitFault → Type 0 → Type 0
+UnlessMemory (Ok c) fact = fact
+UnlessMemory (Err (faults.Hall low high)) fact = fact
+UnlessMemory (Err faults.Memory) fact = Unit {0}
+
+-- A task is given, nothing is held, or memory was wanting.
+abbrev pub IsAnswered : Result QueueCame WaitFault → Type 0
+IsAnswered (Ok (came.Got ready)) = Unit {0}
+IsAnswered (Ok came.Empty) = Unit {0}
+IsAnswered (Ok came.Idle) = ⊥
+IsAnswered (Err (faults.Hall low high)) = ⊥
+IsAnswered (Err faults.Memory) = Unit {0}

@@ -6,12 +6,13 @@ use Rattle.flow_types.specs.declared.job.Failure.{Failure}
 use Rattle.flow_types.specs.declared.job.Job.{Job}
 use Rattle.flow_types.specs.declared.job.Outcome.{Outcome}
 use Rattle.flow_types.specs.declared.job.Outcome.TheVariants as outcomes
+use Rattle.flow_types.specs.declared.numbers.Amounts.{Amounts}
 use Rattle.flow_types.specs.declared.numbers.AttemptNo.{AttemptNo}
 use Rattle.flow_types.specs.Serial.{Function}
 use Rattle.links.specs.declared.passing.Passed.{Passed}
+use Rattle.links.specs.Honesty.{IsOfferOf}
 use Rattle.peers.specs.declared.told.Told.{Told}
 use Rattle.peers.specs.declared.told.Told.TheVariants as tell
-use Rattle.peers.specs.States.{PeerState}
 use Rattle.resource_pack.specs.declared.occupied.Stated.{Stated}
 use Rattle.task_book.specs.declared.task.Held.{Held}
 use Rattle.task_book.specs.declared.task.Stage.{Stage}
@@ -19,24 +20,18 @@ use Rattle.task_book.specs.declared.task.Submission.{Submission}
 use Rattle.task_book.specs.declared.task.TaskId.{TaskId}
 use Rattle.task_book.specs.declared.task.Stage.TheVariants as stages
 use Rattle.task_book.specs.Kept.{Kept, place_running, staged_at}
-use Rattle.task_book.specs.Stages.{Ends, RunsOn}
+use Rattle.task_book.specs.Lines.{waiting_in}
+use Rattle.task_book.specs.Stages.{Ends, RunsAs, RunsOn, Stops}
+use Rattle.wq_frames.specs.Frames.{front, part}
 use Rattle.wq_submit.specs.declared.company.Stop.{Stop}
 use Rattle.wq_submit.specs.declared.company.Stop.TheVariants as stops
 use Rattle.wq_submit.specs.declared.run.Again.{Again}
 use Rattle.wq_submit.specs.declared.run.Run.{Run}
+use Rattle.wq_submit.specs.declared.seat.health.Health.{Health}
 use Rattle.wq_submit.specs.declared.seat.reading.Look.{Look}
-use Rattle.wq_submit.specs.Queues.{IsSameWork}
-use Rattle.wq_submit.specs.Seats.{IsAtWork}
+use Rattle.wq_submit.specs.Queues.{IsSameWork, IsSureOf}
+use Rattle.wq_submit.specs.Seats.{HasRun, IsAtWork, IsRested, KeepsRuns, RunsAt, SeatState, closed_runs}
 use Rattle.wq_submit.specs.Shown.{IsRightOf, IsShownOn}
-
--- A peer that came, what it offers once its hello has come, what runs there, and the inputs that it
--- lacks of a task; or it is gone, and is kept unread.
-pub record SeatState (L : Type 0) : Type 0 where
-  pub peer : PeerState L
-  pub stated : Option Stated
-  pub runs : List Run
-  pub again : Option Again
-  pub gone : Bool
 
 -- the links of these peers
 abbrev pub ways_of : {L : Type 0} → List (SeatState L) → List L
@@ -51,7 +46,7 @@ live_of (s ∷ seats) = if s.gone then live_of seats else s.peer.way ∷ live_of
 abbrev pub IsServed : {L : Type 0} → Function → (Job → Failure → Type 0) → (L → List Passed)
     → List (List ℕ) → List Held → ℕ → SeatState L → Type 0
 IsServed gives may_fail history files held next s =
-    s.gone ≡ false → IsAtWork gives may_fail history files held next s.peer s.again
+    s.gone ≡ false → IsAtWork gives may_fail history files held next s
 
 -- Each of them is.
 abbrev pub AreServed : {L : Type 0} → Function → (Job → Failure → Type 0) → (L → List Passed)
@@ -111,6 +106,140 @@ told_again (tell.Fail attempt why) again = again
 told_again (tell.Lose attempt) again = again
 told_again (tell.Stale attempt) again = again
 
+-- what runs at a peer once it told this
+abbrev pub told_runs : Told → List Run → List Run
+told_runs (tell.Finish attempt outs) runs = closed_runs attempt runs
+told_runs (tell.Fail attempt why) runs = closed_runs attempt runs
+told_runs (tell.Lose attempt) runs = closed_runs attempt runs
+told_runs tell.Nothing runs = runs
+told_runs (tell.Joined total largest cache) runs = runs
+told_runs (tell.Changed total largest cache) runs = runs
+told_runs (tell.PutAgain attempt files) runs = runs
+told_runs (tell.Stale attempt) runs = runs
+
+-- what it offers then
+abbrev pub told_stated : Told → Option Stated → Option Stated
+told_stated (tell.Joined total largest cache) stated =
+    Some (record { total = total; largest = largest; cache = Some cache })
+told_stated (tell.Changed total largest cache) stated =
+    Some (record { total = total; largest = largest; cache = Some cache })
+told_stated tell.Nothing stated = stated
+told_stated (tell.Finish attempt outs) stated = stated
+told_stated (tell.Fail attempt why) stated = stated
+told_stated (tell.Lose attempt) stated = stated
+told_stated (tell.PutAgain attempt files) stated = stated
+told_stated (tell.Stale attempt) stated = stated
+
+-- A peer that was rested is still, unless it told that it lost an attempt.
+abbrev pub StaysRested : Told → Health → Health → Type 0
+StaysRested (tell.Lose attempt) old new = Unit {0}
+StaysRested _ old new = IsRested old → IsRested new
+
+-- The task, where there is one, runs with the attempt no more.
+abbrev pub StopsWhere : Option TaskId → AttemptNo → List Held → List Held → Type 0
+StopsWhere None attempt old new = new ≡ old
+StopsWhere (Some id) attempt old new = Stops old new id attempt
+
+-- What runs ran before, and is none of these runs.
+abbrev pub StopsAll : List Run → List Held → List Held → Type 0
+StopsAll runs old new = (id : TaskId) (attempt : AttemptNo) → RunsAs new id attempt
+    → RunsAs old id attempt × (HasRun id attempt runs → ⊥)
+
+-- Nothing changes, and nothing whole is there to be heard.
+pub record IsSilent {L : Type 0} (kept kept_now : Kept) (old new : SeatState L) : Type 0 where
+  pub peer_is : new ≡ old
+  pub kept_is : kept_now ≡ kept
+  pub part_of : front old.peer.feed.rest ≡ part
+
+-- ---- where tasks run
+
+-- The task of the id runs with the attempt at one of these peers.
+abbrev pub IsRunBy : {L : Type 0} → TaskId → AttemptNo → List (SeatState L) → Type 0
+IsRunBy id attempt [] = ⊥
+IsRunBy id attempt (s ∷ seats) = RunsAt id attempt s ⊎ IsRunBy id attempt seats
+
+-- Each held task that runs does so at one of these peers.
+abbrev pub AreRun : {L : Type 0} → List Held → List (SeatState L) → Type 0
+AreRun held seats = (id : TaskId) (attempt : AttemptNo) → RunsAs held id attempt
+    → IsRunBy id attempt seats
+
+-- It is this held one, with this attempt.
+abbrev pub IsOf : Option Held → AttemptNo → TaskId → AttemptNo → Type 0
+IsOf None begun id attempt = ⊥
+IsOf (Some h) begun id attempt = (id ≡ h.id) × (attempt ≡ begun)
+
+-- Each held task that runs does so at one of these peers, but for this one, which begins.
+abbrev pub AreRunBut : {L : Type 0} → Option Held → AttemptNo → List Held → List (SeatState L)
+    → Type 0
+AreRunBut one begun held seats = (id : TaskId) (attempt : AttemptNo) → RunsAs held id attempt
+    → IsRunBy id attempt seats ⊎ IsOf one begun id attempt
+
+-- What runs ran before, and what of it ran at the peer still does. So does this held one, which
+-- runs with this attempt.
+abbrev pub BeginsRun : {L : Type 0} → Option Held → AttemptNo → List Held → List Held
+    → SeatState L → SeatState L → Type 0
+BeginsRun one begun held new s now = (id : TaskId) (attempt : AttemptNo) → RunsAs new id attempt
+    → RunsAs held id attempt × (RunsAt id attempt s ⊎ IsOf one begun id attempt
+    → RunsAt id attempt now)
+
+-- ---- links that are sure
+
+-- A peer that isn't gone is at such a link.
+abbrev pub IsSureAt : {L : Type 0} → (L → Type 0) → (L → Amounts → Type 0) → Amounts
+    → SeatState L → Type 0
+IsSureAt sure offers least s = s.gone ≡ false → IsSureOf sure offers least s.peer.way
+
+-- Each of them is.
+abbrev pub AreSure : {L : Type 0} → (L → Type 0) → (L → Amounts → Type 0) → Amounts
+    → List (SeatState L) → Type 0
+AreSure sure offers least seats = AllByRecursion (IsSureAt sure offers least) seats
+
+-- which of these peers are gone
+abbrev pub gone_of : {L : Type 0} → List (SeatState L) → List Bool
+gone_of seats = map (λ s. s.gone) seats
+
+-- It is so of this peer still, and it isn't gone unless it was.
+pub record StaysSureAt {L : Type 0} (sure : L → Type 0) (offers : L → Amounts → Type 0)
+    (least : Amounts) (old new : SeatState L) : Type 0 where
+  pub surely : IsSureAt sure offers least new
+  pub gone : new.gone ≡ old.gone
+
+-- It is so of these peers still, and none is gone that wasn't.
+pub record StaySure {L : Type 0} (sure : L → Type 0) (offers : L → Amounts → Type 0)
+    (least : Amounts) (old new : List (SeatState L)) : Type 0 where
+  pub surely : AreSure sure offers least new
+  pub gone : gone_of new ≡ gone_of old
+
+-- Nothing runs at the peer, it doesn't rest, and it offers at least these amounts and room for any
+-- inputs.
+pub record IsReady {L : Type 0} (least : Amounts) (s : SeatState L) : Type 0 where
+  pub idle : s.runs ≡ []
+  pub rested : IsRested s.health
+  pub offer : Stated
+  pub stated : s.stated ≡ Some offer
+  pub cache : ℕ
+  pub cache_is : offer.cache ≡ Some cache
+  pub enough : IsOfferOf least offer.total offer.largest cache
+
+-- Each of these peers that isn't gone is so.
+abbrev pub AreReady : {L : Type 0} → Amounts → List (SeatState L) → Type 0
+AreReady least seats = AllByRecursion (λ s. s.gone ≡ false → IsReady least s) seats
+
+-- Nothing was placed; and where none had been refused, none is, since the task at this place doesn't
+-- wait, and the next is looked at.
+pub record NothingPlaced {L R : Type 0} (at : ℕ) (old new : List Held)
+    (seats after : List (SeatState L)) (refused now : Option R) (goes : Bool) : Type 0 where
+  pub held : new ≡ old
+  pub seats_are : after ≡ seats
+  pub on : refused ≡ None
+      → (now ≡ None) × (goes ≡ true) × (waiting_in (slice_get old at) ≡ None)
+
+-- This is so, unless memory was wanting.
+abbrev pub UnlessWanting : {T : Type 0} → Result T Stop → Type 0 → Type 0
+UnlessWanting (Ok x) fact = fact
+UnlessWanting (Err stops.Hall) fact = fact
+UnlessWanting (Err stops.Memory) fact = Unit {0}
+
 -- A task that came to its end had come to it before, or the link shows it.
 abbrev pub ShowsOn : {L : Type 0} → (L → List Passed) → List Held → List Held → L → Type 0
 ShowsOn history old new way = (attempt : AttemptNo) (outcome : Outcome) (task : Submission)
@@ -152,6 +281,7 @@ pub record ReadsAt {L : Type 0} (tells : Type 0) (gives : Function)
       → IsServed gives may_fail history files old next was → EndsRight gives may_fail files old new
   pub honestly : honest was.peer.way → honest is.peer.way
   pub quiet : idle ≡ true → IsQuiet idles is
+  pub runs : KeepsRuns old new was is
 
 -- One of the peers was taken out.
 abbrev pub TakesOut : {L : Type 0} → SeatState L → List (SeatState L) → List (SeatState L) → Type 0

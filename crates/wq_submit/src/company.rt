@@ -1,20 +1,25 @@
 //! The peers of a queue.
-ghost use Rattle.std.specs.Prelude.{◌≡◌, ◌≤◌, ◌<◌, ◌+◌, ◌-◌, ◌^◌, true, ◌⊎◌, ◌++◌, ◌∷◌, [], List, ℕ, IfNone, IfSome, length, slice_get};
+ghost use Rattle.std.specs.Prelude.{◌≡◌, ◌≤◌, ◌<◌, ◌+◌, ◌-◌, ◌^◌, true, false, ◌⊎◌, ◌++◌, ◌∷◌, [], List, ℕ, None, IfNone, IfOk, IfSome, OnOk, length, map, position, slice_get};
 ghost use Rattle.std.specs.List.{AllByRecursion};
+ghost use Rattle.flow_types.specs.declared.numbers.Amounts.{Amounts as AmountsValue};
+ghost use Rattle.flow_types.specs.Plans.{most_input_bytes};
 ghost use Rattle.links.specs.Halls.{IsFresh};
 ghost use Rattle.task_book.specs.declared.task.Held.{Held as HeldValue};
 ghost use Rattle.task_book.specs.declared.task.Submission.{Submission as SubmissionValue};
+ghost use Rattle.task_book.specs.Lines.{NoneBefore, is_waiting};
 ghost use Rattle.task_book.specs.Stages.{EndsOn, Runs};
-ghost use Rattle.wq_submit.specs.Queues.{IsIdleHall, IsSameWork, RunBefore};
-ghost use Rattle.wq_submit.specs.Rounds.{AreServed, Comes, EndsRight, GoesOnAs, IsQuiet, IsRead, IsServed, MeetsAs, ReadsAt, live_of, was_idle, ways_of};
+ghost use Rattle.wq_submit.specs.Queues.{AreKnown, AreSureOf, AreWithin, IsIdleHall, IsKnown, IsMet, IsSameWork, IsWithin, RunBefore, work_of};
+ghost use Rattle.wq_submit.specs.Rounds.{AreReady, AreRun, AreRunBut, AreServed, AreSure, BeginsRun, Comes, EndsRight, GoesOnAs, IsQuiet, IsRead, IsReady, IsServed, IsSureAt, MeetsAs, NothingPlaced, ReadsAt, StaySure, StaysSureAt, UnlessWanting, gone_of, live_of, was_idle, ways_of};
+ghost use Rattle.wq_submit.specs.Seats.{KeepsRuns, SeatState};
 ghost use Rattle.wq_submit.specs.Shown.{ShowsEnds};
 
+use crate::laws::manned_halls_are_staffed;
 use crate::least::Refused;
 use crate::seat::{Look, Seat, Turn};
 use flow_types::{AttemptNo, Memory, Needs};
 use links::{Came, Hall, Link};
 use outside::{Commands, Fault};
-use peers::{Leave, Peer};
+use peers::{Leave, Peer, honest_links_were_honest, sure_links_are_orderly};
 use std::alloc::Global;
 use std::marker::Model;
 use task_book::{Book, Files};
@@ -48,7 +53,9 @@ pub(crate) enum Stop {
 }
 
 // That a peer was left for this, where that is want of memory.
-fn left_for(leave: Leave) -> Result<(), Memory> {
+fn left_for(leave: Leave) -> Result<(), Memory>
+    ensures { OnOk result (leave ≡ Leave.Memory → ⊥) }
+{
     match leave {
         Leave::Memory => Err(Memory),
         _ => Ok(()),
@@ -68,7 +75,14 @@ fn tell_seat<F: Commands, L: Link<F>>(
         → IsServed F.gives F.may_fail L.history files.now book.old.held next seat.old
         → IsServed F.gives F.may_fail L.history files.now book.new.held next seat.new }
     ensures honest { L.honest seat.old.peer.way → L.honest seat.new.peer.way }
+    ensures keeps { KeepsRuns book.old.held book.new.held seat.old seat.new }
+    ensures calm { (next : ℕ) (least : AmountsValue) → (L.tells
+        → IsServed F.gives F.may_fail L.history files.now book.old.held next seat.old)
+        → IsSureAt L.sure L.offers least seat.old
+        → OnOk result (StaysSureAt L.sure L.offers least seat.old seat.new) }
 {
+    honest_links_were_honest::<F, L>();
+    sure_links_are_orderly::<F, L>();
     if seat.is_gone() {
         return Ok(());
     }
@@ -98,6 +112,11 @@ fn tell_at<F: Commands, L: Link<F>>(
     ensures honest { AllByRecursion L.honest (ways_of seats.old.items)
         → AllByRecursion L.honest (ways_of seats.new.items) }
     ensures many { length seats.new.items ≡ length seats.old.items }
+    ensures run { AreRun book.old.held seats.old.items → AreRun book.new.held seats.new.items }
+    ensures calm { (next : ℕ) (least : AmountsValue) → (L.tells
+        → AreServed F.gives F.may_fail L.history files.now book.old.held next seats.old.items)
+        → AreSure L.sure L.offers least seats.old.items
+        → OnOk result (StaySure L.sure L.offers least seats.old.items seats.new.items) }
 {
     tell_seat(&mut seats[at], alloc, files, book)
 }
@@ -116,6 +135,11 @@ fn tell_seats<F: Commands, L: Link<F>>(
         → AreServed F.gives F.may_fail L.history files.now book.new.held next seats.new.items }
     ensures honest { AllByRecursion L.honest (ways_of seats.old.items)
         → AllByRecursion L.honest (ways_of seats.new.items) }
+    ensures run { AreRun book.old.held seats.old.items → AreRun book.new.held seats.new.items }
+    ensures calm { (next : ℕ) (least : AmountsValue) → (L.tells
+        → AreServed F.gives F.may_fail L.history files.now book.old.held next seats.old.items)
+        → AreSure L.sure L.offers least seats.old.items
+        → OnOk result (StaySure L.sure L.offers least seats.old.items seats.new.items) }
 {
     for at in 0..seats.len() {
         match tell_at(seats, alloc, files, book, at) {
@@ -127,7 +151,7 @@ fn tell_seats<F: Commands, L: Link<F>>(
 }
 
 // Begins the task at a place of the book, which runs with this attempt, at a peer. Where that fails
-// the peer is gone.
+// the peer is gone, and the task waits again.
 fn begin_seat<F: Commands, L: Link<F>>(
     seat: &mut Seat<F, L>,
     alloc: Global,
@@ -144,17 +168,32 @@ fn begin_seat<F: Commands, L: Link<F>>(
         → IsServed F.gives F.may_fail L.history files.now book.old.held attempt.0 seat.old
         → IsServed F.gives F.may_fail L.history files.now book.new.held (1 + attempt.0) seat.new }
     ensures honest { L.honest seat.old.peer.way → L.honest seat.new.peer.way }
+    ensures keeps { BeginsRun (slice_get book.old.held at) attempt book.old.held book.new.held
+        seat.old seat.new }
+    ensures calm { (least : AmountsValue)
+        → IfSome (slice_get book.old.held at) (λ h. IsKnown files.now h.task)
+        → (L.tells
+        → IsServed F.gives F.may_fail L.history files.now book.old.held attempt.0 seat.old)
+        → IsSureAt L.sure L.offers least seat.old
+        → OnOk result (StaysSureAt L.sure L.offers least seat.old seat.new) }
+    ensures busy { OnOk result (IfSome (slice_get book.old.held at) (λ h. seat.new.gone ≡ false
+        → seat.new.runs ≡ [] → ⊥)) }
 {
-    if seat.is_gone() {
-        return Ok(());
-    }
+    honest_links_were_honest::<F, L>();
+    sure_links_are_orderly::<F, L>();
     let Some(held) = book.task(at) else {
         return Ok(());
     };
-    match seat.begin(alloc, files, held.id, &held.task, attempt, bytes) {
+    let id = held.id;
+    if seat.is_gone() {
+        let _ = book.wait_again(id, attempt);
+        return Ok(());
+    }
+    match seat.begin(alloc, files, id, &held.task, attempt, bytes) {
         Ok(()) => Ok(()),
         Err(leave) => {
             seat.leave(book);
+            let _ = book.wait_again(id, attempt);
             left_for(leave)
         }
     }
@@ -181,6 +220,18 @@ fn begin_in<F: Commands, L: Link<F>>(
         seats.new.items }
     ensures honest { AllByRecursion L.honest (ways_of seats.old.items)
         → AllByRecursion L.honest (ways_of seats.new.items) }
+    ensures run { AreRunBut (slice_get book.old.held at) attempt book.old.held seats.old.items
+        → AreRun book.new.held seats.new.items }
+    ensures calm { (least : AmountsValue)
+        → IfSome (slice_get book.old.held at) (λ h. IsKnown files.now h.task)
+        → (L.tells
+        → AreServed F.gives F.may_fail L.history files.now book.old.held attempt.0 seats.old.items)
+        → AreSure L.sure L.offers least seats.old.items
+        → OnOk result (StaySure L.sure L.offers least seats.old.items seats.new.items) }
+    ensures busy { (least : AmountsValue) → IfSome (slice_get book.old.held at) (λ h.
+        IfSome (slice_get seats.old.items place) (λ s. s.gone ≡ false
+        → gone_of seats.new.items ≡ gone_of seats.old.items
+        → AreReady least seats.new.items → OnOk result ⊥)) }
 {
     begin_seat(&mut seats[place], alloc, files, book, at, attempt, bytes)
 }
@@ -201,7 +252,18 @@ fn read_seat<F: Commands, L: Link<F>>(
         → EndsRight F.gives F.may_fail files book.old.held book.new.held }
     ensures honest { L.honest seat.old.peer.way → L.honest seat.new.peer.way }
     ensures quiet { was_idle result ≡ true → IsQuiet L.idle_count seat.new }
+    ensures keeps { KeepsRuns book.old.held book.new.held seat.old seat.new }
+    ensures calm { (files : List (List ℕ)) (next : ℕ) (least : AmountsValue) → (L.tells
+        → IsServed F.gives F.may_fail L.history files book.old.held next seat.old)
+        → IsSureAt L.sure L.offers least seat.old
+        → OnOk result (StaysSureAt L.sure L.offers least seat.old seat.new) }
+    ensures ready { (files : List (List ℕ)) (next : ℕ) (least : AmountsValue) → (L.tells
+        → IsServed F.gives F.may_fail L.history files book.old.held next seat.old)
+        → IsSureAt L.sure L.offers least seat.old → was_idle result ≡ true
+        → (seat.old.gone ≡ false → IsReady least seat.old) × (book.new ≡ book.old) }
 {
+    honest_links_were_honest::<F, L>();
+    sure_links_are_orderly::<F, L>();
     if seat.is_gone() {
         return Ok(Look {
             came: false,
@@ -235,6 +297,15 @@ fn read_at<F: Commands, L: Link<F>>(
     ensures goes { GoesOnAs book.old book.new }
     ensures reads { ReadsAt L.tells F.gives F.may_fail L.history L.honest L.idle_count at
         book.old.held book.new.held seats.old.items seats.new.items (was_idle result) }
+    ensures calm { (files : List (List ℕ)) (next : ℕ) (least : AmountsValue) → (L.tells
+        → AreServed F.gives F.may_fail L.history files book.old.held next seats.old.items)
+        → AreSure L.sure L.offers least seats.old.items
+        → OnOk result (StaySure L.sure L.offers least seats.old.items seats.new.items) }
+    ensures ready { (files : List (List ℕ)) (next : ℕ) (least : AmountsValue) → (L.tells
+        → AreServed F.gives F.may_fail L.history files book.old.held next seats.old.items)
+        → AreSure L.sure L.offers least seats.old.items → was_idle result ≡ true
+        → IfSome (slice_get seats.old.items at) (λ s. s.gone ≡ false → IsReady least s)
+        × (book.new ≡ book.old) }
 {
     read_seat(&mut seats[at], alloc, book, turn)
 }
@@ -261,6 +332,15 @@ fn read_seats<F: Commands, L: Link<F>>(
         → AllByRecursion L.honest (ways_of seats.new.items) }
     ensures quiet { was_idle result ≡ true
         → AllByRecursion (IsQuiet L.idle_count) seats.new.items }
+    ensures run { AreRun book.old.held seats.old.items → AreRun book.new.held seats.new.items }
+    ensures calm { (files : List (List ℕ)) (next : ℕ) (least : AmountsValue) → (L.tells
+        → AreServed F.gives F.may_fail L.history files book.old.held next seats.old.items)
+        → AreSure L.sure L.offers least seats.old.items
+        → OnOk result (StaySure L.sure L.offers least seats.old.items seats.new.items) }
+    ensures ready { (files : List (List ℕ)) (next : ℕ) (least : AmountsValue) → (L.tells
+        → AreServed F.gives F.may_fail L.history files book.old.held next seats.old.items)
+        → AreSure L.sure L.offers least seats.old.items → was_idle result ≡ true
+        → AreReady least seats.old.items × (book.new ≡ book.old) }
 {
     let mut look = Look {
         came: false,
@@ -305,11 +385,44 @@ fn attempt_of(next: u128) -> Option<AttemptNo>
 }
 
 // Whether a task of these needs and so many bytes of inputs fits no peer, since that one didn't.
-fn is_refused(refused: Option<Refused>, needs: Needs, bytes: u64) -> bool {
+fn is_refused(refused: Option<Refused>, needs: Needs, bytes: u64) -> bool
+    ensures { refused ≡ None → result ≡ false }
+{
     match refused {
         Some(other) => other.covers(needs, bytes),
         None => false,
     }
+}
+
+// Where the first of these peers stands that is gone.
+fn place_gone<F: Commands, L: Link<F>>(seats: &[Seat<F, L>]) -> Option<usize>
+    ensures place { result ≡ position (λ (s : SeatState L). s.gone) seats.now }
+    ensures within { IfSome result (λ at. at < length seats.now) }
+{
+    seats.iter().position(|seat| seat.is_gone())
+}
+
+// Where the first of these peers stands that a task fits.
+fn place_in<F: Commands, L: Link<F>>(
+    seats: &[Seat<F, L>],
+    needs: Needs,
+    bytes: u64,
+) -> Option<usize>
+    ensures within { IfSome result (λ place. place < length seats.now) }
+    ensures live { IfSome result (λ place.
+        IfSome (slice_get seats.now place) (λ s. s.gone ≡ false)) }
+    ensures room { (least : AmountsValue) → AreSure L.sure L.offers least seats.now
+        → AreReady least seats.now → IsWithin least needs → bytes ≤ most_input_bytes
+        → IfNone result (length (live_of seats.now) ≡ 0) }
+{
+    let mut place = 0;
+    for seat in seats {
+        if seat.fits(needs, bytes) {
+            return Some(place);
+        }
+        place += 1;
+    }
+    None
 }
 
 impl<F: Commands, L: Link<F>> Company<F, L> {
@@ -354,15 +467,25 @@ impl<F: Commands, L: Link<F>> Company<F, L> {
             book.new.held self.new.next self.new.seats }
         ensures honest { AllByRecursion L.honest (ways_of self.old.seats)
             → AllByRecursion L.honest (ways_of self.new.seats) }
+        ensures run { AreRun book.old.held self.old.seats → AreRun book.new.held self.new.seats }
+        ensures calm { (least : AmountsValue) → (L.tells
+            → AreServed F.gives F.may_fail L.history files.now book.old.held self.old.next
+            self.old.seats) → AreSure L.sure L.offers least self.old.seats
+            → OnOk result (StaySure L.sure L.offers least self.old.seats self.new.seats) }
     {
         tell_seats(&mut self.seats, alloc, files, book)
     }
 
     // Where the first peer stands that a task fits: its link is the least.
     fn place_for(&self, needs: Needs, bytes: u64) -> Option<usize>
-        ensures { IfSome result (λ place. place < length self.now.seats) }
+        ensures within { IfSome result (λ place. place < length self.now.seats) }
+        ensures live { IfSome result (λ place.
+            IfSome (slice_get self.now.seats place) (λ s. s.gone ≡ false)) }
+        ensures room { (least : AmountsValue) → AreSure L.sure L.offers least self.now.seats
+            → AreReady least self.now.seats → IsWithin least needs → bytes ≤ most_input_bytes
+            → IfNone result (length (live_of self.now.seats) ≡ 0) }
     {
-        self.seats.iter().position(|seat| seat.fits(needs, bytes))
+        place_in(self.seats.as_slice(), needs, bytes)
     }
 
     // Begins the waiting task at a place of the book with the next attempt, at the peer at a place.
@@ -386,6 +509,18 @@ impl<F: Commands, L: Link<F>> Company<F, L> {
             book.new.held self.new.next self.new.seats }
         ensures honest { AllByRecursion L.honest (ways_of self.old.seats)
             → AllByRecursion L.honest (ways_of self.new.seats) }
+        ensures run { RunBefore self.old.next book.old.held
+            → AreRun book.old.held self.old.seats → AreRun book.new.held self.new.seats }
+        ensures calm { (least : AmountsValue) → RunBefore self.old.next book.old.held
+            → IfSome (slice_get book.old.held at) (λ h. IsKnown files.now h.task)
+            → (L.tells
+            → AreServed F.gives F.may_fail L.history files.now book.old.held self.old.next
+            self.old.seats) → AreSure L.sure L.offers least self.old.seats
+            → OnOk result (StaySure L.sure L.offers least self.old.seats self.new.seats) }
+        ensures busy { (least : AmountsValue) → IfSome (slice_get book.old.held at) (λ h.
+            IfSome (slice_get self.old.seats place) (λ s. s.gone ≡ false
+            → gone_of self.new.seats ≡ gone_of self.old.seats
+            → AreReady least self.new.seats → OnOk result ⊥)) }
     {
         let Some(attempt) = attempt_of(self.next) else {
             return Err(Memory);
@@ -430,6 +565,23 @@ impl<F: Commands, L: Link<F>> Company<F, L> {
             book.new.held self.new.next self.new.seats }
         ensures honest { AllByRecursion L.honest (ways_of self.old.seats)
             → AllByRecursion L.honest (ways_of self.new.seats) }
+        ensures run { RunBefore self.old.next book.old.held
+            → AreRun book.old.held self.old.seats → AreRun book.new.held self.new.seats }
+        ensures calm { (most : AmountsValue) → RunBefore self.old.next book.old.held
+            → AreKnown files.now (map work_of book.old.held)
+            → (L.tells
+            → AreServed F.gives F.may_fail L.history files.now book.old.held self.old.next
+            self.old.seats) → AreSure L.sure L.offers most self.old.seats
+            → OnOk result (StaySure L.sure L.offers most self.old.seats self.new.seats) }
+        ensures placed { (most : AmountsValue) → RunBefore self.old.next book.old.held
+            → AreKnown files.now (map work_of book.old.held)
+            → AreWithin most (map work_of book.old.held)
+            → (L.tells
+            → AreServed F.gives F.may_fail L.history files.now book.old.held self.old.next
+            self.old.seats) → AreSure L.sure L.offers most self.old.seats
+            → 0 < length (live_of self.new.seats) → AreReady most self.new.seats
+            → IfOk result (NothingPlaced at book.old.held book.new.held self.old.seats
+            self.new.seats refused.old refused.new) }
     {
         let Some(task) = book.waiting(at) else {
             return Ok(true);
@@ -468,6 +620,22 @@ impl<F: Commands, L: Link<F>> Company<F, L> {
             book.new.held self.new.next self.new.seats }
         ensures honest { AllByRecursion L.honest (ways_of self.old.seats)
             → AllByRecursion L.honest (ways_of self.new.seats) }
+        ensures run { RunBefore self.old.next book.old.held
+            → AreRun book.old.held self.old.seats → AreRun book.new.held self.new.seats }
+        ensures calm { (most : AmountsValue) → RunBefore self.old.next book.old.held
+            → AreKnown files.now (map work_of book.old.held)
+            → (L.tells
+            → AreServed F.gives F.may_fail L.history files.now book.old.held self.old.next
+            self.old.seats) → AreSure L.sure L.offers most self.old.seats
+            → OnOk result (StaySure L.sure L.offers most self.old.seats self.new.seats) }
+        ensures placed { (most : AmountsValue) → RunBefore self.old.next book.old.held
+            → AreKnown files.now (map work_of book.old.held)
+            → AreWithin most (map work_of book.old.held)
+            → (L.tells
+            → AreServed F.gives F.may_fail L.history files.now book.old.held self.old.next
+            self.old.seats) → AreSure L.sure L.offers most self.old.seats
+            → 0 < length (live_of self.new.seats) → AreReady most self.new.seats
+            → OnOk result (NoneBefore is_waiting (length book.new.held) book.new.held) }
     {
         let from = book.first_waiting();
         let mut refused = None;
@@ -501,6 +669,16 @@ impl<F: Commands, L: Link<F>> Company<F, L> {
             → AllByRecursion L.honest (ways_of self.new.seats) }
         ensures quiet { was_idle result ≡ true
             → AllByRecursion (IsQuiet L.idle_count) self.new.seats }
+        ensures run { AreRun book.old.held self.old.seats → AreRun book.new.held self.new.seats }
+        ensures calm { (files : List (List ℕ)) (least : AmountsValue) → (L.tells
+            → AreServed F.gives F.may_fail L.history files book.old.held self.old.next
+            self.old.seats) → AreSure L.sure L.offers least self.old.seats
+            → OnOk result (StaySure L.sure L.offers least self.old.seats self.new.seats) }
+        ensures ready { (files : List (List ℕ)) (least : AmountsValue) → (L.tells
+            → AreServed F.gives F.may_fail L.history files book.old.held self.old.next
+            self.old.seats) → AreSure L.sure L.offers least self.old.seats
+            → was_idle result ≡ true
+            → AreReady least self.old.seats × (book.new ≡ book.old) }
     {
         read_seats(&mut self.seats, alloc, book, turn)
     }
@@ -514,6 +692,9 @@ impl<F: Commands, L: Link<F>> Company<F, L> {
         ensures served { (files : List (List ℕ)) (held : List HeldValue) → L.tells
             → AreServed F.gives F.may_fail L.history files held self.old.next self.old.seats
             → AreServed F.gives F.may_fail L.history files held self.new.next self.new.seats }
+        ensures run { (held : List HeldValue) → AreRun held self.old.seats
+            → AreRun held self.new.seats }
+        ensures calm { OnOk result (live_of self.new.seats ≡ live_of self.old.seats ++ way ∷ []) }
     {
         let peer = match Peer::new(alloc, way, crate::copies::OWN_RUN) {
             Ok(peer) => peer,
@@ -533,8 +714,11 @@ impl<F: Commands, L: Link<F>> Company<F, L> {
         ensures served { (files : List (List ℕ)) (held : List HeldValue) → L.tells
             → AreServed F.gives F.may_fail L.history files held self.old.next self.old.seats
             → AreServed F.gives F.may_fail L.history files held self.new.next self.new.seats }
+        ensures run { (held : List HeldValue) → AreRun held self.old.seats
+            → AreRun held self.new.seats }
+        ensures live { live_of self.new.seats ≡ live_of self.old.seats }
     {
-        let Some(at) = self.seats.iter().position(|seat| seat.is_gone()) else {
+        let Some(at) = place_gone(self.seats.as_slice()) else {
             return None;
         };
         Some(self.seats.remove(at))
@@ -571,7 +755,20 @@ pub(crate) fn meet<F: Commands, H: Hall<F>>(
     ensures later { H.idle_count hall.old ≤ H.idle_count hall.new }
     ensures idle { was_idle result ≡ true → (company.new ≡ company.old)
         × IsIdleHall (H.idle_count hall.old) (H.idle_count hall.new) (live_of company.old.seats) }
+    ensures run { (held : List HeldValue) → AreRun held company.old.seats
+        → AreRun held company.new.seats }
+    ensures staffed { (least : AmountsValue)
+        → AreSureOf H.Way.sure H.Way.offers least (live_of company.old.seats)
+        → IsMet H.manned H.staffed least hall.old (live_of company.old.seats)
+        → UnlessWanting result (AreSureOf H.Way.sure H.Way.offers least
+        (live_of company.new.seats)
+        × IsMet H.manned H.staffed least hall.new (live_of company.new.seats)) }
+    ensures manned { (least : AmountsValue)
+        → IsMet H.manned H.staffed least hall.old (live_of company.old.seats)
+        → was_idle result ≡ true → 0 < length (live_of company.old.seats) }
 {
+    manned_halls_are_staffed::<F, H>();
+
     if company.live() >= MOST_LINKS {
         return Ok(Look {
             came: false,
@@ -618,6 +815,12 @@ pub(crate) fn part<F: Commands, H: Hall<F>>(
         → AreServed F.gives F.may_fail H.Way.history files held company.old.next company.old.seats
         → AreServed F.gives F.may_fail H.Way.history files held company.new.next
         company.new.seats }
+    ensures run { (held : List HeldValue) → AreRun held company.old.seats
+        → AreRun held company.new.seats }
+    ensures live { live_of company.new.seats ≡ live_of company.old.seats }
+    ensures manned { (least : AmountsValue) → H.manned hall.old least → H.manned hall.new least }
+    ensures staffed { (least : AmountsValue) → H.staffed hall.old least
+        → H.staffed hall.new least }
 {
     for _ in 0..company.count() {
         let Some(seat) = company.take_gone() else {

@@ -1,4 +1,5 @@
-//! When no task that waits can fit a peer. No contract speaks of it: it spares looks at tasks.
+//! When no task that waits can fit a peer. No contract speaks of these needs: they spare looks at
+//! tasks.
 use flow_types::{Amounts, Needs};
 
 /// What fits no peer in a round, once one task was found that doesn't.

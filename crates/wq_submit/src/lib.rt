@@ -5,6 +5,7 @@
 mod cause;
 mod company;
 mod copies;
+mod laws;
 mod least;
 mod queue;
 mod rounds;

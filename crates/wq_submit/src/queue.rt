@@ -4,7 +4,8 @@ ghost use Rattle.task_book.specs.declared.refused.FileRefused.TheVariants as fil
 ghost use Rattle.task_book.specs.declared.refused.SubmitRefused.TheVariants as submit_refusals;
 ghost use Rattle.task_book.specs.Kept.{AreKept, cancelled_at, next_id, nothing_kept, place_of, submitted_to};
 ghost use Rattle.task_book.specs.Submissions.{file_refusal, submit_refusal};
-ghost use Rattle.wq_submit.specs.Queues.{IsTrusted};
+ghost use Rattle.flow_types.specs.declared.numbers.Amounts.{Amounts as AmountsValue};
+ghost use Rattle.wq_submit.specs.Queues.{IsStaffed, IsTrusted, IsWithin};
 
 use crate::company::{Company, dismiss};
 use crate::least::least_of;
@@ -36,9 +37,9 @@ pub struct Queue<F: Commands, H: Hall<F>> {
 }
 
 impl<F: Commands, H: Hall<F>> Model for Queue<F, H> {
-    ghost use Rattle.std.specs.Prelude.{length, map};
+    ghost use Rattle.std.specs.Prelude.{map};
     ghost use Rattle.wq_submit.specs.Queues.{AreKnown, QueueState, RunBefore, work_of};
-    ghost use Rattle.wq_submit.specs.Rounds.{AreServed, live_of, ways_of};
+    ghost use Rattle.wq_submit.specs.Rounds.{AreRun, AreServed, live_of, ways_of};
 
     ghost Value = { QueueState H.Way };
 
@@ -51,15 +52,23 @@ impl<F: Commands, H: Hall<F>> Model for Queue<F, H> {
     } };
 
     ghost invariant = { λ q. RunBefore q.company.next q.book.held
-        × AreKnown (length q.files) (map work_of q.book.held) × (H.Way.tells
+        × AreKnown q.files (map work_of q.book.held) × (H.Way.tells
         → AreServed F.gives F.may_fail H.Way.history q.files q.book.held q.company.next
-        q.company.seats) };
+        q.company.seats) × AreRun q.book.held q.company.seats };
 }
 
 impl<F: Commands, H: Hall<F>> Queue<F, H> {
     /// A queue without files, tasks and links. It takes no memory.
     pub fn new(alloc: Global) -> Queue<F, H>
-        ensures { result ≡ record { files = []; kept = nothing_kept; ways = []; live = []; next = 0 } }
+        ensures new { result ≡ record {
+          files = [];
+          kept = nothing_kept;
+          ways = [];
+          live = [];
+          next = 0;
+        } }
+        ensures staffed { (least : AmountsValue) (hall : H) → H.manned hall least
+            → IsStaffed H.Way.sure H.Way.offers H.manned H.staffed least hall result }
     {
         Queue {
             alloc,
@@ -101,6 +110,9 @@ impl<F: Commands, H: Hall<F>> Queue<F, H> {
             ⊎ (file_refusal self.old.files (length content) ≡ Some why)) }
         ensures trusted { IsTrusted H.Way.tells F.gives F.may_fail H.Way.honest self.old
             → IsTrusted H.Way.tells F.gives F.may_fail H.Way.honest self.new }
+        ensures staffed { (least : AmountsValue) (hall : H)
+            → IsStaffed H.Way.sure H.Way.offers H.manned H.staffed least hall self.old
+            → IsStaffed H.Way.sure H.Way.offers H.manned H.staffed least hall self.new }
     {
         self.files.add(content)
     }
@@ -125,6 +137,9 @@ impl<F: Commands, H: Hall<F>> Queue<F, H> {
             ⊎ (submit_refusal self.old.files (length self.old.kept.held) task ≡ Some why)) }
         ensures trusted { IsTrusted H.Way.tells F.gives F.may_fail H.Way.honest self.old
             → IsTrusted H.Way.tells F.gives F.may_fail H.Way.honest self.new }
+        ensures staffed { (least : AmountsValue) (hall : H) → IsWithin least task.needs
+            → IsStaffed H.Way.sure H.Way.offers H.manned H.staffed least hall self.old
+            → IsStaffed H.Way.sure H.Way.offers H.manned H.staffed least hall self.new }
     {
         self.least = self.least_with(task.needs);
         self.book.submit(&self.files, task)
@@ -139,6 +154,9 @@ impl<F: Commands, H: Hall<F>> Queue<F, H> {
         } }
         ensures trusted { IsTrusted H.Way.tells F.gives F.may_fail H.Way.honest self.old
             → IsTrusted H.Way.tells F.gives F.may_fail H.Way.honest self.new }
+        ensures staffed { (least : AmountsValue) (hall : H)
+            → IsStaffed H.Way.sure H.Way.offers H.manned H.staffed least hall self.old
+            → IsStaffed H.Way.sure H.Way.offers H.manned H.staffed least hall self.new }
     {
         self.book.cancel(id)
     }

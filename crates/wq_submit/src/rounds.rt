@@ -1,10 +1,11 @@
 //! How a queue waits: in rounds, until a task came to its end.
-ghost use Rattle.std.specs.Prelude.{◌≡◌, ◌≤◌, ◌<◌, [], None, IfNone, IfSome, Ok, false, true};
+ghost use Rattle.std.specs.Prelude.{◌≡◌, ◌≤◌, ◌<◌, [], None, Some, IfNone, IfSome, OnOk, Ok, false, length, map, true};
 ghost use Rattle.std.specs.List.{AllByRecursion};
-ghost use Rattle.task_book.specs.Kept.{Kept as KeptValue, place_ended};
+ghost use Rattle.flow_types.specs.declared.numbers.Amounts.{Amounts as AmountsValue};
+ghost use Rattle.task_book.specs.Kept.{Kept as KeptValue, is_end, place_ended};
 ghost use Rattle.wq_submit.specs.declared.cause.QueueCame.TheVariants as came;
-ghost use Rattle.wq_submit.specs.Queues.{AreIdle, Gives, Goes, IsAfter, IsEmptyExactly, IsHallFault, IsIdleHall, IsIdleThen, IsSameWork, IsTrusted, IsUnder};
-ghost use Rattle.wq_submit.specs.Rounds.{EndsRight, MeetsAs, was_idle};
+ghost use Rattle.wq_submit.specs.Queues.{AreIdle, AreSureOf, AreWithin, Gives, Goes, IsAfter, IsAnswered, IsEmptyExactly, IsHallFault, IsIdleHall, IsIdleThen, IsMet, IsSameWork, IsStaffed, IsTrusted, IsUnder, UnlessMemory, work_of};
+ghost use Rattle.wq_submit.specs.Rounds.{EndsRight, MeetsAs, UnlessWanting, was_idle};
 ghost use Rattle.wq_submit.specs.Shown.{ShowsEnds};
 
 use crate::cause::{QueueCame, WaitFault};
@@ -67,6 +68,9 @@ impl<F: Commands, H: Hall<F>> Queue<F, H> {
         ensures files { self.new.files ≡ self.old.files }
         ensures trusted { IsTrusted H.Way.tells F.gives F.may_fail H.Way.honest self.old
             → IsTrusted H.Way.tells F.gives F.may_fail H.Way.honest self.new }
+        ensures staffed { (least : AmountsValue)
+            → IsStaffed H.Way.sure H.Way.offers H.manned H.staffed least hall.old self.old
+            → IsStaffed H.Way.sure H.Way.offers H.manned H.staffed least hall.new self.new }
     {
         part::<F, H>(&mut self.company, self.alloc, hall);
     }
@@ -89,6 +93,9 @@ impl<F: Commands, H: Hall<F>> Queue<F, H> {
         ensures files { self.new.files ≡ self.old.files }
         ensures trusted { IsTrusted H.Way.tells F.gives F.may_fail H.Way.honest self.old
             → IsTrusted H.Way.tells F.gives F.may_fail H.Way.honest self.new }
+        ensures staffed { (least : AmountsValue)
+            → IsStaffed H.Way.sure H.Way.offers H.manned H.staffed least hall.old self.old
+            → IsStaffed H.Way.sure H.Way.offers H.manned H.staffed least hall.new self.new }
     {
         self.keep_pace(millis);
         if self.company.count() >= MOST_KEPT {
@@ -106,6 +113,8 @@ impl<F: Commands, H: Hall<F>> Queue<F, H> {
         ensures files { self.new.files ≡ self.old.files }
         ensures trusted { IsTrusted H.Way.tells F.gives F.may_fail H.Way.honest self.old
             → IsTrusted H.Way.tells F.gives F.may_fail H.Way.honest self.new }
+        ensures tasks { (least : AmountsValue) → AreWithin least (map work_of self.old.kept.held)
+            → AreWithin least (map work_of self.new.kept.held) }
     {
         self.book.give()
     }
@@ -130,6 +139,15 @@ impl<F: Commands, H: Hall<F>> Queue<F, H> {
         ensures files { self.new.files ≡ self.old.files }
         ensures idle { was_idle result ≡ true
             → AllByRecursion (λ way. 0 < H.Way.idle_count way) self.new.live }
+        ensures staffed { (least : AmountsValue)
+            → AreSureOf H.Way.sure H.Way.offers least self.old.live → OnOk result
+            (AreSureOf H.Way.sure H.Way.offers least self.new.live
+            × (length self.new.live ≡ length self.old.live)) }
+        ensures manned { (least : AmountsValue)
+            → AreSureOf H.Way.sure H.Way.offers least self.old.live
+            → AreWithin least (map work_of self.old.kept.held) → 0 < length self.old.live
+            → was_idle result ≡ true
+            → AllByRecursion (λ h. is_end h.stage ≡ true) self.new.kept.held }
     {
         if self
             .company
@@ -163,6 +181,13 @@ impl<F: Commands, H: Hall<F>> Queue<F, H> {
         ensures later { H.idle_count hall.old ≤ H.idle_count hall.new }
         ensures idle { was_idle result ≡ true → (self.new.live ≡ self.old.live)
             × IsIdleHall (H.idle_count hall.old) (H.idle_count hall.new) self.old.live }
+        ensures staffed { (least : AmountsValue)
+            → IsStaffed H.Way.sure H.Way.offers H.manned H.staffed least hall.old self.old
+            → UnlessWanting result
+            (IsStaffed H.Way.sure H.Way.offers H.manned H.staffed least hall.new self.new) }
+        ensures manned { (least : AmountsValue)
+            → IsMet H.manned H.staffed least hall.old self.old.live
+            → was_idle result ≡ true → 0 < length self.old.live }
     {
         meet::<F, H>(&mut self.company, self.alloc, hall, is_due)
     }
@@ -182,6 +207,14 @@ impl<F: Commands, H: Hall<F>> Queue<F, H> {
         ensures later { H.idle_count hall.old ≤ H.idle_count hall.new }
         ensures idle { was_idle result ≡ true → AreIdle H.Way.idle_count
             (H.idle_count hall.old) (H.idle_count hall.new) self.new.live }
+        ensures staffed { (least : AmountsValue)
+            → IsStaffed H.Way.sure H.Way.offers H.manned H.staffed least hall.old self.old
+            → UnlessWanting result
+            (IsStaffed H.Way.sure H.Way.offers H.manned H.staffed least hall.new self.new) }
+        ensures manned { (least : AmountsValue)
+            → IsStaffed H.Way.sure H.Way.offers H.manned H.staffed least hall.old self.old
+            → was_idle result ≡ true
+            → AllByRecursion (λ h. is_end h.stage ≡ true) self.new.kept.held }
     {
         let turn = Turn {
             is_due,
@@ -209,6 +242,9 @@ impl<F: Commands, H: Hall<F>> Queue<F, H> {
         ensures files { self.new.files ≡ self.old.files }
         ensures trusted { IsTrusted H.Way.tells F.gives F.may_fail H.Way.honest self.old
             → IsTrusted H.Way.tells F.gives F.may_fail H.Way.honest self.new }
+        ensures live { self.new.live ≡ self.old.live }
+        ensures tasks { (least : AmountsValue) → AreWithin least (map work_of self.old.kept.held)
+            → AreWithin least (map work_of self.new.kept.held) }
     {
         if self.is_empty() {
             return Some(QueueCame::Empty);
@@ -227,6 +263,10 @@ impl<F: Commands, H: Hall<F>> Queue<F, H> {
         ensures idle { IfSome result (λ found. found ≡ came.Idle → look.was_idle ≡ true) }
         ensures trusted { IsTrusted H.Way.tells F.gives F.may_fail H.Way.honest self.old
             → IsTrusted H.Way.tells F.gives F.may_fail H.Way.honest self.new }
+        ensures live { self.new.live ≡ self.old.live }
+        ensures tasks { (least : AmountsValue) → AreWithin least (map work_of self.old.kept.held)
+            → AreWithin least (map work_of self.new.kept.held) }
+        ensures late { result ≡ Some came.Idle → place_ended self.old.kept.held ≡ None }
     {
         if let Some(ready) = self.give() {
             return Some(QueueCame::Got(ready));
@@ -262,6 +302,15 @@ impl<F: Commands, H: Hall<F>> Queue<F, H> {
         ensures cause { IfSome result (IsHallFault before (H.count hall.new)) }
         ensures rises { H.count hall.old ≤ H.count hall.new }
         ensures later { H.idle_count hall.old ≤ H.idle_count hall.new }
+        ensures staffed { (least : AmountsValue)
+            → IsStaffed H.Way.sure H.Way.offers H.manned H.staffed least hall.old self.old
+            → IfNone result
+            (IsStaffed H.Way.sure H.Way.offers H.manned H.staffed least hall.new self.new)
+            × IfSome result (λ answer. UnlessMemory answer
+            (IsStaffed H.Way.sure H.Way.offers H.manned H.staffed least hall.new self.new)) }
+        ensures manned { (least : AmountsValue) → IsUnder self.old.kept self.old.kept
+            → IsStaffed H.Way.sure H.Way.offers H.manned H.staffed least hall.old self.old
+            → IfSome result (λ answer. answer ≡ Ok came.Idle → ⊥) }
     {
         let is_due = pace.is_turn();
         match self.round(hall, is_due) {
@@ -298,6 +347,13 @@ impl<F: Commands, H: Hall<F>> Queue<F, H> {
         ensures cause { IsHallFault (H.count hall.old) (H.count hall.new) result }
         ensures rises { H.count hall.old ≤ H.count hall.new }
         ensures later { H.idle_count hall.old ≤ H.idle_count hall.new }
+        ensures staffed { (least : AmountsValue)
+            → IsStaffed H.Way.sure H.Way.offers H.manned H.staffed least hall.old self.old
+            → UnlessMemory result
+            (IsStaffed H.Way.sure H.Way.offers H.manned H.staffed least hall.new self.new) }
+        ensures manned { (least : AmountsValue)
+            → IsStaffed H.Way.sure H.Way.offers H.manned H.staffed least hall.old self.old
+            → result ≡ Ok came.Idle → ⊥ }
     {
         let before = hall.faults();
         let mut pace = Pace {
@@ -314,8 +370,8 @@ impl<F: Commands, H: Hall<F>> Queue<F, H> {
     }
 
     /// Gives the task with the least id that came to its end, and waits for one where none has. It
-    /// answers that nobody came and no worker told anything only after each of them was idle. Links
-    /// that were left before this call are handed back to the hall.
+    /// answers that nobody came and no worker told anything only after each of them was idle, and
+    /// over a manned hall never. Links that were left before this call are handed back to the hall.
     pub fn wait<W: Wait>(&mut self, rt: &W, hall: &mut H) -> Result<QueueCame, WaitFault>
         requires listens { H.listens hall.old }
         ensures listens { H.listens hall.new }
@@ -332,11 +388,96 @@ impl<F: Commands, H: Hall<F>> Queue<F, H> {
         ensures cause { IsHallFault (H.count hall.old) (H.count hall.new) result }
         ensures rises { H.count hall.old ≤ H.count hall.new }
         ensures later { H.idle_count hall.old ≤ H.idle_count hall.new }
+        ensures staffed { (least : AmountsValue)
+            → IsStaffed H.Way.sure H.Way.offers H.manned H.staffed least hall.old self.old
+            → UnlessMemory result
+            (IsStaffed H.Way.sure H.Way.offers H.manned H.staffed least hall.new self.new) }
+        ensures manned { (least : AmountsValue)
+            → IsStaffed H.Way.sure H.Way.offers H.manned H.staffed least hall.old self.old
+            → result ≡ Ok came.Idle → ⊥ }
+        ensures answers { (least : AmountsValue)
+            → IsStaffed H.Way.sure H.Way.offers H.manned H.staffed least hall.old self.old
+            → H.count hall.new ≡ H.count hall.old → IsAnswered result }
     {
         self.part(hall);
         match self.at_once() {
             Some(came) => Ok(came),
             None => self.look(rt, hall),
+        }
+    }
+
+    // The next round in the pace of the last call.
+    fn paced(&mut self, hall: &mut H) -> Option<Result<QueueCame, WaitFault>>
+        requires listens { H.listens hall.old }
+        ensures listens { H.listens hall.new }
+        ensures none { IsUnder self.old.kept self.old.kept
+            → IfNone result (IsUnder self.old.kept self.new.kept) }
+        ensures goes { IfSome result (Goes H.Way.tells F.gives F.may_fail H.Way.history
+            (H.honest hall.old × IsTrusted H.Way.tells F.gives F.may_fail H.Way.honest self.old)
+            self.old self.new) }
+        ensures held { IfSome result (λ answer. answer ≡ Ok came.Empty → ⊥) }
+        ensures idle { IfSome result (IsIdleThen H.Way.idle_count
+            (H.idle_count hall.old) (H.idle_count hall.new) self.new.live) }
+        ensures files { self.new.files ≡ self.old.files }
+        ensures trusted { H.honest hall.old
+            → IsTrusted H.Way.tells F.gives F.may_fail H.Way.honest self.old
+            → IsTrusted H.Way.tells F.gives F.may_fail H.Way.honest self.new × H.honest hall.new }
+        ensures cause { IfSome result (IsHallFault (H.count hall.old) (H.count hall.new)) }
+        ensures rises { H.count hall.old ≤ H.count hall.new }
+        ensures later { H.idle_count hall.old ≤ H.idle_count hall.new }
+        ensures staffed { (least : AmountsValue)
+            → IsStaffed H.Way.sure H.Way.offers H.manned H.staffed least hall.old self.old
+            → IfNone result
+            (IsStaffed H.Way.sure H.Way.offers H.manned H.staffed least hall.new self.new)
+            × IfSome result (λ answer. UnlessMemory answer
+            (IsStaffed H.Way.sure H.Way.offers H.manned H.staffed least hall.new self.new)) }
+        ensures manned { (least : AmountsValue) → IsUnder self.old.kept self.old.kept
+            → IsStaffed H.Way.sure H.Way.offers H.manned H.staffed least hall.old self.old
+            → IfSome result (λ answer. answer ≡ Ok came.Idle → ⊥) }
+    {
+        let mut pace = Pace {
+            millis: self.millis,
+        };
+        let before = hall.faults();
+        let answer = self.step(hall, &mut pace, before);
+        self.millis = pace.millis;
+        answer
+    }
+
+    /// As `wait`, but for one round: None where nothing came to its end in it and not all were idle.
+    /// Then it has rested until a link or the hall had news or something else ended the hall's
+    /// rests, no longer than a quarter of a second, and is to be called again.
+    pub fn wait_once(&mut self, hall: &mut H) -> Option<Result<QueueCame, WaitFault>>
+        requires listens { H.listens hall.old }
+        ensures listens { H.listens hall.new }
+        ensures goes { IfSome result (Goes H.Way.tells F.gives F.may_fail H.Way.history
+            (H.honest hall.old × IsTrusted H.Way.tells F.gives F.may_fail H.Way.honest self.old)
+            self.old self.new) }
+        ensures none { IfNone result (IsUnder self.old.kept self.new.kept) }
+        ensures empty { IfSome result (IsEmptyExactly self.old.kept) }
+        ensures idle { IfSome result (IsIdleThen H.Way.idle_count
+            (H.idle_count hall.old) (H.idle_count hall.new) self.new.live) }
+        ensures files { self.new.files ≡ self.old.files }
+        ensures trusted { H.honest hall.old
+            → IsTrusted H.Way.tells F.gives F.may_fail H.Way.honest self.old
+            → IsTrusted H.Way.tells F.gives F.may_fail H.Way.honest self.new × H.honest hall.new }
+        ensures cause { IfSome result (IsHallFault (H.count hall.old) (H.count hall.new)) }
+        ensures rises { H.count hall.old ≤ H.count hall.new }
+        ensures later { H.idle_count hall.old ≤ H.idle_count hall.new }
+        ensures staffed { (least : AmountsValue)
+            → IsStaffed H.Way.sure H.Way.offers H.manned H.staffed least hall.old self.old
+            → IfNone result
+            (IsStaffed H.Way.sure H.Way.offers H.manned H.staffed least hall.new self.new)
+            × IfSome result (λ answer. UnlessMemory answer
+            (IsStaffed H.Way.sure H.Way.offers H.manned H.staffed least hall.new self.new)) }
+        ensures answers { (least : AmountsValue)
+            → IsStaffed H.Way.sure H.Way.offers H.manned H.staffed least hall.old self.old
+            → H.count hall.new ≡ H.count hall.old → IfSome result IsAnswered }
+    {
+        self.part(hall);
+        match self.at_once() {
+            Some(came) => Some(Ok(came)),
+            None => self.paced(hall),
         }
     }
 }

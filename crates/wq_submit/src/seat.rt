@@ -1,6 +1,11 @@
 //! A peer of a queue.
-ghost use Rattle.std.specs.Prelude.{◌≡◌, [], ◌∷◌, ◌++◌, None, Some, false, true};
-ghost use Rattle.wq_submit.specs.Rounds.{id_of};
+ghost use Rattle.std.specs.Prelude.{◌≡◌, ◌≤◌, ◌==◌, [], ◌∷◌, ◌++◌, None, Some, false, position, true};
+ghost use Rattle.flow_types.specs.declared.numbers.Amounts.{Amounts as AmountsValue};
+ghost use Rattle.flow_types.specs.Plans.{most_input_bytes};
+ghost use Rattle.resource_pack.specs.Occupancy.{no_tasks};
+ghost use Rattle.wq_submit.specs.Queues.{IsWithin};
+ghost use Rattle.wq_submit.specs.Rounds.{IsReady, id_of};
+ghost use Rattle.wq_submit.specs.Seats.{IsRested, closed_runs};
 
 mod asking;
 mod health;
@@ -45,9 +50,16 @@ pub(crate) struct Seat<F: Commands, L: Link<F>> {
     health: Health,
 }
 
+// Where the first of these runs stands with the attempt.
+fn place_of(runs: &[Run], attempt: AttemptNo) -> Option<usize>
+    ensures { result ≡ position (λ r. r.attempt.0 == attempt.0) runs.now }
+{
+    runs.iter().position(|run| run.attempt.0 == attempt.0)
+}
+
 impl<F: Commands, L: Link<F>> Model for Seat<F, L> {
     ghost use Rattle.std.specs.Prelude.{◌≤◌, length};
-    ghost use Rattle.wq_submit.specs.Rounds.{SeatState};
+    ghost use Rattle.wq_submit.specs.Seats.{SeatState};
 
     ghost Value = { SeatState L };
 
@@ -56,6 +68,7 @@ impl<F: Commands, L: Link<F>> Model for Seat<F, L> {
       stated = s.stated;
       runs = s.runs.items;
       again = s.again;
+      health = s.health;
       gone = s.gone;
     } };
 
@@ -70,6 +83,7 @@ impl<F: Commands, L: Link<F>> Seat<F, L> {
           stated = None;
           runs = [];
           again = None;
+          health = record { lost = 0; rests = 0; next = 1 };
           gone = false;
         } }
     {
@@ -101,8 +115,13 @@ impl<F: Commands, L: Link<F>> Seat<F, L> {
     }
 
     // What its runs take together.
-    fn occupied(&self, total: Amounts) -> Occupied {
+    fn occupied(&self, total: Amounts) -> Occupied
+        ensures { self.now.runs ≡ [] → result ≡ no_tasks }
+    {
         let mut occupied = Occupied::nothing();
+        if self.runs.is_empty() {
+            return occupied;
+        }
         for run in &self.runs {
             occupied.add(AWAY, total, run.needs, run.bytes);
         }
@@ -110,13 +129,18 @@ impl<F: Commands, L: Link<F>> Seat<F, L> {
     }
 
     // Whether it can be given something more: it has taken all that was sent, and doesn't rest.
-    fn is_open(&self) -> bool {
+    fn is_open(&self) -> bool
+        ensures { L.sure self.now.peer.way → IsRested self.now.health → result ≡ true }
+    {
         self.peer.behind() == 0 && !self.health.is_resting(self.runs.is_empty())
     }
 
     /// Whether a task of these needs and so many bytes of inputs fits it.
     pub fn fits(&self, needs: Needs, bytes: u64) -> bool
         ensures live { result ≡ true → self.now.gone ≡ false }
+        ensures room { (least : AmountsValue) → L.sure self.now.peer.way
+            → self.now.gone ≡ false → IsReady least self.now → IsWithin least needs
+            → bytes ≤ most_input_bytes → result ≡ true }
     {
         match self.stated {
             Some(stated) => {
@@ -142,23 +166,29 @@ impl<F: Commands, L: Link<F>> Seat<F, L> {
 
     // An attempt came to no end there.
     fn note_lost(&mut self)
-        ensures { self.new ≡ self.old }
+        ensures { self.new ≡ record self.old { health = self.new.health } }
     {
         self.health.lose();
     }
 
     // An attempt came to its end there.
     fn note_ended(&mut self)
-        ensures { self.new ≡ self.old }
+        ensures only { self.new ≡ record self.old { health = self.new.health } }
+        ensures rested { IsRested self.new.health }
     {
         self.health.recover();
     }
 
     // One attempt more runs there, where there is room and memory for it. It answers whether it does.
     fn hold(&mut self, id: TaskId, attempt: AttemptNo, needs: Needs, bytes: u64) -> bool
-        ensures peer { self.new.peer ≡ self.old.peer }
-        ensures again { self.new.again ≡ self.old.again }
-        ensures gone { self.new.gone ≡ self.old.gone }
+        ensures only { self.new ≡ record self.old { runs = self.new.runs } }
+        ensures held { result ≡ true → self.new.runs ≡ self.old.runs ++ record {
+          id = id;
+          attempt = attempt;
+          needs = needs;
+          bytes = bytes;
+        } ∷ [] }
+        ensures other { result ≡ false → self.new.runs ≡ self.old.runs }
     {
         if self.runs.len() >= MOST_RUNS {
             return false;
@@ -186,11 +216,9 @@ impl<F: Commands, L: Link<F>> Seat<F, L> {
 
     // The attempt runs there no more.
     fn close(&mut self, attempt: AttemptNo)
-        ensures peer { self.new.peer ≡ self.old.peer }
-        ensures gone { self.new.gone ≡ self.old.gone }
-        ensures again { self.new.again ≡ self.old.again }
+        ensures { self.new ≡ record self.old { runs = closed_runs attempt self.old.runs } }
     {
-        if let Some(at) = self.runs.iter().position(|run| run.attempt.0 == attempt.0) {
+        if let Some(at) = place_of(self.runs.as_slice(), attempt) {
             let _ = self.runs.remove(at);
         }
     }

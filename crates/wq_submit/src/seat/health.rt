@@ -1,5 +1,7 @@
-//! How a peer has done of late, by which it is given more or not. No contract speaks of it: it
-//! decides when something is asked, and never what is true of it.
+//! How a peer has done of late, by which it is given more or not: one that lost no attempt never
+//! rests.
+ghost use Rattle.std.specs.Prelude.{◌≡◌, false};
+ghost use Rattle.wq_submit.specs.Seats.{IsRested};
 
 /// So many attempts in a row that came to no end make a peer sick.
 const SICK: u32 = 3;
@@ -19,7 +21,9 @@ pub(super) struct Health {
 
 impl Health {
     /// A peer that was asked for nothing yet.
-    pub fn new() -> Health {
+    pub fn new() -> Health
+        ensures { result ≡ record { lost = 0; rests = 0; next = 1 } }
+    {
         Health {
             lost: 0,
             rests: 0,
@@ -37,19 +41,25 @@ impl Health {
     }
 
     /// An attempt came to its end there.
-    pub fn recover(&mut self) {
+    pub fn recover(&mut self)
+        ensures { IsRested self.new }
+    {
         self.lost = 0;
         self.rests = 0;
         self.next = 1;
     }
 
     /// A second has gone by.
-    pub fn beat(&mut self) {
+    pub fn beat(&mut self)
+        ensures { IsRested self.old → IsRested self.new }
+    {
         self.rests = self.rests.saturating_sub(1);
     }
 
     /// Whether it is to be given nothing now: it rests, or it is sick and something runs there.
-    pub fn is_resting(&self, is_idle: bool) -> bool {
+    pub fn is_resting(&self, is_idle: bool) -> bool
+        ensures { IsRested self.now → result ≡ false }
+    {
         self.rests > 0 || self.lost >= SICK && !is_idle
     }
 }

@@ -1,17 +1,16 @@
 //! When a peer is left, and what it is sent on.
-ghost use Rattle.std.specs.Prelude.{◌≡◌, ◌<◌, ℕ, List, Option, IfOk, OnOk, true};
+ghost use Rattle.std.specs.Prelude.{◌≡◌, ◌<◌, ℕ, List, IfOk, OnOk, true};
+ghost use Rattle.links.specs.Honesty.{OwesNothing};
+ghost use Rattle.links.specs.Passings.{received_in, sent_in};
+ghost use Rattle.peers.specs.States.{GoesOn, OnlyMemory};
 ghost use Rattle.task_book.specs.declared.task.Held.{Held as HeldValue};
-ghost use Rattle.wq_submit.specs.declared.run.Again.{Again as AgainValue};
-ghost use Rattle.wq_submit.specs.Seats.{IsAtWork};
+ghost use Rattle.wq_submit.specs.Seats.{IsAtWork, IsRested};
 
 use super::{Look, Seat};
 use links::Link;
 use outside::Commands;
-use peers::{Leave, Listened};
+use peers::{Leave, Listened, sure_links_are_orderly};
 use std::alloc::Global;
-
-/// A peer that said no hello is left after so many idle answers, each of about a second.
-const MOST_IDLES: u64 = 8;
 
 /// So many turns after something was said a word is said that the peer passes over, so that the
 /// system notices one that is gone.
@@ -26,19 +25,10 @@ pub(crate) struct Turn {
 }
 
 impl<F: Commands, L: Link<F>> Seat<F, L> {
-    // Whether it said no hello for long, or what came can't begin with one.
-    fn is_unwelcome(&self) -> bool {
-        self.stated.is_none() && self.peer.idles() >= MOST_IDLES || self.peer.is_stranger()
-    }
-
-    // Whether it was silent for so many seconds, and something runs there.
-    fn is_lost(&self, limit: u64) -> bool {
-        !self.runs.is_empty() && self.silent >= limit
-    }
-
     // A second has gone by.
     fn beat(&mut self)
-        ensures { self.new ≡ self.old }
+        ensures only { self.new ≡ record self.old { health = self.new.health } }
+        ensures rested { IsRested self.old.health → IsRested self.new.health }
     {
         self.quiet = self.quiet.saturating_add(1);
         self.silent = self.silent.saturating_add(1);
@@ -49,10 +39,12 @@ impl<F: Commands, L: Link<F>> Seat<F, L> {
     fn probe(&mut self, alloc: Global) -> Result<(), Leave>
         ensures gone { self.new.gone ≡ self.old.gone }
         ensures works { (files : List (List ℕ)) (held : List HeldValue) (next : ℕ) → L.tells
-            → IsAtWork F.gives F.may_fail L.history files held next self.old.peer self.old.again
+            → IsAtWork F.gives F.may_fail L.history files held next self.old
             → OnOk result (IsAtWork F.gives F.may_fail L.history files held next
-            self.new.peer self.new.again) }
-        ensures honest { L.honest self.old.peer.way → L.honest self.new.peer.way }
+            self.new) }
+        ensures on { GoesOn L.honest L.sure L.offers self.old.peer.way self.new.peer.way }
+        ensures only { self.new ≡ record self.old { peer = self.new.peer } }
+        ensures calm { L.sure self.old.peer.way → OnlyMemory result }
     {
         self.quiet = 0;
         self.peer.probe(alloc)
@@ -62,29 +54,32 @@ impl<F: Commands, L: Link<F>> Seat<F, L> {
     fn flush(&mut self, limit: u64) -> Result<(), Leave>
         ensures gone { self.new.gone ≡ self.old.gone }
         ensures works { (files : List (List ℕ)) (held : List HeldValue) (next : ℕ) → L.tells
-            → IsAtWork F.gives F.may_fail L.history files held next self.old.peer self.old.again
+            → IsAtWork F.gives F.may_fail L.history files held next self.old
             → OnOk result (IsAtWork F.gives F.may_fail L.history files held next
-            self.new.peer self.new.again) }
-        ensures honest { L.honest self.old.peer.way → L.honest self.new.peer.way }
+            self.new) }
+        ensures on { GoesOn L.honest L.sure L.offers self.old.peer.way self.new.peer.way }
+        ensures only { self.new ≡ record self.old { peer = self.new.peer } }
+        ensures calm { L.sure self.old.peer.way → OnlyMemory result }
     {
         self.peer.flush(limit)
     }
 
     // A second has gone by: what was said goes on, and where something runs and nothing was said
-    // for a minute a word is said that the peer passes over. One that is silent for too long is to
-    // be left.
+    // for a minute a word is said that the peer passes over.
     fn tend(&mut self, alloc: Global, limit: u64) -> Result<(), Leave>
         ensures gone { self.new.gone ≡ self.old.gone }
         ensures works { (files : List (List ℕ)) (held : List HeldValue) (next : ℕ) → L.tells
-            → IsAtWork F.gives F.may_fail L.history files held next self.old.peer self.old.again
+            → IsAtWork F.gives F.may_fail L.history files held next self.old
             → OnOk result (IsAtWork F.gives F.may_fail L.history files held next
-            self.new.peer self.new.again) }
-        ensures honest { L.honest self.old.peer.way → L.honest self.new.peer.way }
+            self.new) }
+        ensures on { GoesOn L.honest L.sure L.offers self.old.peer.way self.new.peer.way }
+        ensures only { self.new ≡ record self.old {
+          peer = self.new.peer;
+          health = self.new.health;
+        } }
+        ensures calm { L.sure self.old.peer.way → OnlyMemory result }
     {
         self.beat();
-        if self.is_lost(limit) {
-            return Err(Leave::Unexpected);
-        }
         match self.flush(limit) {
             Ok(()) => {}
             Err(leave) => return Err(leave),
@@ -99,12 +94,17 @@ impl<F: Commands, L: Link<F>> Seat<F, L> {
     fn listen(&mut self, alloc: Global, is_due: bool) -> Result<Look, Leave>
         ensures gone { self.new.gone ≡ self.old.gone }
         ensures works { (files : List (List ℕ)) (held : List HeldValue) (next : ℕ) → L.tells
-            → IsAtWork F.gives F.may_fail L.history files held next self.old.peer self.old.again
+            → IsAtWork F.gives F.may_fail L.history files held next self.old
             → OnOk result (IsAtWork F.gives F.may_fail L.history files held next
-            self.new.peer self.new.again) }
+            self.new) }
         ensures idle { IfOk result (λ look. look.was_idle ≡ true
             → 0 < L.idle_count self.new.peer.way) }
-        ensures honest { L.honest self.old.peer.way → L.honest self.new.peer.way }
+        ensures on { GoesOn L.honest L.sure L.offers self.old.peer.way self.new.peer.way }
+        ensures only { self.new ≡ record self.old { peer = self.new.peer } }
+        ensures calm { L.sure self.old.peer.way → OnlyMemory result }
+        ensures owes { L.tells → L.sure self.old.peer.way → IfOk result (λ look.
+            look.was_idle ≡ true → OwesNothing (sent_in (L.history self.new.peer.way))
+            (received_in (L.history self.new.peer.way))) }
     {
         if !self.peer.ready() && !is_due {
             return Ok(Look {
@@ -132,12 +132,20 @@ impl<F: Commands, L: Link<F>> Seat<F, L> {
     fn serve(&mut self, alloc: Global, turn: Turn) -> Result<Look, Leave>
         ensures gone { self.new.gone ≡ self.old.gone }
         ensures works { (files : List (List ℕ)) (held : List HeldValue) (next : ℕ) → L.tells
-            → IsAtWork F.gives F.may_fail L.history files held next self.old.peer self.old.again
+            → IsAtWork F.gives F.may_fail L.history files held next self.old
             → OnOk result (IsAtWork F.gives F.may_fail L.history files held next
-            self.new.peer self.new.again) }
+            self.new) }
         ensures idle { IfOk result (λ look. look.was_idle ≡ true
             → 0 < L.idle_count self.new.peer.way) }
-        ensures honest { L.honest self.old.peer.way → L.honest self.new.peer.way }
+        ensures on { GoesOn L.honest L.sure L.offers self.old.peer.way self.new.peer.way }
+        ensures only { self.new ≡ record self.old {
+          peer = self.new.peer;
+          health = self.new.health;
+        } }
+        ensures calm { L.sure self.old.peer.way → OnlyMemory result }
+        ensures owes { L.tells → L.sure self.old.peer.way → IfOk result (λ look.
+            look.was_idle ≡ true → OwesNothing (sent_in (L.history self.new.peer.way))
+            (received_in (L.history self.new.peer.way))) }
     {
         if !turn.is_due {
             return self.listen(alloc, false);
@@ -148,19 +156,30 @@ impl<F: Commands, L: Link<F>> Seat<F, L> {
         }
     }
 
-    /// As `serve`, of a peer that isn't to be left before; and of one of which more may be there to
-    /// be heard nothing is read.
+    /// As `serve`, unless what came can't begin with a hello; and of a peer of which more may be there
+    /// to be heard nothing is read.
     pub(super) fn attend(&mut self, alloc: Global, turn: Turn) -> Result<Look, Leave>
         ensures gone { self.new.gone ≡ self.old.gone }
         ensures works { (files : List (List ℕ)) (held : List HeldValue) (next : ℕ) → L.tells
-            → IsAtWork F.gives F.may_fail L.history files held next self.old.peer self.old.again
+            → IsAtWork F.gives F.may_fail L.history files held next self.old
             → OnOk result (IsAtWork F.gives F.may_fail L.history files held next
-            self.new.peer self.new.again) }
+            self.new) }
         ensures idle { IfOk result (λ look. look.was_idle ≡ true
             → 0 < L.idle_count self.new.peer.way) }
-        ensures honest { L.honest self.old.peer.way → L.honest self.new.peer.way }
+        ensures on { GoesOn L.honest L.sure L.offers self.old.peer.way self.new.peer.way }
+        ensures only { self.new ≡ record self.old {
+          peer = self.new.peer;
+          health = self.new.health;
+        } }
+        ensures calm { (files : List (List ℕ)) (held : List HeldValue) (next : ℕ) → L.tells
+            → IsAtWork F.gives F.may_fail L.history files held next self.old
+            → L.sure self.old.peer.way → OnlyMemory result }
+        ensures owes { L.tells → L.sure self.old.peer.way → IfOk result (λ look.
+            look.was_idle ≡ true → OwesNothing (sent_in (L.history self.new.peer.way))
+            (received_in (L.history self.new.peer.way))) }
     {
-        if self.is_unwelcome() {
+        sure_links_are_orderly::<F, L>();
+        if self.peer.is_stranger() {
             return Err(Leave::Unexpected);
         }
         if self.is_full {

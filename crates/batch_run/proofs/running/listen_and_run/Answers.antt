@@ -1,6 +1,7 @@
 use Rattle.std.proofs.Common.{ℕ, arith, string_bytes, subst}
 use Rattle.batch_run.specs.Ends.{IsBrought, WasIdle, most_idles}
 use Rattle.batch_run.proofs.Batches.{brought_fairer, fails_wider, run_wider, text_so}
+use Rattle.batch_run.proofs.Manned.{never_idle}
 use Rattle.batch_run.proofs.running.listen_and_run.Goals as goal
 
 pub returns-in-Ok-clause-ends : goal.returns-in-Ok-clause-ends
@@ -18,3 +19,9 @@ returns-in-Ok-clause-cause g c =
 
 pub returns-in-Err-clause-cause : goal.returns-in-Err-clause-cause
 returns-in-Err-clause-cause g c = fails_wider ⊥ _ (g.H.Hall.count c.args.hall.now) (g.H.Hall.count c.args.hall.now) (g.H.Hall.count c.listen.new.hall) (g.H.Hall.count c.listen.new.hall) c.in-Err.cause (λ never. absurd never) (omega arith) (omega arith) c.in-Err.ensures.cause
+
+pub returns-in-Ok-clause-manned : goal.returns-in-Ok-clause-manned
+returns-in-Ok-clause-manned g c least fit is = c.run_tasks.ensures.manned least fit (c.listen.ensures.manned least is)
+
+pub returns-in-Err-clause-manned : goal.returns-in-Err-clause-manned
+returns-in-Err-clause-manned g c least fit is = never_idle (g.H.Hall.count c.args.hall.now) (g.H.Hall.count c.listen.new.hall) c.in-Err.cause c.in-Err.ensures.cause

@@ -21,3 +21,9 @@ returns-in-Ok-clause-ends g c =
 pub returns-in-Err-clause-ends : goal.returns-in-Err-clause-ends
 returns-in-Err-clause-ends g c =
     subst (λ (es : List End). MayEndSo (IsBrought g.H.Way.Link.tells (g.H.Hall.honest c.args.hall.now × IsTrusted g.H.Way.Link.tells g.F.Commands.gives g.F.Commands.may_fail g.H.Way.Link.honest c.args.queue.now) g.F.Commands.gives g.F.Commands.may_fail g.H.Way.Link.history) c.args.tasks.items es) (sym c.requires.ends) (open_so (IsBrought g.H.Way.Link.tells (g.H.Hall.honest c.args.hall.now × IsTrusted g.H.Way.Link.tells g.F.Commands.gives g.F.Commands.may_fail g.H.Way.Link.honest c.args.queue.now) g.F.Commands.gives g.F.Commands.may_fail g.H.Way.Link.history) c.args.tasks.items)
+
+pub returns-in-Ok-clause-manned : goal.returns-in-Ok-clause-manned
+returns-in-Ok-clause-manned g c least fit is = c.wait_all.ensures.manned least (c.submit_all.ensures.staffed least c.args.hall.now fit is)
+
+pub returns-in-Err-clause-manned : goal.returns-in-Err-clause-manned
+returns-in-Err-clause-manned g c least fit is = λ idle. let memory = c.in-Err.ensures.cause in let wrong : ⊥ = cc in wrong

@@ -5,6 +5,7 @@ use Rattle.batch_run.specs.declared.ends.End.{End}
 use Rattle.batch_run.specs.Batch.{is_over, printed}
 use Rattle.batch_run.specs.Ends.{IsBrought}
 use Rattle.batch_run.proofs.Batches.{over_so, text_of_ends}
+use Rattle.batch_run.proofs.Manned.{memory_not_idle}
 use Rattle.batch_run.proofs.running.run_tasks.Goals as goal
 
 pub returns-then-are_over-clause-ends : goal.returns-then-are_over-clause-ends
@@ -14,3 +15,6 @@ returns-then-are_over-clause-ends g c =
     text_of_ends string_bytes (IsBrought g.H.Way.Link.tells (g.H.Way.Link.tells × g.H.Hall.honest c.args.hall.now) g.F.Commands.gives g.F.Commands.may_fail g.H.Way.Link.history) c.args.tasks.items done c.told.result
     (over_so (IsBrought g.H.Way.Link.tells (g.H.Way.Link.tells × g.H.Hall.honest c.args.hall.now) g.F.Commands.gives g.F.Commands.may_fail g.H.Way.Link.history) c.args.tasks.items done c.in-Ok.ensures.ends over)
     (subst (λ (es : List End). IfOk c.told.result (λ text. string_bytes text ≡ printed es)) c.as_slice-then-are_over.ensures.value c.told.ensures.text)
+
+pub returns-then-are_over-clause-manned : goal.returns-then-are_over-clause-manned
+returns-then-are_over-clause-manned g c least fit is = memory_not_idle c.told.result c.told.ensures.cause

@@ -1,6 +1,7 @@
-use Rattle.wq_submit.specs.Queues.{IsTrusted}
+use Rattle.wq_submit.specs.Queues.{IsStaffed, IsTrusted}
 use Rattle.batch_run.specs.Ends.{IsBrought}
 use Rattle.batch_run.proofs.Batches.{given_noted, given_so, idle_counted, of_waited, shown_waited}
+use Rattle.batch_run.proofs.Manned.{goes_staffed}
 use Rattle.batch_run.proofs.running.step.Goals as goal
 
 pub returns-clause-of : goal.returns-clause-of
@@ -25,3 +26,10 @@ returns-clause-idles g c before was =
 
 pub returns-clause-cause : goal.returns-clause-cause
 returns-clause-cause g c = c.heed.ensures.cause (g.H.Hall.count c.args.hall.now) (g.H.Hall.count c.wait-answer.new.hall) c.wait-answer.ensures.cause
+
+pub returns-clause-staffed : goal.returns-clause-staffed
+returns-clause-staffed g c least is =
+    goes_staffed c.heed.result c.wait-answer.result (IsStaffed g.H.Way.Link.sure g.H.Way.Link.offers g.H.Hall.manned g.H.Hall.staffed least c.wait-answer.new.hall c.wait-answer.new.self) c.heed.ensures.on (c.wait-answer.ensures.staffed least is)
+
+pub returns-clause-manned : goal.returns-clause-manned
+returns-clause-manned g c least is = c.heed.ensures.late (c.wait-answer.ensures.manned least is)

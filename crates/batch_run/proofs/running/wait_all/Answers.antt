@@ -15,6 +15,7 @@ loop-init g c = record {
   rises = omega arith;
   idles = ([], refl, omega arith);
   few = omega arith;
+  staffed = λ least is. is;
 }
 
 pub loop-preserved : goal.loop-preserved
@@ -32,6 +33,7 @@ loop-preserved g c = record {
   rises = omega (arith, c.loop.invariant.rises, c.step.ensures.rises);
   idles = c.step.ensures.idles (g.H.Hall.idle_count c.args.hall.now) c.loop.invariant.idles;
   few = c.in-None-step.ensures.few;
+  staffed = λ least is. c.in-None-step.ensures.staffed least (c.loop.invariant.staffed least is);
 }
 
 pub returns-in-Some-step-clause-ends : goal.returns-in-Some-step-clause-ends
@@ -49,3 +51,6 @@ returns-in-Some-step-clause-cause g c =
     run_wider _ _ (g.H.Hall.count c.args.hall.now) (g.H.Hall.count c.loop.hall) (g.H.Hall.count c.step.new.hall) (g.H.Hall.count c.step.new.hall) c.in-Some-step.end
     (λ is. subst (λ (n : ℕ). WasIdle g.H.Way.Link.idle_count (g.H.Hall.idle_count c.args.hall.now) (g.H.Hall.idle_count c.step.new.hall) n) is (c.step.ensures.idles (g.H.Hall.idle_count c.args.hall.now) c.loop.invariant.idles))
     c.loop.invariant.rises (omega arith) c.in-Some-step.ensures.cause
+
+pub returns-in-Some-step-clause-manned : goal.returns-in-Some-step-clause-manned
+returns-in-Some-step-clause-manned g c least is = c.in-Some-step.ensures.manned least (c.loop.invariant.staffed least is)

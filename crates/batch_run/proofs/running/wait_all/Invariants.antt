@@ -1,6 +1,7 @@
 use Rattle.std.proofs.Common.{◌≡◌, ◌≤◌, ◌<◌, List, []}
+use Rattle.flow_types.specs.declared.numbers.Amounts.{Amounts}
 use Rattle.task_book.specs.declared.task.Submission.{Submission}
-use Rattle.wq_submit.specs.Queues.{IsTrusted}
+use Rattle.wq_submit.specs.Queues.{IsStaffed, IsTrusted}
 use Rattle.batch_run.specs.Ends.{AreOf, AreShown, IsBrought, MayEndSo, WasIdle}
 use Rattle.batch_run.proofs.running.wait_all.Given as goal
 
@@ -18,4 +19,5 @@ invariant-loop g l = record {
   rises : g.H.Hall.count l.fn.hall ≤ g.H.Hall.count l.hall;
   idles : WasIdle g.H.Way.Link.idle_count (g.H.Hall.idle_count l.fn.hall) (g.H.Hall.idle_count l.hall) l.idles;
   few : l.idles < 1000000;
+  staffed : (least : Amounts) → IsStaffed g.H.Way.Link.sure g.H.Way.Link.offers g.H.Hall.manned g.H.Hall.staffed least l.fn.hall l.fn.queue → IsStaffed g.H.Way.Link.sure g.H.Way.Link.offers g.H.Hall.manned g.H.Hall.staffed least l.hall l.queue;
 }

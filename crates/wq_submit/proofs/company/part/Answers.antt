@@ -7,6 +7,10 @@ loop-preserved g c = record {
   honest = λ is. c.back.ensures.honest (c.loop.invariant.honest is);
   faults = c.back.ensures.faults ∙ c.loop.invariant.faults;
   idles = c.back.ensures.idles ∙ c.loop.invariant.idles;
+  run = λ held are. c.take_gone.ensures.run held (c.loop.invariant.run held are);
+  live = c.take_gone.ensures.live ∙ c.loop.invariant.live;
+  manned = λ least is. c.back.ensures.manned least (c.loop.invariant.manned least is);
+  staffed = λ least is. c.back.ensures.staffed least (c.loop.invariant.staffed least is);
   next = c.take_gone.ensures.next ∙ c.loop.invariant.next;
   links = λ fair. c.take_gone.ensures.links (c.loop.invariant.links fair);
   served = λ files held tells all. c.take_gone.ensures.served files held tells (c.loop.invariant.served files held tells all);
@@ -14,3 +18,9 @@ loop-preserved g c = record {
 
 pub returns-in_default-clause-served : goal.returns-in_default-clause-served
 returns-in_default-clause-served g c files held tells all = c.take_gone.ensures.served files held tells (c.loop.invariant.served files held tells all)
+
+pub returns-in_default-clause-run : goal.returns-in_default-clause-run
+returns-in_default-clause-run g c held are = c.take_gone.ensures.run held (c.loop.invariant.run held are)
+
+pub returns-in_default-clause-live : goal.returns-in_default-clause-live
+returns-in_default-clause-live g c = c.take_gone.ensures.live ∙ c.loop.invariant.live

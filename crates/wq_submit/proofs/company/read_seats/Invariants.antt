@@ -1,6 +1,8 @@
-use Rattle.std.proofs.Common.{◌≡◌, ℕ, List, length, take, true}
+use Rattle.std.proofs.Common.{◌≡◌, ◌≤◌, ℕ, List, length, take, true}
+use Rattle.std.specs.Prelude.{slice_get}
 use Rattle.std.specs.List.{AllByRecursion}
-use Rattle.wq_submit.specs.Rounds.{AreServed, EndsRight, GoesOnAs, IsQuiet, ways_of}
+use Rattle.flow_types.specs.declared.numbers.Amounts.{Amounts}
+use Rattle.wq_submit.specs.Rounds.{AreReady, AreRun, AreServed, AreSure, EndsRight, GoesOnAs, IsQuiet, StaySure, ways_of}
 use Rattle.wq_submit.specs.Shown.{ShowsEnds}
 use Rattle.wq_submit.proofs.company.read_seats.Given as goal
 
@@ -18,5 +20,11 @@ invariant-loop-at g l = record {
       → AreServed g.F.Commands.gives g.F.Commands.may_fail g.L.Link.history files l.fn.book.held next l.fn.seats.items
       → EndsRight g.F.Commands.gives g.F.Commands.may_fail files l.fn.book.held l.book.held;
   honest : AllByRecursion g.L.Link.honest (ways_of l.fn.seats.items) → AllByRecursion g.L.Link.honest (ways_of l.seats.items);
+  run : AreRun l.fn.book.held l.fn.seats.items → AreRun l.book.held l.seats.items;
+  calm : (files : List (List ℕ)) (next : ℕ) (least : Amounts) → (g.L.Link.tells → AreServed g.F.Commands.gives g.F.Commands.may_fail g.L.Link.history files l.fn.book.held next l.fn.seats.items)
+      → AreSure g.L.Link.sure g.L.Link.offers least l.fn.seats.items → StaySure g.L.Link.sure g.L.Link.offers least l.fn.seats.items l.seats.items;
+  rest : (k : ℕ) → l.at ≤ k → slice_get l.seats.items k ≡ slice_get l.fn.seats.items k;
+  ready : (files : List (List ℕ)) (next : ℕ) (least : Amounts) → (g.L.Link.tells → AreServed g.F.Commands.gives g.F.Commands.may_fail g.L.Link.history files l.fn.book.held next l.fn.seats.items)
+      → AreSure g.L.Link.sure g.L.Link.offers least l.fn.seats.items → l.look.was_idle ≡ true → AreReady least (take l.at l.fn.seats.items) × (l.book ≡ l.fn.book);
   quiet : l.look.was_idle ≡ true → AllByRecursion (IsQuiet g.L.Link.idle_count) (take l.at l.seats.items);
 }

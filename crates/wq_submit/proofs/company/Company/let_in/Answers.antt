@@ -1,9 +1,14 @@
-use Rattle.std.proofs.Common.{◌≡◌, ◌⊎◌, ◌++◌, ◌∷◌, ◌∙◌, [], ap, subst}
-use Rattle.std.specs.Prelude.{is_ok}
+use Rattle.std.proofs.Common.{◌≡◌, ◌⊎◌, ◌++◌, ◌∷◌, ◌∙◌, [], Bool, List, Result, ap, cond, false, subst, sym}
+use Rattle.std.specs.Prelude.{OnOk, is_ok}
 use Rattle.peers.specs.States.{PeerState}
-use Rattle.wq_submit.specs.Rounds.{CompanyState, SeatState, ways_of}
+use Rattle.wq_submit.specs.Rounds.{AreRun, AreServed, CompanyState, live_of, ways_of}
+use Rattle.wq_submit.specs.Seats.{SeatState, own_run}
 use Rattle.wq_submit.proofs.Parting.{ways_pushed}
+use Rattle.wq_submit.proofs.Placing.{live_came, run_pushed}
+use Rattle.wq_submit.proofs.Serving.{new_works, served_pushed}
+use Rattle.flow_types.specs.declared.lists.Memory.{Memory}
 use Rattle.wq_submit.proofs.company.Company.let_in.Goals as goal
+use Rattle.wq_submit.proofs.company.Company.let_in.Goals.{in-Ok-push, in-Err-push}
 
 pub returns-clause-comes : goal.returns-clause-comes
 returns-clause-comes g c =
@@ -12,3 +17,30 @@ returns-clause-comes g c =
     let way : c.new-2.result.peer.way ≡ c.args.way = ap (λ (s : SeatState g.row.L.Denot). s.peer.way) c.new-2.ensures ∙ ap (λ (p : PeerState g.row.L.Denot). p.way) c.in-Ok.ensures.ok in
     subst (λ (s : CompanyState g.row.L.Denot). (ways_of now ≡ ways_of s.seats) ⊎ (ways_of now ≡ ways_of s.seats ++ c.args.way ∷ [])) c.self.view_is
     (subst (λ (w : g.row.L.Denot). (ways_of now ≡ ways_of c.self.inside.seats.items) ⊎ (ways_of now ≡ ways_of c.self.inside.seats.items ++ w ∷ [])) way pushed)
+
+pub returns-clause-served : goal.returns-clause-served
+returns-clause-served g c files held tells all =
+    let i = c.self.inside in
+    let s : SeatState g.row.L.Denot = c.new-2.result in
+    let was = subst (λ (x : CompanyState g.row.L.Denot). AreServed g.F.Commands.gives g.F.Commands.may_fail g.L.Link.history files held x.next x.seats) (sym c.self.view_is) all in
+    served_pushed g.F.Commands.gives g.F.Commands.may_fail g.L.Link.history files held i.next (is_ok c.push.result) i.seats.items c.push.new.self.items s c.push.ensures.items
+    (λ here. new_works g.F.Commands.gives g.F.Commands.may_fail g.L.Link.history files held i.next c.args.way own_run c.in-Ok.peer s c.in-Ok.ensures.ok c.new-2.ensures (c.in-Ok.ensures.serves c.requires.fresh.nothing_passed)) was
+
+pub returns-clause-run : goal.returns-clause-run
+returns-clause-run g c held are =
+    run_pushed held (is_ok c.push.result) c.self.inside.seats.items c.push.new.self.items c.new-2.result c.push.ensures.items (subst (λ (x : CompanyState g.row.L.Denot). AreRun held x.seats) (sym c.self.view_is) are)
+
+pub returns-clause-calm : goal.returns-clause-calm
+returns-clause-calm g c =
+    let i = c.self.inside in
+    let s : SeatState g.row.L.Denot = c.new-2.result in
+    let seats = c.push.new.self.items in
+    let lives : s.gone ≡ false = ap (λ (x : SeatState g.row.L.Denot). x.gone) c.new-2.ensures in
+    let way : s.peer.way ≡ c.args.way = ap (λ (x : SeatState g.row.L.Denot). x.peer.way) c.new-2.ensures ∙ ap (λ (p : PeerState g.row.L.Denot). p.way) c.in-Ok.ensures.ok in
+    let fact = live_of seats ≡ live_of c.args.self.now.seats ++ c.args.way ∷ [] in
+    elim c.match-push.branch [
+      | in-Ok-push b ↦ subst (λ (r : Result Unit Memory). OnOk r fact) (sym b.result-is)
+          (ap (λ (xs : List (SeatState g.row.L.Denot)). live_of xs) (c.push.ensures.items ∙ ap (λ (ok : Bool). cond ok (i.seats.items ++ s ∷ []) i.seats.items) (ap is_ok b.in-Ok-push.is))
+          ∙ live_came i.seats.items s lives ∙ ap (λ (w : g.row.L.Denot). live_of i.seats.items ++ w ∷ []) way ∙ ap (λ (x : CompanyState g.row.L.Denot). live_of x.seats ++ c.args.way ∷ []) c.self.view_is)
+      | in-Err-push b ↦ subst (λ (r : Result Unit Memory). OnOk r fact) (sym b.result-is) tt
+    ]

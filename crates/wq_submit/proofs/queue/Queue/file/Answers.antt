@@ -1,5 +1,5 @@
 use Rattle.std.proofs.Common.{map, sym, subst}
-use Rattle.wq_submit.specs.Queues.{IsTrusted, QueueState, work_of}
+use Rattle.wq_submit.specs.Queues.{IsStaffed, IsTrusted, QueueState, work_of}
 use Rattle.wq_submit.proofs.Knowing.{known_added, right_added}
 use Rattle.wq_submit.proofs.Serving.{served_added}
 use Rattle.wq_submit.proofs.queue.Queue.file.Goals as goal
@@ -11,6 +11,7 @@ invariant_of-self g c =
       known_added i.files c.add.new.self c.args.content c.add.result (map work_of i.book.held) c.add.ensures.ok c.add.ensures.err c.self.invariant.1,
       λ tells. served_added g.F.Commands.gives g.F.Commands.may_fail g.H.Way.Link.history i.files c.add.new.self c.args.content c.add.result i.book.held i.company.next i.company.seats c.add.ensures.ok c.add.ensures.err
           (c.self.invariant.2 tells),
+      c.self.invariant.3,
     )
 
 pub returns-clause-trusted : goal.returns-clause-trusted
@@ -22,3 +23,8 @@ returns-clause-trusted g c trusted =
       links = was.links;
       ends = right_added g.F.Commands.gives g.F.Commands.may_fail i.files c.add.new.self c.args.content c.add.result i.book.held c.add.ensures.ok c.add.ensures.err c.self.invariant.1 was.ends;
     }
+
+pub returns-clause-staffed : goal.returns-clause-staffed
+returns-clause-staffed g c least hall is =
+    let was = subst (λ (q : QueueState g.row.H-Way.Denot). IsStaffed g.H.Way.Link.sure g.H.Way.Link.offers g.H.Hall.manned g.H.Hall.staffed least hall q) (sym c.self.view_is) is in
+    record { met = was.met; links = was.links; tasks = was.tasks }

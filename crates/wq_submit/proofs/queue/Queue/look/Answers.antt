@@ -13,6 +13,7 @@ loop-preserved g c =
       listens = c.step.ensures.listens;
       under = under_then first.kept made.kept c.step.new.self.kept under (c.in-None-step.ensures.none (under_here first.kept made.kept under));
       trusted = λ fair trusted. let before = c.loop.invariant.trusted fair trusted in c.step.ensures.trusted (c.make_room.ensures.honest before.1) (c.make_room.ensures.trusted before.0);
+      staffed = λ least is. (c.in-None-step.ensures.staffed least (c.make_room.ensures.staffed least (c.loop.invariant.staffed least is))).0;
       files = c.step.ensures.files ∙ c.make_room.ensures.files ∙ c.loop.invariant.files;
       low = c.loop.invariant.low;
       high = omega (arith, c.loop.invariant.high, c.make_room.ensures.faults, c.step.ensures.rises);
@@ -50,3 +51,13 @@ returns-in-Some-step-clause-rises g c = omega (arith, c.loop.invariant.low, c.lo
 
 pub returns-in-Some-step-clause-later : goal.returns-in-Some-step-clause-later
 returns-in-Some-step-clause-later g c = omega (arith, c.loop.invariant.later, c.make_room.ensures.idles, c.step.ensures.later)
+
+pub returns-in-Some-step-clause-staffed : goal.returns-in-Some-step-clause-staffed
+returns-in-Some-step-clause-staffed g c least is = (c.in-Some-step.ensures.staffed least (c.make_room.ensures.staffed least (c.loop.invariant.staffed least is))).1
+
+pub returns-in-Some-step-clause-manned : goal.returns-in-Some-step-clause-manned
+returns-in-Some-step-clause-manned g c least is =
+    let first = c.args.self.now in
+    let made = c.make_room.new.self in
+    let under = subst (λ (k : Kept). IsUnder first.kept k) (sym c.make_room.ensures.kept) c.loop.invariant.under in
+    c.in-Some-step.ensures.manned least (under_here first.kept made.kept under) (c.make_room.ensures.staffed least (c.loop.invariant.staffed least is))

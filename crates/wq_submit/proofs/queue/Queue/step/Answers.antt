@@ -1,6 +1,14 @@
-use Rattle.std.proofs.Common.{◌∙◌, subst, sym}
-use Rattle.wq_submit.specs.Queues.{IsTrusted, IsUnder, QueueState}
-use Rattle.wq_submit.proofs.Waiting.{after_files, after_held, goes_after, goes_fault, idle_after, under_on}
+use Rattle.std.proofs.Common.{rules, ◌≡◌, ◌∙◌, Result, Some, Err, ap, subst, sym}
+use Rattle.wq_submit.specs.Queues.{IsStaffed, IsTrusted, IsUnder, QueueState}
+use Rattle.wq_submit.proofs.Waiting.{after_files, after_held, goes_after, goes_fault, idle_after, some_left, under_on}
+use Rattle.wq_submit.specs.declared.cause.QueueCame.{QueueCame}
+use Rattle.wq_submit.specs.declared.cause.QueueCame.TheVariants as came
+use Rattle.wq_submit.proofs.Beginning.{none_held}
+use Rattle.wq_submit.proofs.Staffing.{came_is, staffed_as}
+use Rattle.wq_submit.specs.declared.company.Stop.{Stop}
+use Rattle.wq_submit.specs.declared.company.Stop.TheVariants as stops
+use Rattle.wq_submit.specs.declared.seat.reading.Look.{Look}
+use Rattle.wq_submit.specs.Rounds.{UnlessWanting}
 use Rattle.wq_submit.proofs.queue.Queue.step.Goals as goal
 
 pub returns-in-Some-clause-goes : goal.returns-in-Some-clause-goes
@@ -34,3 +42,27 @@ returns-in-Some-clause-trusted g c fair trusted = let r = c.round.ensures.truste
 
 pub returns-in-None-clause-trusted : goal.returns-in-None-clause-trusted
 returns-in-None-clause-trusted g c fair trusted = let r = c.round.ensures.trusted fair trusted in (c.after.ensures.trusted r.0, subst g.H.Hall.honest (sym c.pause.ensures) r.1)
+
+pub returns-in-Some-clause-staffed : goal.returns-in-Some-clause-staffed
+returns-in-Some-clause-staffed g c least is =
+    (tt, staffed_as g.H.Way.Link.sure g.H.Way.Link.offers g.H.Hall.manned g.H.Hall.staffed least c.round.new.hall c.round.new.self c.after.new.self c.after.ensures.live (c.after.ensures.tasks least) (c.in-Ok.ensures.staffed least is))
+
+pub returns-in-None-clause-staffed : goal.returns-in-None-clause-staffed
+returns-in-None-clause-staffed g c least is = (
+  subst (λ (h : g.row.H.Denot). IsStaffed g.H.Way.Link.sure g.H.Way.Link.offers g.H.Hall.manned g.H.Hall.staffed least h c.after.new.self) (sym c.pause.ensures)
+      (staffed_as g.H.Way.Link.sure g.H.Way.Link.offers g.H.Hall.manned g.H.Hall.staffed least c.round.new.hall c.round.new.self c.after.new.self c.after.ensures.live (c.after.ensures.tasks least) (c.in-Ok.ensures.staffed least is)),
+  tt,
+)
+
+pub returns-in-Err-Hall-clause-staffed : goal.returns-in-Err-Hall-clause-staffed
+returns-in-Err-Hall-clause-staffed g c least is =
+    let hall : c.in-Err-Hall.field-0 ≡ stops.Hall = search rules in
+    let fact = IsStaffed g.H.Way.Link.sure g.H.Way.Link.offers g.H.Hall.manned g.H.Hall.staffed least c.round.new.hall c.round.new.self in
+    (tt, subst (λ (s : Stop). let r : Result Look Stop = Err s in UnlessWanting r fact) hall (c.in-Err-Hall.ensures.staffed least is))
+
+pub returns-in-Some-clause-manned : goal.returns-in-Some-clause-manned
+returns-in-Some-clause-manned g c least under is idle =
+    let same : c.in-Some.came ≡ came.Idle = came_is c.in-Some.came came.Idle idle in
+    let none = c.after.ensures.late (c.in-Some.is ∙ ap (λ (x : QueueCame). Some x) same) in
+    let ended = c.in-Ok.ensures.manned least is (c.in-Some.ensures.idle same) in
+    some_left c.args.self.now.kept c.round.new.self.kept c.round.ensures.work under.some (none_held c.round.new.self.kept.held ended none)

@@ -1,7 +1,9 @@
-use Rattle.std.proofs.Common.{◌∙◌, ℕ, ap, arith, subst}
+use Rattle.std.proofs.Common.{◌∙◌, ℕ, ap, arith, subst, sym}
 use Rattle.task_book.specs.Kept.{Kept}
 use Rattle.wq_submit.specs.Queues.{IsHallFault, IsTrusted, IsUnder, QueueState}
 use Rattle.wq_submit.proofs.Waiting.{empty_never, empty_parted, goes_parted, idle_never, idle_wider}
+use Rattle.wq_submit.proofs.Staffing.{answered, answered_now, came_is, staffed_as}
+use Rattle.wq_submit.specs.declared.cause.QueueCame.TheVariants as came
 use Rattle.wq_submit.proofs.queue.Queue.wait.Goals as goal
 
 pub returns-in-Some-clause-goes : goal.returns-in-Some-clause-goes
@@ -46,3 +48,27 @@ returns-in-Some-clause-later g c = omega (arith, c.part.ensures.idles)
 
 pub returns-in-None-clause-later : goal.returns-in-None-clause-later
 returns-in-None-clause-later g c = omega (arith, c.part.ensures.idles, c.look.ensures.later)
+
+pub returns-in-Some-clause-staffed : goal.returns-in-Some-clause-staffed
+returns-in-Some-clause-staffed g c least is =
+    staffed_as g.H.Way.Link.sure g.H.Way.Link.offers g.H.Hall.manned g.H.Hall.staffed least c.part.new.hall c.part.new.self c.at_once.new.self c.at_once.ensures.live (c.at_once.ensures.tasks least) (c.part.ensures.staffed least is)
+
+pub returns-in-None-clause-staffed : goal.returns-in-None-clause-staffed
+returns-in-None-clause-staffed g c least is =
+    c.look.ensures.staffed least (staffed_as g.H.Way.Link.sure g.H.Way.Link.offers g.H.Hall.manned g.H.Hall.staffed least c.part.new.hall c.part.new.self c.at_once.new.self c.at_once.ensures.live (c.at_once.ensures.tasks least) (c.part.ensures.staffed least is))
+
+pub returns-in-Some-clause-answers : goal.returns-in-Some-clause-answers
+returns-in-Some-clause-answers g c least is same = answered_now c.in-Some.came c.in-Some.ensures.busy
+
+pub returns-in-None-clause-answers : goal.returns-in-None-clause-answers
+returns-in-None-clause-answers g c least is same =
+    answered c.look.result (g.H.Hall.count c.part.new.hall) (g.H.Hall.count c.look.new.hall)
+    (c.look.ensures.manned least (staffed_as g.H.Way.Link.sure g.H.Way.Link.offers g.H.Hall.manned g.H.Hall.staffed least c.part.new.hall c.part.new.self c.at_once.new.self c.at_once.ensures.live (c.at_once.ensures.tasks least) (c.part.ensures.staffed least is)))
+    c.look.ensures.cause (same ∙ sym c.part.ensures.faults)
+
+pub returns-in-Some-clause-manned : goal.returns-in-Some-clause-manned
+returns-in-Some-clause-manned g c least is idle = c.in-Some.ensures.busy (came_is c.in-Some.came came.Idle idle)
+
+pub returns-in-None-clause-manned : goal.returns-in-None-clause-manned
+returns-in-None-clause-manned g c least is =
+    c.look.ensures.manned least (staffed_as g.H.Way.Link.sure g.H.Way.Link.offers g.H.Hall.manned g.H.Hall.staffed least c.part.new.hall c.part.new.self c.at_once.new.self c.at_once.ensures.live (c.at_once.ensures.tasks least) (c.part.ensures.staffed least is))
