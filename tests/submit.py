@@ -351,6 +351,21 @@ def submit_cancels():
         served.ends("the end", 0, {"held": 0})
         it.byes(worker)
 
+    with Crew("requests are answered at once while a task runs", {}, {"o0": b"0\n"}) as it:
+        served, worker = Served(it), it.worker("--cores", "1")
+        runs = served.task(HELD.format(0), "o0", cores=1)
+        it.wait("the task", lambda: it.there("up.0"))
+        began = time.monotonic()
+        for task in range(77, 85):
+            line = served.ask(cancel=task)
+            served.answers(f"the cancel of {task}", {"cancelled": False, "line": line, "task": task})
+        took = time.monotonic() - began
+        it.note("the time", [] if took < 4 else [f"eight answers took {took:.1f} seconds"])
+        it.beside("go")
+        served.answers("the task", {"line": runs, "status": 0})
+        served.ends("the end", 0, {"held": 0})
+        it.byes(worker)
+
     with Crew("the requests end while tasks are held", {}, {"o0": b"0\n", "o1": b"1\n"}) as it:
         served, worker = Served(it), it.worker("--cores", "2")
         lines = [served.task(HELD.format(at), f"o{at}", cores=1) for at in range(2)]

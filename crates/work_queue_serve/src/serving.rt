@@ -76,30 +76,30 @@ where
     unreachable!()
 }
 
-// Waits once, and answers what came. It tells whether no task is held.
-fn wait_once<F, W, H, O>(
-    rt: &W,
+// Has the queue go on for a round, and answers what came. It tells whether no task is held.
+fn wait_once<F, R, H, O>(
+    rt: &R,
     desk: &mut Desk<F, H>,
     hall: &mut H,
     out: &mut O,
 ) -> Result<bool, Halt>
 where
     F: Commands,
-    W: Wait + Files<File = File> + Clock + AllocGlobal,
+    R: Files<File = File> + Clock + AllocGlobal,
     H: Hall<F>,
     O: Sink,
     requires listens { H.listens hall.old }
     ensures listens { H.listens hall.new }
 {
-    match desk.queue.wait(rt, hall) {
-        Ok(QueueCame::Got(ready)) => {
+    match desk.queue.wait_once(hall) {
+        Some(Ok(QueueCame::Got(ready))) => {
             desk.give(rt, out, ready)?;
             Ok(false)
         }
-        Ok(QueueCame::Idle) => Ok(false),
-        Ok(QueueCame::Empty) => Ok(true),
-        Err(WaitFault::Hall { .. }) => Err(Halt::Stop(Stop::Network)),
-        Err(WaitFault::Memory) => Err(Halt::Stop(Stop::Memory)),
+        Some(Ok(QueueCame::Idle)) | None => Ok(false),
+        Some(Ok(QueueCame::Empty)) => Ok(true),
+        Some(Err(WaitFault::Hall { .. })) => Err(Halt::Stop(Stop::Network)),
+        Some(Err(WaitFault::Memory)) => Err(Halt::Stop(Stop::Memory)),
     }
 }
 
