@@ -10,10 +10,8 @@ use Rattle.worker_cache.specs.declared.held.Held.{Held}
 use Rattle.worker_cache.specs.declared.fault.PutRefused.TheVariants as refused
 use Rattle.worker_cache.specs.Answers.{Puts}
 use Rattle.worker_cache.specs.Caches.{Cached, Rows, same_key, place, row_at, bytes_in, is_pinned, pinned_in, kept_bytes, pinned_bytes, bytes_of, all_pinned, is_full, new_row, renewed, without, row_for, placed, make_room, put_in, content_of, content_in, is_linked, if_linked, held_in, held_of, held_bytes, has_pins}
-use Rattle.worker_cache.specs.Tables.{leaving, without_all}
 use Rattle.worker_cache.proofs.Weights.{of_joined, of_removed}
 use Rattle.worker_cache.proofs.Counts.{pinned_le, room_by, room_fits, last_stays}
-use Rattle.worker_cache.proofs.Leaving.{leaving_others, distinct_others, are_gone}
 use Rattle.worker_cache.proofs.Places.{same_self, HasNone, StandsAt, stands, here, there, kept_own, kept_all, next}
 
 -- ---- the row that is put
@@ -25,8 +23,6 @@ pub record IsPut (key : Key) (content : List ℕ) (rows : Rows) : Type 0 where
   old : Option (Key × Held)
   parts : placed key content rows ≡ others ++ last ∷ []
   none : HasNone key others
-  apart : IsDistinct same_key (keys_of others)
-  leaves : (excess : ℕ) → leaving key excess rows ≡ leaving key excess others
   same : same_key key last.0 ≡ true
   is : last.1.content ≡ content
   linked : last.1.unlinked ≡ false
@@ -36,8 +32,8 @@ pub record IsPut (key : Key) (content : List ℕ) (rows : Rows) : Type 0 where
   pins : all_pinned others + cond (has_pins (held_in old)) (held_bytes (held_in old)) 0 ≡ all_pinned rows
   pinned : pinned_in last ≡ cond (has_pins (held_in old)) (length content) 0
 
-put_new : (key : Key) (content : List ℕ) (rows : Rows) → (let none : Option ℕ = None in place key rows ≡ none) → HasNone key rows → IsDistinct same_key (keys_of rows) → IsPut key content rows
-put_new key content rows e none d =
+put_new : (key : Key) (content : List ℕ) (rows : Rows) → (let none : Option ℕ = None in place key rows ≡ none) → HasNone key rows → IsPut key content rows
+put_new key content rows e none =
     let old : Option (Key × Held) = None in
     let was : row_at rows (place key rows) ≡ old = ap (row_at rows) e in
     record {
@@ -46,8 +42,6 @@ put_new key content rows e none d =
       old = old;
       parts = ap (λ (at : Option ℕ). without at rows ++ row_for key content (row_at rows at) ∷ []) e;
       none = none;
-      apart = d;
-      leaves = λ excess. refl;
       same = same_self key;
       is = refl;
       linked = refl;
@@ -58,8 +52,8 @@ put_new key content rows e none d =
       pinned = refl;
     }
 
-put_again : (key : Key) (content : List ℕ) (rows : Rows) (at : ℕ) (row : Key × Held) → StandsAt key rows at row → IsDistinct same_key (keys_of rows) → IsPut key content rows
-put_again key content rows at row h d =
+put_again : (key : Key) (content : List ℕ) (rows : Rows) (at : ℕ) (row : Key × Held) → StandsAt key rows at row → IsPut key content rows
+put_again key content rows at row h =
     let others = remove rows at in
     let old : Option (Key × Held) = Some row in
     let was : row_at rows (place key rows) ≡ old = ap (row_at rows) h.found ∙ h.got in
@@ -74,8 +68,6 @@ put_again key content rows at row h d =
           ap (λ (f : Option ℕ). without f rows ++ row_for key content (row_at rows f) ∷ []) h.found
           ∙ ap (λ (r : Option (Key × Held)). others ++ row_for key content r ∷ []) h.got;
       none = h.others;
-      apart = distinct_others rows at d;
-      leaves = λ excess. sym (leaving_others key excess rows at row h.got h.same);
       same = h.same;
       is = refl;
       linked = refl;
@@ -89,8 +81,8 @@ put_again key content rows at row h d =
 pub is_put : (key : Key) (content : List ℕ) (rows : Rows) → IsDistinct same_key (keys_of rows) → IsPut key content rows
 is_put key content rows d =
     elim (stands key rows d) [
-      | inl none ↦ put_new key content rows none.0 none.1 d
-      | inr some ↦ put_again key content rows some.0 some.1 some.2 d
+      | inl none ↦ put_new key content rows none.0 none.1
+      | inr some ↦ put_again key content rows some.0 some.1 some.2
     ]
 
 -- ---- the counts
@@ -175,16 +167,6 @@ found_put cap key content rows p full =
     ap (content_of key) (put_stays cap key content rows p full)
     ∙ found_last key (make_room excess p.others) p.last (room_none key excess p.others p.none) p.same p.linked ∙ ap (λ (c : List ℕ). Some c) p.is
 
--- The rows that leave are noted before the content is put.
-gone_put : (cap : ℕ) (key : Key) (content : List ℕ) (rows : Rows) → IsPut key content rows → is_full key (length content) cap rows ≡ false
-    → without_all (leaving key (bytes_of (placed key content rows) - cap) rows) (placed key content rows) ≡ put_in cap key content rows
-gone_put cap key content rows p full =
-    let excess = bytes_of (placed key content rows) - cap in
-    ap (λ (keys : List Key). without_all keys (placed key content rows)) (p.leaves excess)
-    ∙ ap (without_all (leaving key excess p.others)) p.parts
-    ∙ are_gone key excess p.last p.others p.none p.apart
-    ∙ sym (put_stays cap key content rows p full)
-
 -- ---- what `put` counts
 
 pub kept_is : (key : Key) (content : List ℕ) (rows : Rows) (pinned old kept some : ℕ) (is : Bool) → IsPut key content rows
@@ -227,14 +209,10 @@ pub puts_done : (key : Key) (content : List ℕ) (cap : ℕ) (rows made : Rows) 
     → Puts (is_full key (length content) cap rows) key content (shown cap rows) (Ok tt) (shown cap made)
 puts_done key content cap rows made full e = rw full (ap (shown cap) e)
 
-pub made_is : (cap total over : ℕ) (key : Key) (content : List ℕ) (rows made : Rows) (keys : List Key) → IsPut key content rows
-    → is_full key (length content) cap rows ≡ false → made ≡ placed key content rows → total ≡ bytes_of made → over ≡ total - cap
-    → keys ≡ leaving key over rows → without_all keys made ≡ put_in cap key content rows
-made_is cap total over key content rows made keys p full is sum e noted =
-    let less : over ≡ bytes_of (placed key content rows) - cap = e ∙ ap (λ (n : ℕ). n - cap) (sum ∙ ap bytes_of is) in
-    ap (λ (ks : List Key). without_all ks made) (noted ∙ ap (λ (n : ℕ). leaving key n rows) less)
-    ∙ ap (without_all (leaving key (bytes_of (placed key content rows) - cap) rows)) is
-    ∙ gone_put cap key content rows p full
+pub made_is : (cap total : ℕ) (key : Key) (content : List ℕ) (rows made : Rows) → made ≡ placed key content rows → total ≡ bytes_of made
+    → make_room (total - cap) made ≡ put_in cap key content rows
+made_is cap total key content rows made is sum =
+    ap (λ (n : ℕ). make_room (n - cap) made) sum ∙ ap (λ (r : Rows). make_room (bytes_of r - cap) r) is
 
 pub of_err : {T E : Type 0} (r : Result T E) (A : Type 0) → is_err r ≡ true → OnErr r A → A
 of_err (Ok x) A e h = absurd cc

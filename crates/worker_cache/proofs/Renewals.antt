@@ -1,7 +1,7 @@
 -- A row that takes a content.
 use Rattle.std.proofs.Common.{◌≡◌, ℕ, zero, suc, true, List, [], ◌∷◌, ◌++◌, Option, Some, None, is_some, refl, sym, ap, ◌∙◌}
 use Rattle.std.specs.Prelude.{slice_get, remove, position}
-use Rattle.std.specs.Option.{option_map_or}
+use Rattle.std.specs.Option.{option_map, option_map_or}
 use Rattle.std.specs.Map.{keys_of}
 use Rattle.flow_types.specs.declared.messages.Key.{Key}
 use Rattle.worker_cache.specs.declared.held.Held.{Held}
@@ -61,3 +61,8 @@ placed_again key content rows some = again_by key content rows (place key rows) 
 pub placed_new : (key : Key) (content : List ℕ) (rows : Rows) → (let none : Option ℕ = None in place key rows ≡ none)
     → rows ++ (key, new_row content) ∷ [] ≡ placed key content rows
 placed_new key content rows none = sym (ap (λ (at : Option ℕ). without at rows ++ row_for key content (row_at rows at) ∷ []) none)
+
+-- a key that is found has a row
+pub some_held : {A B : Type 0} (f : A → B) (o : Option A) (x : Option B) → is_some o ≡ true → option_map f o ≡ x → is_some x ≡ true
+some_held f None x e h = absurd cc
+some_held f (Some a) x e h = sym (ap is_some h)

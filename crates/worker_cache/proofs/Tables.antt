@@ -1,17 +1,15 @@
 -- A table's words by key, as places in its rows.
-use Rattle.std.proofs.Common.{◌≡◌, ℕ, ◌+◌, ◌-◌, ◌<◌, ◌≤◌, Bool, true, false, cond, [], ◌∷◌, ◌++◌, length, take, Option, Some, None, refl, sym, ap, ◌∙◌, arith}
-use Rattle.std.specs.Prelude.{slice_get}
+use Rattle.std.proofs.Common.{◌≡◌, ℕ, zero, suc, ◌+◌, ◌-◌, ◌<◌, ◌≤◌, Bool, true, false, cond, [], ◌∷◌, ◌++◌, length, Option, Some, None, refl, sym, ap, ◌∙◌, arith}
+use Rattle.std.specs.Prelude.{slice_get, insert, remove}
 use Rattle.std.specs.Option.{option_map_or}
-use Rattle.std.specs.List.{IsDistinct}
-use Rattle.std.specs.Map.{keys_of, lookup, lookup_entry, remove_entry, set_value}
-use Rattle.lru.specs.LruCache.{LruCache, lru_cache, demoted, put_entries}
+use Rattle.std.specs.Map.{lookup, remove_entry, set_value}
+use Rattle.indexmap.specs.IndexMap.{move_index}
 use Rattle.std.proofs.lemmas.Bool.{lt-ltb, le-ltb}
-use Rattle.std.proofs.lemmas.List.{take_all}
 use Rattle.flow_types.specs.declared.messages.Key.{Key}
 use Rattle.worker_cache.specs.declared.held.Held.{Held}
 use Rattle.worker_cache.specs.Caches.{Rows, same_key, place, row_at, held_in, without, made_last, newest, set_value_at, changed_at, with_pin, most_pins}
-use Rattle.worker_cache.specs.Tables.{at_place, rows_in, most_rows}
-use Rattle.worker_cache.proofs.Places.{here, there, next, same_self}
+use Rattle.worker_cache.specs.Tables.{at_place}
+use Rattle.worker_cache.proofs.Places.{here, there, next}
 
 -- ---- the row of a key
 
@@ -28,15 +26,6 @@ row_here key row rows e = ap (row_at (row ∷ rows)) (here key row rows e)
 
 pub row_there : (key : Key) (row : Key × Held) (rows : Rows) → same_key key row.0 ≡ false → row_of key (row ∷ rows) ≡ row_of key rows
 row_there key row rows e = ap (row_at (row ∷ rows)) (there key row rows e) ∙ row_next row rows (place key rows)
-
-entry_by : (key : Key) (row : Key × Held) (rows : Rows) (b : Bool) → same_key key row.0 ≡ b → lookup_entry (same_key key) rows ≡ row_of key rows
-    → cond b (Some row) (lookup_entry (same_key key) rows) ≡ row_of key (row ∷ rows)
-entry_by key row rows true e h = sym (row_here key row rows e)
-entry_by key row rows false e h = h ∙ sym (row_there key row rows e)
-
-pub entry_is : (key : Key) (rows : Rows) → lookup_entry (same_key key) rows ≡ row_of key rows
-entry_is key [] = refl
-entry_is key (row ∷ rows) = entry_by key row rows (same_key key row.0) refl (entry_is key rows)
 
 held_by : (key : Key) (row : Key × Held) (rows : Rows) (b : Bool) → same_key key row.0 ≡ b → lookup (same_key key) rows ≡ held_in (row_of key rows)
     → cond b (Some row.1) (lookup (same_key key) rows) ≡ held_in (row_of key (row ∷ rows))
@@ -64,15 +53,27 @@ pub removed_is : (key : Key) (rows : Rows) → remove_entry (same_key key) rows 
 removed_is key [] = refl
 removed_is key (row ∷ rows) = removed_by key row rows (same_key key row.0) refl (removed_is key rows)
 
-last_by : (rows : Rows) (o : Option ℕ) → option_map_or (λ e. without o rows ++ e ∷ []) (row_at rows o) rows ≡ option_map_or (made_last rows) o rows
-last_by rows None = refl
-last_by rows (Some at) = refl
+-- a row goes behind the others
+inserted_last : (xs : Rows) (x : Key × Held) → insert xs (length xs) x ≡ xs ++ x ∷ []
+inserted_last [] x = refl
+inserted_last (y ∷ ys) x = ap (λ (zs : Rows). y ∷ zs) (inserted_last ys x)
 
-pub demoted_is : (key : Key) (rows : Rows) → demoted (same_key key) rows ≡ newest key rows
-demoted_is key rows =
-    ap (λ (o : Option (Key × Held)). option_map_or (λ e. remove_entry (same_key key) rows ++ e ∷ []) o rows) (entry_is key rows)
-    ∙ ap (λ (left : Rows). option_map_or (λ e. left ++ e ∷ []) (row_of key rows) rows) (removed_is key rows)
-    ∙ last_by rows (place key rows)
+removed_len : (xs : Rows) (at : ℕ) (x : Key × Held) → slice_get xs at ≡ Some x → length (remove xs at) ≡ length xs - 1
+removed_len [] at x e = absurd cc
+removed_len (y ∷ ys) zero x e = omega arith
+removed_len (y ∷ []) (suc at) x e = absurd cc
+removed_len (y ∷ z ∷ ys) (suc at) x e = omega (arith, removed_len (z ∷ ys) at x e)
+
+moved_at : (rows : Rows) (at last : ℕ) (found : Option (Key × Held)) → slice_get rows at ≡ found → last ≡ length rows - 1
+    → option_map_or (λ x. insert (remove rows at) last x) found rows ≡ option_map_or (λ x. remove rows at ++ x ∷ []) found rows
+moved_at rows at last None e n = refl
+moved_at rows at last (Some x) e n =
+    ap (λ (k : ℕ). insert (remove rows at) k x) (n ∙ sym (removed_len rows at x e)) ∙ inserted_last (remove rows at) x
+
+-- the row at a place, moved to the last one
+pub moved_is : (key : Key) (rows : Rows) (at last : ℕ) → place key rows ≡ Some at → last ≡ length rows - 1 → move_index rows at last ≡ newest key rows
+moved_is key rows at last found n =
+    moved_at rows at last (slice_get rows at) refl n ∙ sym (ap (λ (o : Option ℕ). option_map_or (made_last rows) o rows) found)
 
 -- ---- a row with another value
 
@@ -126,13 +127,17 @@ pub unchanged_is : (change : Held → Held) (key : Key) (rows : Rows) → (let n
     → rows ≡ at_place (changed_at change) key rows
 unchanged_is change key rows h = same_by change rows (place key rows) (sym (held_is key rows) ∙ h)
 
--- ---- what a list does
+-- ---- what a table does
 
-pub changed_to : (change : Held → Held) (key : Key) (list : LruCache Key Held) (held new : Held) → Some held ≡ lookup (same_key key) list.entries → new ≡ change held
-    → lru_cache (set_value (same_key key) list.entries new) list.cap ≡ lru_cache (at_place (changed_at change) key list.entries) list.cap
-changed_to change key list held new h e =
-    ap (λ (v : Held). lru_cache (set_value (same_key key) list.entries v) list.cap) e
-    ∙ ap (λ (rows : Rows). lru_cache rows list.cap) (changed_is change key list.entries held (sym h))
+pub changed_to : (change : Held → Held) (key : Key) (rows now made : Rows) (held new : Held) → made ≡ set_value (same_key key) rows new → Some held ≡ lookup (same_key key) rows → new ≡ change held → rows ≡ now
+    → made ≡ at_place (changed_at change) key now
+changed_to change key rows now made held new is h e view =
+    is ∙ ap (λ (v : Held). set_value (same_key key) rows v) e ∙ changed_is change key rows held (sym h)
+    ∙ ap (at_place (changed_at change) key) view
+
+pub same_to : (change : Held → Held) (key : Key) (rows now made : Rows) → made ≡ rows → (let none : Option Held = None in none ≡ lookup (same_key key) rows) → rows ≡ now
+    → made ≡ at_place (changed_at change) key now
+same_to change key rows now made is none view = is ∙ unchanged_is change key rows (sym none) ∙ ap (at_place (changed_at change) key) view
 
 abbrev of_pins : Held → ℕ → Held
 of_pins held pins = record { content = held.content; pins = pins; unlinked = held.unlinked }
@@ -143,31 +148,6 @@ more_pins held h = sym (ap (λ (b : Bool). of_pins held (cond b (held.pins + 1) 
 pub as_many_pins : (held : Held) → most_pins ≤ held.pins → held ≡ with_pin held
 as_many_pins held h = sym (ap (λ (b : Bool). of_pins held (cond b (held.pins + 1) held.pins)) (le-ltb held.pins most_pins h))
 
-first_demoted : (key : Key) (held : Held) (rows : Rows) → demoted (same_key key) ((key, held) ∷ rows) ≡ rows ++ (key, held) ∷ []
-first_demoted key held rows =
-    ap (λ (b : Bool). option_map_or (λ e. cond b rows ((key, held) ∷ remove_entry (same_key key) rows) ++ e ∷ []) (cond b (Some (key, held)) (lookup_entry (same_key key) rows)) ((key, held) ∷ rows)) (same_self key)
-
-pub added_is : (list after made : LruCache Key Held) (key : Key) (held : Held) → (let none : Option ℕ = None in place key list.entries ≡ none) → list.cap ≡ most_rows → length list.entries < 9223372036854775808
-    → after ≡ lru_cache (put_entries same_key list key held) list.cap → made ≡ lru_cache (demoted (same_key key) after.entries) after.cap
-    → made ≡ lru_cache (list.entries ++ (key, held) ∷ []) most_rows
-added_is list after made key held none cap few put last =
-    let rows = list.entries in
-    let new : lookup_entry (same_key key) rows ≡ (let none : Option (Key × Held) = None in none) = entry_is key rows ∙ ap (row_at rows) none in
-    let all : take (list.cap - 1) rows ≡ rows = take_all (list.cap - 1) rows (omega (arith, cap, few)) in
-    let first : put_entries same_key list key held ≡ (key, held) ∷ rows =
-    ap (λ (o : Option (Key × Held)). option_map_or (λ e. (e.0, held) ∷ remove_entry (same_key key) rows) o ((key, held) ∷ take (list.cap - 1) rows)) new
-    ∙ ap (λ (left : Rows). (key, held) ∷ left) all in
-    last ∙ ap (λ (l : LruCache Key Held). lru_cache (demoted (same_key key) l.entries) l.cap) put
-    ∙ ap (λ (es : Rows). lru_cache (demoted (same_key key) es) list.cap) first
-    ∙ ap (λ (es : Rows). lru_cache es list.cap) (first_demoted key held rows)
-    ∙ ap (λ (n : ℕ). lru_cache (rows ++ (key, held) ∷ []) n) cap
-
--- ---- a table's list
-
-pub no_list : (o : Option (LruCache Key Held)) (now : Rows) → (let none : Option (LruCache Key Held) = None in o ≡ none) → rows_in o ≡ now → (let none : Rows = [] in none ≡ now)
-no_list o now e view = sym (ap rows_in e) ∙ view
-
-pub none_distinct : (rows : Rows) → (let none : Rows = [] in none ≡ rows) → IsDistinct same_key (keys_of rows)
-unfolding IsDistinct
-none_distinct [] e = tt
-none_distinct (row ∷ rows) e = absurd cc
+-- a key that has no row has no value
+pub none_held : (key : Key) (rows : Rows) → (let none : Option ℕ = None in place key rows ≡ none) → (let none : Option Held = None in lookup (same_key key) rows ≡ none)
+none_held key rows none = held_is key rows ∙ ap (λ (o : Option ℕ). held_in (row_at rows o)) none

@@ -4,7 +4,7 @@
 mod cache;
 mod fault;
 mod held;
-mod list;
+mod leaving;
 mod room;
 mod rows;
 mod table;

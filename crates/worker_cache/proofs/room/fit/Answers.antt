@@ -1,12 +1,9 @@
-use Rattle.std.proofs.Common.{ap, arith}
-use Rattle.std.specs.Int.{w64}
-use Rattle.std.proofs.Math.Facts.{Fits-of_lt}
-use Rattle.worker_cache.specs.Caches.{bytes_of}
+use Rattle.std.proofs.Common.{◌-◌, sym, ◌∙◌}
+use Rattle.std.proofs.lemmas.Bool.{eq-eqb}
+use Rattle.worker_cache.proofs.Walks.{none_over}
 use Rattle.worker_cache.proofs.room.fit.Goals as goal
 
-pub overflow_cast-result : goal.overflow_cast-result
-overflow_cast-result c =
-    Fits-of_lt {w = w64} (omega (arith, c.ranges, c.let_all_go.ensures.total, ap bytes_of c.let_all_go.ensures.rows, c.requires.fits))
-
-pub returns-clause-fits : goal.returns-clause-fits
-returns-clause-fits c = omega (arith, c.let_all_go.ensures.total, ap bytes_of c.let_all_go.ensures.rows, c.requires.fits)
+pub returns-then-excess-eq0-clause-rows : goal.returns-then-excess-eq0-clause-rows
+returns-then-excess-eq0-clause-rows c =
+    let excess = c.args.total - c.args.cap in
+    sym (none_over excess c.args.rows.now (eq-eqb excess 0 (sym c.saturating_sub-excess.ensures ∙ c.if-excess-eq0.true)))

@@ -1,4 +1,4 @@
-use Rattle.std.proofs.Common.{◌≡◌, ◌+◌, ◌-◌, refl, ℕ, true, false, length, Ok, Err, List, sym, ap, subst, ◌∙◌, arith}
+use Rattle.std.proofs.Common.{◌≡◌, ◌+◌, ◌-◌, ℕ, true, false, length, Ok, Err, List, sym, ap, subst, ◌∙◌, arith}
 use Rattle.std.proofs.lemmas.Bool.{lt-ltb, le-ltb}
 use Rattle.worker_cache.specs.declared.fault.PutRefused.TheVariants as refused
 use Rattle.worker_cache.specs.Answers.{Puts}
@@ -20,20 +20,6 @@ returns-then-kept-bytes-clause-step c =
     let full : is_full key (length content) cap rows ≡ true = lt-ltb cap (pinned_bytes key rows + length content) (omega (arith, c.if-kept-bytes.true, kept, len)) in
     subst (λ (s : Cached). Puts (is_full key (length content) s.cap s.rows) key content s (Err (refused.Full (length c.as_slice.result.now) cap)) s) c.self.view_is
     (puts_full key content cap (length c.as_slice.result.now) rows full len)
-
-pub returns-in_default-clause-step : goal.returns-in_default-clause-step
-returns-in_default-clause-step c =
-    let rows = c.self.inside.rows in
-    let cap = c.self.inside.cap in
-    let key = c.args.key in
-    let content = c.args.content in
-    let len : length c.as_slice.result.now ≡ length content = ap (λ (b : List ℕ). length b) c.as_slice.ensures in
-    let put = is_put key content rows c.look-old.ensures.distinct in
-    let kept = kept_is key content rows c.self.inside.pinned c.look-old.result.0 c.saturating_sub-kept.result c.if_pinned.result c.look-old.result.1 put
-    c.look-old.ensures.bytes c.look-old.ensures.pinned c.if_pinned.ensures c.self.invariant.pins c.saturating_sub-kept.ensures in
-    let room : is_full key (length content) cap rows ≡ false = le-ltb cap (pinned_bytes key rows + length content) (omega (arith, c.if-kept-bytes.false, kept, len)) in
-    subst (λ (s : Cached). Puts (is_full key (length content) s.cap s.rows) key content s (Err refused.Memory) s) c.self.view_is
-    (puts_memory key content cap rows rows room refl)
 
 pub returns-then-is_err-clause-step : goal.returns-then-is_err-clause-step
 returns-then-is_err-clause-step c =
@@ -79,8 +65,7 @@ fit-self-inside-requires-clause-fits c =
     let total = c.saturating_sub.result + n in
     let sum : total ≡ bytes_of made = total_is key content rows made c.self.inside.bytes c.look-old.result.0 c.saturating_sub.result n put
     c.look-old.ensures.bytes c.self.invariant.all c.saturating_sub.ensures len is in
-    let left = made_is cap total c.saturating_sub-over.result key content rows made c.as_slice-2.result.now put room is sum c.saturating_sub-over.ensures
-    (c.as_slice-2.ensures.value ∙ c.in-Ok.ensures) in
+    let left = made_is cap total key content rows made is sum in
     omega (arith, ap bytes_of left, put_fits cap key content rows put room)
 
 pub invariant_of-self-2 : goal.invariant_of-self-2
@@ -102,7 +87,7 @@ invariant_of-self-2 c =
     let sum : total ≡ bytes_of made = total_is key content rows made c.self.inside.bytes c.look-old.result.0 c.saturating_sub.result n put
     c.look-old.ensures.bytes c.self.invariant.all c.saturating_sub.ensures len is in
     let left : new ≡ put_in cap key content rows = c.fit-self-inside.ensures.rows
-    ∙ made_is cap total c.saturating_sub-over.result key content rows made c.as_slice-2.result.now put room is sum c.saturating_sub-over.ensures (c.as_slice-2.ensures.value ∙ c.in-Ok.ensures) in
+    ∙ made_is cap total key content rows made is sum in
     let pins = pins_are key content rows made c.saturating_sub-kept.result n c.if_pinned-2.result c.look-old.result.1 put c.look-old.ensures.pinned kept len c.if_pinned-2.ensures is in
     let stay : all_pinned new ≡ all_pinned made = ap all_pinned left ∙ room_pins (bytes_of (placed key content rows) - cap) (placed key content rows) ∙ sym (ap all_pinned is) in
     record {
@@ -130,7 +115,7 @@ returns-clause-step c =
     let sum : total ≡ bytes_of made = total_is key content rows made c.self.inside.bytes c.look-old.result.0 c.saturating_sub.result n put
     c.look-old.ensures.bytes c.self.invariant.all c.saturating_sub.ensures len is in
     let left : new ≡ put_in cap key content rows = c.fit-self-inside.ensures.rows
-    ∙ made_is cap total c.saturating_sub-over.result key content rows made c.as_slice-2.result.now put room is sum c.saturating_sub-over.ensures (c.as_slice-2.ensures.value ∙ c.in-Ok.ensures) in
+    ∙ made_is cap total key content rows made is sum in
     subst (λ (s : Cached). Puts (is_full key (length content) s.cap s.rows) key content s (Ok tt) (record { cap = cap; rows = new })) c.self.view_is
     (puts_done key content cap rows new room left)
 
@@ -153,5 +138,5 @@ returns-clause-found c =
     let sum : total ≡ bytes_of made = total_is key content rows made c.self.inside.bytes c.look-old.result.0 c.saturating_sub.result n put
     c.look-old.ensures.bytes c.self.invariant.all c.saturating_sub.ensures len is in
     let left : new ≡ put_in cap key content rows = c.fit-self-inside.ensures.rows
-    ∙ made_is cap total c.saturating_sub-over.result key content rows made c.as_slice-2.result.now put room is sum c.saturating_sub-over.ensures (c.as_slice-2.ensures.value ∙ c.in-Ok.ensures) in
+    ∙ made_is cap total key content rows made is sum in
     ap (content_of key) left ∙ found_put cap key content rows put room

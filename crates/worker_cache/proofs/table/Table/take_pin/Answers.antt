@@ -1,0 +1,18 @@
+use Rattle.std.proofs.Common.{ap, sym, ◌∙◌}
+use Rattle.std.specs.Option.{option_copied_mut}
+use Rattle.worker_cache.specs.declared.held.Held.{Held}
+use Rattle.worker_cache.specs.Caches.{less_pin}
+use Rattle.worker_cache.proofs.Tables.{changed_to, same_to}
+use Rattle.worker_cache.proofs.table.Table.take_pin.Goals as goal
+
+pub returns-in_default : goal.returns-in_default
+returns-in_default c =
+    same_to less_pin c.args.key c.self.inside.rows.entries c.args.self.now c.get_mut.follows.lender-at-none.entries (ap (λ m. m.entries) c.get_mut.follows.holds-at-none)
+    (sym (ap option_copied_mut c.in_default.is) ∙ c.get_mut.ensures.value) c.self.view_is
+
+pub returns : goal.returns
+returns c =
+    let held = c.in-Some.held.now in
+    let new : Held = record { content = held.content; pins = c.saturating_sub-held.result; unlinked = held.unlinked } in
+    changed_to less_pin c.args.key c.self.inside.rows.entries c.args.self.now (c.get_mut.follows.lender new).entries held new
+    (c.get_mut.follows.holds new).0 c.in-Some.ensures.value (ap (λ n. record { content = held.content; pins = n; unlinked = held.unlinked }) c.saturating_sub-held.ensures) c.self.view_is
