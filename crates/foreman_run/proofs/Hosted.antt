@@ -1,6 +1,7 @@
 -- What becomes of a hall's links over several calls.
 use Rattle.std.proofs.Common.{◌≡◌, ◌≤◌, ◌+◌, ℕ, Bool, true, false, List, [], ◌∷◌, ◌++◌, Result, Ok, Err, refl, sym, ap, ◌∙◌, subst, append_assoc, append-nil, arith}
 use Rattle.std.proofs.lemmas.List.{length-append}
+use Rattle.peer_run.specs.declared.halt.Halt.{Halt}
 use Rattle.peer_run.specs.declared.halt.Halt.TheVariants.{Bye, Closed, Link, Bad, Memory}
 use Rattle.foreman_run.specs.declared.stop.Stop.{Stop}
 use Rattle.foreman_run.specs.declared.stop.Stop.TheVariants.{Left, Hall}
@@ -51,6 +52,14 @@ go_later c0 c1 c2 l (Left Link) le is = tt
 go_later c0 c1 c2 l (Left (Bad at)) le is = tt
 go_later c0 c1 c2 l (Left Memory) le is = tt
 go_later c0 c1 c2 l Hall le is = omega (arith, le, is)
+
+-- It leaves its parent, and no link was lost.
+pub left_none : (n m : ℕ) (halt : Halt) → IsLetGo 0 n m (Left halt)
+left_none n m Bye = refl
+left_none n m Closed = tt
+left_none n m Link = tt
+left_none n m (Bad at) = tt
+left_none n m Memory = tt
 
 module _ {X : Type 0} where
   pub hosts_then : (c0 c1 c2 : ℕ) (g0 g1 g2 : List X) (v0 v1 v2 i0 i1 i2 l m : ℕ) → Hosts c0 c1 g0 g1 v0 v1 i0 i1 l → Hosts c1 c2 g1 g2 v1 v2 i1 i2 m → Hosts c0 c2 g0 g2 v0 v2 i0 i2 (l + m)

@@ -2,11 +2,12 @@ use Rattle.std.proofs.Common.{[], false, refl, sym, subst, arith}
 use Rattle.foreman_run.specs.Lost.{seen_of}
 use Rattle.peer_run.specs.Works.{way_of}
 use Rattle.foreman_run.specs.Ends.{StopsOver}
+use Rattle.foreman_run.specs.Hosts.{IsLetGo}
 use Rattle.foreman_run.specs.Tied.{new_book, with_hall}
 use Rattle.foreman_run.specs.Works.{Works}
 use Rattle.foreman_run.proofs.Beginning.{goes_on, stops_so}
 use Rattle.foreman_run.proofs.Going.{fails_by, hall_early, wants_early}
-use Rattle.foreman_run.proofs.Hosted.{lets_later}
+use Rattle.foreman_run.proofs.Hosted.{left_none, lets_later, lets_none_go}
 use Rattle.foreman_run.proofs.Tying.{tied_book}
 use Rattle.foreman_run.proofs.top.work.Goals as goal
 
@@ -56,3 +57,8 @@ returns-clause-stops g c = λ trusted trusts.
         tied = tied_book g.H.Way.Link.tells (seen_of g.H.Way.Link.history g.H.Way.Link.is_closed g.H.Way.Link.count g.H.Way.Link.idle_count) c.args.cap s.stops.past [] (new_book (g.H.Hall.got c.args.hall.now)) (g.H.Hall.got c.listen.new.self) c.in-Ok.ensures.got s.tied;
       };
     }
+
+pub returns-clause-hosts : goal.returns-clause-hosts
+returns-clause-hosts g c =
+    let is : IsLetGo 0 (g.H.Hall.count c.args.hall.now) (g.H.Hall.count c.listen.new.self) c.of.result = subst (IsLetGo 0 (g.H.Hall.count c.args.hall.now) (g.H.Hall.count c.listen.new.self)) (sym c.of.ensures.left.1) (left_none (g.H.Hall.count c.args.hall.now) (g.H.Hall.count c.listen.new.self) c.of.ensures.left.0) in
+    lets_none_go (g.H.Hall.count c.args.hall.now) (g.H.Hall.count c.listen.new.self) (g.H.Hall.got c.args.hall.now) (g.H.Hall.got c.listen.new.self) (g.H.Hall.given c.args.hall.now) (g.H.Hall.given c.listen.new.self) c.of.result c.in-Ok.ensures.cause.later c.in-Ok.ensures.got c.in-Ok.ensures.given is
