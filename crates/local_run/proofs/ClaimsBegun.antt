@@ -18,20 +18,20 @@ use Rattle.rule_graph.specs.Spelling.{plan_digest}
 use Rattle.run_history.specs.declared.answers.Stop.{Stop}
 use Rattle.run_history.specs.declared.moves.Move.{Move}
 use Rattle.run_history.specs.declared.options.Options.{Options}
-use Rattle.run_history.specs.Answers.{claim_of, has_ended}
+use Rattle.run_history.specs.Admissions.{Admitting, claim_by}
+use Rattle.run_history.specs.Answers.{has_ended}
 use Rattle.run_history.specs.History.{next_attempt, part}
 use Rattle.run_history.specs.Links.{fits, is_live, may_run_on, records_of}
 use Rattle.run_history.specs.Storage.{is_present, running_rules, size_in, wanted}
 use Rattle.run_history.specs.declared.states.FileState.{FileState}
 use Rattle.run_history.proofs.Allowed.{Starts, starts}
-use Rattle.run_history.proofs.Claims.{claim-follows}
 use Rattle.task_core.proofs.Standing.{files-same}
 use Rattle.outside.specs.Disk.{Outcomes}
 use Rattle.outside.specs.Files.{Files}
 use Rattle.worker_pool.specs.declared.hand.Tally.{Tally}
 use Rattle.desk.specs.declared.answers.Claim.TheVariants as claims
 use Rattle.desk.specs.declared.attempt.Attempt.{Attempt}
-use Rattle.desk.specs.Claims.{Claims}
+use Rattle.desk.specs.Claims.{ClaimsBy}
 use Rattle.desk.specs.Kept.{IsLegal}
 use Rattle.desk.specs.State.{DeskState, IsFine, runs_with}
 use Rattle.desk.proofs.Running.{started_runs}
@@ -41,7 +41,7 @@ use Rattle.local_run.specs.Ends.{failed_count, records_due}
 use Rattle.local_run.specs.Underway.{AreAway, AwayState, Matches, NoneHas, RunsAt, Underway}
 use Rattle.local_run.specs.declared.halt.Halt.{Halt}
 use Rattle.local_run.proofs.Beyond.{away_on, runs_away_on}
-use Rattle.local_run.proofs.Claimed.{runs_started, taken_goes}
+use Rattle.local_run.proofs.Claimed.{claim_follows, runs_started, taken_goes}
 use Rattle.local_run.proofs.Failures.{logs_plain}
 use Rattle.local_run.proofs.Fresh.{due_more, unended_by}
 use Rattle.local_run.proofs.Going.{goes_on}
@@ -49,16 +49,16 @@ use Rattle.local_run.proofs.Logging.{taken_logs, taken_plan}
 use Rattle.local_run.proofs.RunsBegun.{below_next, runs_beside}
 use Rattle.local_run.proofs.StandsBegun.{AllRunOn, matches_on, none_of}
 
-may_start : (P : Plan) (O : Options) (M : List Move) (stop : Option Stop) (r : RuleNo) (moment : ℕ) (link : LinkNo) → is_empty (part (records_of M)) ≡ false → is_live O M link.0 ≡ true
-    → claim_of P O M stop link.0 ≡ Ok r.0 → Starts P (records_of M) r.0 (next_attempt (records_of M))
-may_start P O M stop r moment link opened lives chosen =
-    starts P (plan_digest P) (records_of M) moment r (record { 0 = next_attempt (records_of M) }) link (and_parts _ _ (claim-follows P (plan_digest P) O M stop r moment link opened lives chosen)).0
+may_start : (A : Admitting) (P : Plan) (O : Options) (M : List Move) (stop : Option Stop) (r : RuleNo) (moment : ℕ) (link : LinkNo) → is_empty (part (records_of M)) ≡ false → is_live O M link.0 ≡ true
+    → claim_by A P O M stop link.0 ≡ Ok r.0 → Starts P (records_of M) r.0 (next_attempt (records_of M))
+may_start A P O M stop r moment link opened lives chosen =
+    starts P (plan_digest P) (records_of M) moment r (record { 0 = next_attempt (records_of M) }) link (and_parts _ _ (claim_follows A P O M stop r moment link opened lives chosen)).0
 
 -- the rule that a claim for this link answers may run there
-may_place : (P : Plan) (O : Options) (M : List Move) (stop : Option Stop) (r : RuleNo) (moment : ℕ) (link : LinkNo) → is_empty (part (records_of M)) ≡ false → is_live O M link.0 ≡ true
-    → claim_of P O M stop link.0 ≡ Ok r.0 → may_run_on P O r.0 link.0 ≡ true
-may_place P O M stop r moment link opened lives chosen =
-    let served = (and_parts _ _ (claim-follows P (plan_digest P) O M stop r moment link opened lives chosen)).1 in
+may_place : (A : Admitting) (P : Plan) (O : Options) (M : List Move) (stop : Option Stop) (r : RuleNo) (moment : ℕ) (link : LinkNo) → is_empty (part (records_of M)) ≡ false → is_live O M link.0 ≡ true
+    → claim_by A P O M stop link.0 ≡ Ok r.0 → may_run_on P O r.0 link.0 ≡ true
+may_place A P O M stop r moment link opened lives chosen =
+    let served = (and_parts _ _ (claim_follows A P O M stop r moment link opened lives chosen)).1 in
     let fitting = (and_parts (is_live O M link.0 && may_run_on P O r.0 link.0 && fits P O M r.0 link.0) (is_none (wanted P O.mode (records_of M))) served).0 in
     let live = (and_parts (is_live O M link.0 && may_run_on P O r.0 link.0) (fits P O M r.0 link.0) fitting).0 in
     (and_parts (is_live O M link.0) (may_run_on P O r.0 link.0) live).1
@@ -81,23 +81,23 @@ pub record IsBegun {S : Type 0} (d after : DeskState S) (attempt : Attempt) : Ty
   pub unended : has_ended (records_of d.moves) ≡ false → has_ended (records_of after.moves) ≡ false
   pub due : records_due d.plan (records_of after.moves) ≤ records_due d.plan (records_of d.moves) + 1
 
-pub begun : {S : Type 0} (count : S → ℕ) (d after : DeskState S) (attempt : Attempt) (link : LinkNo) (time : ℕ) → is_empty (part (records_of d.moves)) ≡ false → IsLegal d.plan (records_of d.moves)
-    → is_live d.options d.moves link.0 ≡ true → Claims count d link time (Ok (claims.Taken attempt)) after → IsBegun d after attempt
-begun {S} count d after attempt link time opened legal lives h =
+pub begun : {S : Type 0} (A : Admitting) (count : S → ℕ) (d after : DeskState S) (attempt : Attempt) (link : LinkNo) (time : ℕ) → is_empty (part (records_of d.moves)) ≡ false → IsLegal d.plan (records_of d.moves)
+    → is_live d.options d.moves link.0 ≡ true → ClaimsBy A count d link time (Ok (claims.Taken attempt)) after → IsBegun d after attempt
+begun {S} A count d after attempt link time opened legal lives h =
     let H = records_of d.moves in
     let first : AttemptNo = record { 0 = next_attempt H } in
     let x : Record = records.Started time attempt.rule first link in
-    let may = may_start d.plan d.options d.moves d.stop attempt.rule time link opened lives h.1 in
-    let are : records_of after.moves ≡ H ++ (x ∷ []) = taken_logs count d after attempt link time h in
+    let may = may_start A d.plan d.options d.moves d.stop attempt.rule time link opened lives h.1 in
+    let are : records_of after.moves ≡ H ++ (x ∷ []) = taken_logs A count d after attempt link time h in
     record {
       fine = h.0;
       works = subst IsFine (sym (ap (λ (a : DeskState S). a.trouble) h.2.5)) h.0;
       stop = ap (λ (a : DeskState S). a.stop) h.2.5;
-      plan = taken_plan count d after attempt link time h;
+      plan = taken_plan A count d after attempt link time h;
       options = ap (λ (a : DeskState S). a.options) h.2.5;
       inside = h.2.3;
-      placed = subst (λ (l : LinkNo). may_run_on d.plan d.options attempt.rule.0 l.0 ≡ true) (sym h.2.2) (may_place d.plan d.options d.moves d.stop attempt.rule time link opened lives h.1);
-      present = subst (λ (P : Plan). list_all (is_present P (records_of after.moves)) (takes P attempt.rule.0) ≡ true) (sym (taken_plan count d after attempt link time h))
+      placed = subst (λ (l : LinkNo). may_run_on d.plan d.options attempt.rule.0 l.0 ≡ true) (sym h.2.2) (may_place A d.plan d.options d.moves d.stop attempt.rule time link opened lives h.1);
+      present = subst (λ (P : Plan). list_all (is_present P (records_of after.moves)) (takes P attempt.rule.0) ≡ true) (sym (taken_plan A count d after attempt link time h))
           (subst (λ (G : List Record). list_all (is_present d.plan G) (takes d.plan attempt.rule.0) ≡ true) (sym are)
           (ap (λ (p : ℕ → Bool). list_all p (takes d.plan attempt.rule.0))
           (λ i f. (ap (λ (s : FileState). is_some (size_in s)) (files-same d.plan H x f (record { stays = refl; sources = refl; makes_none = λ q. refl; drops_none = λ g. refl }))) i)
@@ -156,9 +156,9 @@ module _ {S : Type 0} (trust : Type 0) (gives : Function) (may_fail : Job → Fa
       }
 
   -- a claim that takes a rule has one more attempt run, which is loose
-  pub claims_on : (count : S → ℕ) (first d after : DeskState S) (held : List Attempt) (waiting : List Start) (heard : Tally) (attempt : Attempt) (link : LinkNo) (time : ℕ) → is_empty (part (records_of d.moves)) ≡ false
-      → IsLegal d.plan (records_of d.moves) → is_live d.options d.moves link.0 ≡ true → Alone d after.site → Claims count d link time (Ok (claims.Taken attempt)) after → Under first d held waiting None heard None
+  pub claims_on : (A : Admitting) (count : S → ℕ) (first d after : DeskState S) (held : List Attempt) (waiting : List Start) (heard : Tally) (attempt : Attempt) (link : LinkNo) (time : ℕ) → is_empty (part (records_of d.moves)) ≡ false
+      → IsLegal d.plan (records_of d.moves) → is_live d.options d.moves link.0 ≡ true → Alone d after.site → ClaimsBy A count d link time (Ok (claims.Taken attempt)) after → Under first d held waiting None heard None
       → Under first after held waiting (Some attempt) heard None
-  claims_on count first d after held waiting heard attempt link time opened legal lives others h u =
-      by_begun first d after held waiting heard attempt (taken_goes trust gives may_fail sources tells files may_leave moment images_since count d after attempt link time others h)
-      (begun count d after attempt link time opened legal lives h) u
+  claims_on A count first d after held waiting heard attempt link time opened legal lives others h u =
+      by_begun first d after held waiting heard attempt (taken_goes trust gives may_fail sources tells files may_leave moment images_since A count d after attempt link time others h)
+      (begun A count d after attempt link time opened legal lives h) u

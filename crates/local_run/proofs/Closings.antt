@@ -16,7 +16,8 @@ use Rattle.run_history.specs.declared.answers.Stop.{Stop}
 use Rattle.flow_types.specs.declared.records.EndKind.{EndKind}
 use Rattle.run_history.specs.declared.answers.Check.{Check}
 use Rattle.run_history.specs.declared.answers.Check.TheVariants as checks
-use Rattle.run_history.specs.Answers.{before_end, end_of, end_over, has_ended, kind_of, is_waited_end, logged_end, stop_at_end, stop_of}
+use Rattle.run_history.specs.Admissions.{Admitting, stop_by}
+use Rattle.run_history.specs.Answers.{before_end, end_of, end_over, has_ended, kind_of, is_waited_end, logged_end, stop_at_end}
 use Rattle.run_history.specs.declared.answers.Stop.TheVariants as stops
 use Rattle.run_history.specs.declared.options.Options.{Options}
 use Rattle.run_history.specs.History.{is_end, since_opening}
@@ -100,9 +101,9 @@ module _ {S : Type 0} (trust : Type 0) (gives : Function) (may_fail : Job → Fa
       subst (λ (m : DeskState S). Alone m after.site → Closes count m rule number link x r after → Goes d after) (sym same) (by_answer count d k rule number link x r after honest first held plain keeps) others h
 
 -- a stop at once is set always
-pub halts_now : (P : Plan) (O : Options) (M : List Move) (stop : Option Stop) → stop_of P O M stop stops.Halt ≡ None → ⊥
-halts_now P O M (Some first) none = true≢false (ap is_some none)
-halts_now P O M None none = true≢false (ap is_some none)
+pub halts_now : (A : Admitting) (P : Plan) (O : Options) (M : List Move) (stop : Option Stop) → stop_by A P O M stop stops.Halt ≡ None → ⊥
+halts_now A P O M (Some first) none = true≢false (ap is_some none)
+halts_now A P O M None none = true≢false (ap is_some none)
 
 -- the record closes an attempt of the rule
 pub record ClosesRule (place : ℕ) (x : Record) : Type 0 where

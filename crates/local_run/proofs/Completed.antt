@@ -22,6 +22,7 @@ use Rattle.run_history.specs.Links.{records_of}
 use Rattle.run_history.specs.Laws.{IsPresent}
 use Rattle.run_history.specs.States.{file_state, limit_of}
 use Rattle.run_history.specs.Storage.{has_failed, input_bytes, ready_rules, rule_bound, running_rules, size_in, size_of, stored, wanted}
+use Rattle.run_history.specs.Admissions.{Admitting}
 use Rattle.run_history.specs.Answers.{collected_count, end_of, end_over, is_halt, of_least, passes_inputs, rule_no}
 use Rattle.task_core.proofs.Collecting.{wanted-free}
 use Rattle.outside.specs.Files.{Files}
@@ -105,10 +106,10 @@ well_says Q P O H stop limited unstopped sound small idle few going complete wai
     (λ more. none_large Q P H small) (λ more full. absurd (true≢false (sym full ∙ ap not (places_left P H idle more few)))) room
 
 -- So is it of an end without a stop, which isn't to go on.
-pub completes_so : (P : Plan) (O : Options) (M : List Move) → Rests P O M → FitsHere P O → ((r : ℕ) → find (has_failed (records_of M)) (rule_numbers P) ≡ Some r → ⊥) → ((r : ℕ) → passes_inputs P (records_of M) r ≡ false)
+pub completes_so : (A : Admitting) (P : Plan) (O : Options) (M : List Move) → Rests A P O M → FitsHere P O → ((r : ℕ) → find (has_failed (records_of M)) (rule_numbers P) ≡ Some r → ⊥) → ((r : ℕ) → passes_inputs P (records_of M) r ≡ false)
     → length (running_rules P (records_of M)) ≤ 0 → records_due P (records_of M) + 1 ≤ most_records → IsCompleteEnd O.limit (end_of P O M None)
-completes_so P O M rests here sound small idle few =
+completes_so A P O M rests here sound small idle few =
     complete_end O.limit (end_of P O M None)
     (subst (EndsWell O.limit) (sym (unended_over P O M rests.unended))
     (well_says (EndsWell O.limit) P O (records_of M) None rests.limited refl sound small idle few tt tt (λ idles r waits. absurd (true≢false (ap is_none waits))) (λ r most is. is)))
-    (not_going P O M rests here)
+    (not_going A P O M rests here)

@@ -21,7 +21,8 @@ use Rattle.run_history.specs.States.{limit_of}
 use Rattle.run_history.specs.Storage.{fits_storage, has_failed, input_bytes, is_complete, is_ready, is_within, ready_rules, reserved, rule_bound, running_rules, stored, wanted}
 use Rattle.run_history.specs.Legal.{has_places, is_stopped}
 use Rattle.run_history.specs.Links.{fits, records_of}
-use Rattle.run_history.specs.Answers.{claim_of, collected_count, end_of, end_over, failed_answer, file_no, has_ended, idles_in, is_halt, is_waited_end, last_why, log_full, no_room, of_least, or_else, passes_inputs, rule_no, where_none, where_so}
+use Rattle.run_history.specs.Admissions.{Admitting, by_admitted, claim_by, may_be_stored}
+use Rattle.run_history.specs.Answers.{collected_count, end_of, end_over, failed_answer, file_no, has_ended, idles_in, is_halt, is_waited_end, last_why, log_full, no_room, of_least, or_else, passes_inputs, rule_no, where_none, where_so}
 use Rattle.run_history.proofs.Bools.{range_all}
 use Rattle.run_history.proofs.Completes.{all_kept}
 use Rattle.run_history.proofs.Going.{going-rule, idle-fits}
@@ -31,6 +32,7 @@ use Rattle.desk.specs.Kept.{IsLegal}
 use Rattle.local_run.specs.Course.{is_collect_first}
 use Rattle.local_run.specs.Ends.{FitsHere, IsRunEnd}
 use Rattle.local_run.proofs.Failures.{none_failed}
+use Rattle.local_run.proofs.Permitted.{admitted_there, not_refused, roomy_there}
 
 -- it is so of the answer, where there is one
 abbrev pub Says : (Check → Type 0) → Option Check → Type 0
@@ -161,8 +163,14 @@ unended_over P O M unended = by_test (has_ended (records_of M)) unended
     by_test true is = absurd (true≢false is)
     by_test false is = refl
 
+-- Where no rule runs or has failed by these records, no file is wanted and some ready rule fits the storage, one that does is admitted.
+abbrev pub AdmitsHere : Admitting → Plan → Options → List Record → Type 0
+AdmitsHere A P O H =
+    is_empty (running_rules P H) ≡ true → list_any (has_failed H) (rule_numbers P) ≡ false → is_none (wanted P O.mode H) ≡ true → list_any (fits_storage P H) (ready_rules P H) ≡ true
+    → list_any (may_be_stored A P O H) (ready_rules P H) ≡ true
+
 -- What holds of the desk of a run as a claim for the local place gives nothing.
-pub record Rests (P : Plan) (O : Options) (M : List Move) : Type 0 where
+pub record Rests (A : Admitting) (P : Plan) (O : Options) (M : List Move) : Type 0 where
   pub valid : IsValid P
   pub legal : IsLegal P (records_of M)
   pub opened : is_empty (part (records_of M)) ≡ false
@@ -170,12 +178,9 @@ pub record Rests (P : Plan) (O : Options) (M : List Move) : Type 0 where
   pub unended : has_ended (records_of M) ≡ false
   pub limited : limit_of (records_of M) ≡ O.limit
   pub why : Nothing
-  pub none : claim_of P O M None 0 ≡ Err why
+  pub none : claim_by A P O M None 0 ≡ Err why
   pub undropped : is_collect_first why ≡ true → (file : ℕ) → collection_of P O M ≡ Ok (Some file) → ⊥
-
-abbrev is_claim : Result ℕ Nothing → Bool
-is_claim (Ok r) = true
-is_claim (Err why) = false
+  pub one : AdmitsHere A P O (records_of M)
 
 fits_all : (P : Plan) (O : Options) (M : List Move) (rs : List ℕ) → is_empty (running_rules P (records_of M)) ≡ true → FitsHere P O → list_all (λ r. nat_lt r (length P.rules)) rs ≡ true
     → list_all (λ r. fits P O M r 0) (filter (is_ready P (records_of M)) rs) ≡ true
@@ -190,11 +195,11 @@ fits_all P O M (r ∷ rs) idle here inside =
     by_test false fit rest = rest
 
 -- what is to be dropped first comes before all else of a run that isn't stopped
-first_of_all : (stopped : Bool) (file : Option ℕ) (f : ℕ) (rest : Option Nothing) (rule : Result ℕ Nothing) (why : Nothing) → stopped ≡ false → file ≡ Some f
-    → option_map_or Err (or_else (where_so stopped nothing.Stopping) (or_else (option_map_or (λ g. Some (nothing.CollectFirst (file_no g))) file None) rest)) rule ≡ Err why → is_collect_first why ≡ true
-first_of_all true file f rest rule why going is claim = absurd (true≢false going)
-first_of_all false None f rest rule why going is claim = absurd (true≢false (sym (ap is_some is)))
-first_of_all false (Some g) f rest rule why going is claim = sym (ap is_first claim)
+first_of_all : (stopped : Bool) (file : Option ℕ) (f : ℕ) (rest : Option Nothing) (rule : Result ℕ Nothing) (admitted : List ℕ) (why : Nothing) → stopped ≡ false → file ≡ Some f
+    → by_admitted (option_map_or Err (or_else (where_so stopped nothing.Stopping) (or_else (option_map_or (λ g. Some (nothing.CollectFirst (file_no g))) file None) rest)) rule) admitted ≡ Err why → is_collect_first why ≡ true
+first_of_all true file f rest rule admitted why going is claim = absurd (true≢false going)
+first_of_all false None f rest rule admitted why going is claim = absurd (true≢false (sym (ap is_some is)))
+first_of_all false (Some g) f rest rule admitted why going is claim = sym (ap is_first claim)
   where
     is_first : Result ℕ Nothing → Bool
     is_first (Ok r) = false
@@ -231,35 +236,47 @@ wanting_answer H true true place failing (Some check) rest are idle is full goin
 unstopped : (ended failed : Bool) → ended ≡ false → failed ≡ false → (ended || failed) ≡ false
 unstopped ended failed one two = ap (λ (b : Bool). b || failed) one ∙ two
 
-wanted_ends : (P : Plan) (O : Options) (M : List Move) (f : ℕ) → Rests P O M → wanted P O.mode (records_of M) ≡ Some f → end_of P O M None ≡ checks.Going → ⊥
-wanted_ends P O M f rests is going =
+wanted_ends : (A : Admitting) (P : Plan) (O : Options) (M : List Move) (f : ℕ) → Rests A P O M → wanted P O.mode (records_of M) ≡ Some f → end_of P O M None ≡ checks.Going → ⊥
+wanted_ends A P O M f rests is going =
     let H = records_of M in
     let failing : Option ℕ = find (has_failed H) (rule_numbers P) in
     wanting_answer H (is_empty (running_rules P H)) (is_some (wanted P O.mode H)) (has_places P H 1) failing (option_and_then (failed_answer H) failing) _ refl rests.idle (ap is_some is)
-    (λ none. by_place (has_places P H 1) refl (first_of_all (is_stopped P H) (wanted P O.mode H) f _ _ rests.why (unstopped (has_ended H) (list_any (has_failed H) (rule_numbers P)) rests.unended (none_failed P H none)) is rests.none))
+    (λ none. by_place (has_places P H 1) refl (first_of_all (is_stopped P H) (wanted P O.mode H) f _ _ _ rests.why (unstopped (has_ended H) (list_any (has_failed H) (rule_numbers P)) rests.unended (none_failed P H none)) is rests.none))
     (sym (unended_over P O M rests.unended) ∙ going)
   where
     by_place : (b : Bool) → has_places P (records_of M) 1 ≡ b → is_collect_first rests.why ≡ true → b ≡ false
     by_place true there first = absurd (rests.undropped first f (collection_there (wanted P O.mode (records_of M)) f (has_places P (records_of M) 1) is there))
     by_place false there first = refl
 
+-- where an end goes on and nothing runs no rule has failed
+sound_going : (H : List Record) (idle : Bool) (failing : Option ℕ) (failed rest : Option Check) → option_and_then (failed_answer H) failing ≡ failed → idle ≡ true
+    → unwrap_or (or_else (where_so (not idle) checks.Going) (or_else failed rest)) checks.Going ≡ checks.Going → failed ≡ None
+sound_going H false failing failed rest are idle going = absurd (true≢false (sym idle))
+sound_going H true failing None rest are idle going = refl
+sound_going H true failing (Some check) rest are idle going = absurd (true≢false (sym (ap is_going going) ∙ failed_stops H failing check are))
+
 -- it isn't to go on
-pub not_going : (P : Plan) (O : Options) (M : List Move) → Rests P O M → FitsHere P O → end_of P O M None ≡ checks.Going → ⊥
-not_going P O M rests here going = by_wanted (wanted P O.mode (records_of M)) refl
+pub not_going : (A : Admitting) (P : Plan) (O : Options) (M : List Move) → Rests A P O M → FitsHere P O → end_of P O M None ≡ checks.Going → ⊥
+not_going A P O M rests here going = by_wanted (wanted P O.mode (records_of M)) refl
   where
     by_wanted : (file : Option ℕ) → wanted P O.mode (records_of M) ≡ file → ⊥
     by_wanted None is =
-        let claim = going-rule P (plan_digest P) O M None rests.valid rests.legal rests.opened rests.idle rests.unended here.here (ap is_none is)
-        (fits_all P O M (rule_numbers P) rests.idle here (range_all 0 (length P.rules) (length P.rules) (omega arith))) going in
-        true≢false (sym (ap is_claim claim.1) ∙ ap is_claim rests.none)
-    by_wanted (Some f) is = wanted_ends P O M f rests is going
+        let H = records_of M in
+        let failing : Option ℕ = find (has_failed H) (rule_numbers P) in
+        let fitting = fits_all P O M (rule_numbers P) rests.idle here (range_all 0 (length P.rules) (length P.rules) (omega arith)) in
+        let claim = going-rule P (plan_digest P) O M None rests.valid rests.legal rests.opened rests.idle rests.unended here.here (ap is_none is) fitting going in
+        let sound = none_failed P H (sound_going H (is_empty (running_rules P H)) failing (option_and_then (failed_answer H) failing) _ refl rests.idle (sym (unended_over P O M rests.unended) ∙ going)) in
+        let there = roomy_there P O M claim.0 here.here fitting claim.1 in
+        not_refused A P O M None 0 claim.0 rests.why claim.1
+        (admitted_there A P O M here.here fitting (rests.one rests.idle sound (ap is_none is) there)) rests.none
+    by_wanted (Some f) is = wanted_ends A P O M f rests is going
 
 -- but answers one of the ends of a run
-pub ends_so : (P : Plan) (O : Options) (M : List Move) → Rests P O M → FitsHere P O → IsRunEnd O.limit (end_of P O M None)
-ends_so P O M rests here =
+pub ends_so : (A : Admitting) (P : Plan) (O : Options) (M : List Move) → Rests A P O M → FitsHere P O → IsRunEnd O.limit (end_of P O M None)
+ends_so A P O M rests here =
     let H = records_of M in
     run_end O.limit (end_of P O M None)
     (subst (EndsOrGoes O.limit) (sym (unended_over P O M rests.unended))
     (over_says (EndsOrGoes O.limit) P O H O.limit rests.limited tt (λ r found why. tt) (λ wants. tt) tt
     (λ more. least_says (EndsOrGoes O.limit) (filter (passes_inputs P H) (ready_rules P H)) (λ r. checks.InputsTooLarge (rule_no r) (input_bytes P H r)) (λ r. tt)) (λ more full. tt) (λ r most is. is)))
-    (not_going P O M rests here)
+    (not_going A P O M rests here)

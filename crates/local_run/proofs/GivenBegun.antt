@@ -7,6 +7,7 @@ use Rattle.flow_types.specs.declared.job.Failure.{Failure}
 use Rattle.flow_types.specs.declared.job.Start.{Start}
 use Rattle.flow_types.specs.declared.numbers.LinkNo.{LinkNo}
 use Rattle.flow_types.specs.Serial.{Contents, Function, job_of, serial}
+use Rattle.run_history.specs.Admissions.{Admitting}
 use Rattle.run_history.specs.Links.{records_of}
 use Rattle.outside.specs.Disk.{Outcomes}
 use Rattle.outside.specs.Files.{Files}
@@ -15,7 +16,7 @@ use Rattle.desk.specs.declared.answers.ClaimRefused.TheVariants as unclaimed
 use Rattle.desk.specs.declared.answers.InputRefused.{InputRefused}
 use Rattle.desk.specs.declared.answers.InputRefused.TheVariants as refused
 use Rattle.desk.specs.declared.attempt.Attempt.{Attempt}
-use Rattle.desk.specs.Claims.{Claims}
+use Rattle.desk.specs.Claims.{ClaimsBy}
 use Rattle.desk.specs.State.{DeskState, IsFine}
 use Rattle.desk.specs.Tasks.{want_at}
 use Rattle.local_run.specs.declared.halt.Halt.{Halt}
@@ -84,17 +85,17 @@ module _ {S : Type 0} (trust : Type 0) (gives : Function) (may_fail : Job → Fa
       (reads_goes trust gives may_fail sources tells files may_leave moment images_since A d mid r fine h others) (reads_moves d r mid h) stops (λ going. absurd going) u
 
   -- a claim at which the site failed
-  pub broken_on : (count : S → ℕ) (first d after : DeskState S) (held : List Attempt) (waiting : List Start) (loose : Option Attempt) (heard : Tally) (halt : Option Halt) (link : LinkNo) (time before now : ℕ)
-      → Alone d after.site → Claims count d link time (Err (unclaimed.Broken before now)) after → Under first d held waiting loose heard halt → Under first after held waiting loose heard (Some halts.Site)
-  broken_on count first d after held waiting loose heard halt link time before now others h u =
+  pub broken_on : (A : Admitting) (count : S → ℕ) (first d after : DeskState S) (held : List Attempt) (waiting : List Start) (loose : Option Attempt) (heard : Tally) (halt : Option Halt) (link : LinkNo) (time before now : ℕ)
+      → Alone d after.site → ClaimsBy A count d link time (Err (unclaimed.Broken before now)) after → Under first d held waiting loose heard halt → Under first after held waiting loose heard (Some halts.Site)
+  broken_on A count first d after held waiting loose heard halt link time before now others h u =
       stands_on trust gives may_fail sources tells kept sure files may_leave moment images_since away first d after held waiting loose heard halt (Some halts.Site)
-      (claim_breaks trust gives may_fail sources tells files may_leave moment images_since count d after link time (unclaimed.Broken before now) others h)
-      (refused_same count d after link time (unclaimed.Broken before now) h) (stops_site tells kept sure files first after heard (is_broken count d before now after h)) (λ going. absurd going) u
+      (claim_breaks trust gives may_fail sources tells files may_leave moment images_since A count d after link time (unclaimed.Broken before now) others h)
+      (refused_same A count d after link time (unclaimed.Broken before now) h) (stops_site tells kept sure files first after heard (is_broken count d before now after h)) (λ going. absurd going) u
 
   -- or memory was wanting
-  pub wanting_on : (count : S → ℕ) (first d after : DeskState S) (held : List Attempt) (waiting : List Start) (loose : Option Attempt) (heard : Tally) (halt : Option Halt) (link : LinkNo) (time : ℕ) → Alone d after.site
-      → Claims count d link time (Err unclaimed.Memory) after → Under first d held waiting loose heard halt → Under first after held waiting loose heard (Some halts.Memory)
-  wanting_on count first d after held waiting loose heard halt link time others h u =
+  pub wanting_on : (A : Admitting) (count : S → ℕ) (first d after : DeskState S) (held : List Attempt) (waiting : List Start) (loose : Option Attempt) (heard : Tally) (halt : Option Halt) (link : LinkNo) (time : ℕ) → Alone d after.site
+      → ClaimsBy A count d link time (Err unclaimed.Memory) after → Under first d held waiting loose heard halt → Under first after held waiting loose heard (Some halts.Memory)
+  wanting_on A count first d after held waiting loose heard halt link time others h u =
       stands_on trust gives may_fail sources tells kept sure files may_leave moment images_since away first d after held waiting loose heard halt (Some halts.Memory)
-      (claim_breaks trust gives may_fail sources tells files may_leave moment images_since count d after link time unclaimed.Memory others h)
-      (refused_same count d after link time unclaimed.Memory h) (may_want tells kept sure files first after heard) (λ going. absurd going) u
+      (claim_breaks trust gives may_fail sources tells files may_leave moment images_since A count d after link time unclaimed.Memory others h)
+      (refused_same A count d after link time unclaimed.Memory h) (may_want tells kept sure files first after heard) (λ going. absurd going) u

@@ -12,6 +12,7 @@ pub mod Modes
 pub mod Started
 pub mod Starts
 pub mod Refused
+mod Permitted
 pub mod EndKinds
 pub mod Fresh
 pub mod Failures

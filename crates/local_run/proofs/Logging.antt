@@ -17,6 +17,7 @@ use Rattle.flow_types.specs.declared.records.Record.{Record}
 use Rattle.flow_types.specs.declared.records.Record.TheVariants as records
 use Rattle.run_history.specs.declared.answers.Check.{Check}
 use Rattle.run_history.specs.declared.answers.Stop.{Stop}
+use Rattle.run_history.specs.Admissions.{Admitting}
 use Rattle.run_history.specs.Answers.{has_ended, logged_end}
 use Rattle.run_history.specs.History.{is_cleaned, is_end, is_opening}
 use Rattle.run_history.specs.Laws.{IsPresent, started_as}
@@ -41,7 +42,7 @@ use Rattle.desk.specs.declared.answers.InputRefused.{InputRefused}
 use Rattle.desk.specs.declared.answers.InputRefused.TheVariants as refused
 use Rattle.desk.specs.declared.answers.Trouble.{Trouble}
 use Rattle.desk.specs.declared.attempt.Attempt.{Attempt}
-use Rattle.desk.specs.Claims.{Claims}
+use Rattle.desk.specs.Claims.{ClaimsBy}
 use Rattle.desk.specs.Ends.{Ends, EndsBy}
 use Rattle.desk.specs.Inputs.{Finds, IsWhole, Looks, Tells}
 use Rattle.desk.specs.State.{Closes, DeskState, IsFine, is_place, runs_with}
@@ -92,17 +93,17 @@ reads_moves {S} d (Err (refused.Damaged file logged found)) after h = ap (λ (a 
 reads_moves {S} d (Err (refused.Broken before now)) after h = ap (λ (a : DeskState S). records_of a.moves) h
 reads_moves {S} d (Err refused.Memory) after h = ap (λ (a : DeskState S). records_of a.moves) h
 
-pub taken_logs : {S : Type 0} (count : S → ℕ) (d after : DeskState S) (attempt : Attempt) (link : LinkNo) (moment : ℕ) → Claims count d link moment (Ok (claims.Taken attempt)) after
+pub taken_logs : {S : Type 0} (A : Admitting) (count : S → ℕ) (d after : DeskState S) (attempt : Attempt) (link : LinkNo) (moment : ℕ) → ClaimsBy A count d link moment (Ok (claims.Taken attempt)) after
     → records_of after.moves ≡ records_of d.moves ++ (started_as d.moves attempt.rule moment link ∷ [])
-taken_logs {S} count d after attempt link moment h = ap (λ (a : DeskState S). records_of a.moves) h.2.5 ∙ records-push d.moves (started_as d.moves attempt.rule moment link)
+taken_logs {S} A count d after attempt link moment h = ap (λ (a : DeskState S). records_of a.moves) h.2.5 ∙ records-push d.moves (started_as d.moves attempt.rule moment link)
 
-pub taken_plan : {S : Type 0} (count : S → ℕ) (d after : DeskState S) (attempt : Attempt) (link : LinkNo) (moment : ℕ) → Claims count d link moment (Ok (claims.Taken attempt)) after → after.plan ≡ d.plan
-taken_plan {S} count d after attempt link moment h = ap (λ (a : DeskState S). a.plan) h.2.5
+pub taken_plan : {S : Type 0} (A : Admitting) (count : S → ℕ) (d after : DeskState S) (attempt : Attempt) (link : LinkNo) (moment : ℕ) → ClaimsBy A count d link moment (Ok (claims.Taken attempt)) after → after.plan ≡ d.plan
+taken_plan {S} A count d after attempt link moment h = ap (λ (a : DeskState S). a.plan) h.2.5
 
 -- a claim that is refused
-pub refused_same : {S : Type 0} (count : S → ℕ) (d after : DeskState S) (link : LinkNo) (moment : ℕ) (why : ClaimRefused) → Claims count d link moment (Err why) after → records_of after.moves ≡ records_of d.moves
-refused_same count d after link moment (unclaimed.Broken before now) h = breaks_same count d before now after h
-refused_same count d after link moment unclaimed.Memory h = spares_same d after h
+pub refused_same : {S : Type 0} (A : Admitting) (count : S → ℕ) (d after : DeskState S) (link : LinkNo) (moment : ℕ) (why : ClaimRefused) → ClaimsBy A count d link moment (Err why) after → records_of after.moves ≡ records_of d.moves
+refused_same A count d after link moment (unclaimed.Broken before now) h = breaks_same count d before now after h
+refused_same A count d after link moment unclaimed.Memory h = spares_same d after h
 
 -- by the end of a run no failed command is logged
 ends_kind : {S : Type 0} (d : DeskState S) (moment : ℕ) (kind : Option EndKind) (after : DeskState S) → EndsBy kind d moment after → failed_count (records_of after.moves) ≡ failed_count (records_of d.moves)

@@ -8,6 +8,7 @@ use Rattle.flow_types.specs.declared.job.Start.{Start}
 use Rattle.flow_types.specs.declared.records.Record.{Record}
 use Rattle.flow_types.specs.Serial.{Contents, Function}
 use Rattle.run_history.specs.declared.answers.Check.{Check}
+use Rattle.run_history.specs.Admissions.{Admitting}
 use Rattle.run_history.specs.Links.{records_of}
 use Rattle.run_history.specs.Storage.{running_rules}
 use Rattle.outside.specs.Disk.{IsImage, Outcomes}
@@ -94,8 +95,8 @@ module _ {S : Type 0} (trust : Type 0) (gives : Function) (may_fail : Job → Fa
   abbrev pub UnderHere : DeskState S → DeskState S → List Attempt → List Start → Tally → Option Halt → Type 0
   UnderHere first now held waiting heard halt = Underway trust gives may_fail sources tells kept sure files may_leave moment images_since none_away first now held waiting None heard halt
 
-  abbrev pub Comes : DeskState S → DeskState S → ℕ → ℕ → ℕ → ℕ → Result (Unit {0}) Halt → Type 0
-  Comes d after count count_now failures failures_now result = ComesTo trust gives may_fail sources tells kept sure files may_leave moment images_since d after count count_now failures failures_now result
+  abbrev pub Comes : Admitting → DeskState S → DeskState S → ℕ → ℕ → ℕ → ℕ → Result (Unit {0}) Halt → Type 0
+  Comes A d after count count_now failures failures_now result = ComesTo A trust gives may_fail sources tells kept sure files may_leave moment images_since d after count count_now failures failures_now result
 
   -- what a crash leaves at the last moment of a site is what it may leave now
   abbrev pub OnlyNow : S → Type 0
@@ -131,8 +132,8 @@ module _ {S : Type 0} (trust : Type 0) (gives : Function) (may_fail : Job → Fa
       (subst (λ (x : Option Halt). UnderHere d d [] [] none x) (sym k) (begins d only_now fine idle))))
 
   -- where memory was wanting before it began
-  pub comes_want : (d : DeskState S) (count failures : ℕ) → OnlyNow d.site → length (running_rules d.plan (records_of d.moves)) ≤ 0 → Comes d d count count failures failures (Err halts.Memory)
-  comes_want d count failures only_now idle = record {
+  pub comes_want : (A : Admitting) (d : DeskState S) (count failures : ℕ) → OnlyNow d.site → length (running_rules d.plan (records_of d.moves)) ≤ 0 → Comes A d d count count failures failures (Err halts.Memory)
+  comes_want A d count failures only_now idle = record {
     goes = goes_self d only_now;
     idle = λ works. idle;
     closed = tt;
@@ -157,10 +158,10 @@ module _ {S : Type 0} (trust : Type 0) (gives : Function) (may_fail : Job → Fa
     counted_failed : heard ≡ put → GrowsWith none put count count_now failures failures_now → heard.failed + failures ≡ failures_now
     counted_failed even grows = let same = ap (λ (t : Tally). t.failed) even in let rose = grows.1 in omega (arith, same, rose)
 
-    came_to : (last : Option Halt) → UnderHere d after [] [] heard last → IsWithin heard put → GrowsWith none put count count_now failures failures_now
-        → (IsFine after.trouble → (IsWant (settled last) → ⊥) → heard ≡ put) → (last ≡ None → HasNothing after)
-        → Comes d after count count_now failures failures_now (settled last)
-    came_to None under within grows even rests =
+    came_to : (A : Admitting) (last : Option Halt) → UnderHere d after [] [] heard last → IsWithin heard put → GrowsWith none put count count_now failures failures_now
+        → (IsFine after.trouble → (IsWant (settled last) → ⊥) → heard ≡ put) → (last ≡ None → HasNothing A after)
+        → Comes A d after count count_now failures failures_now (settled last)
+    came_to A None under within grows even rests =
         let fine = under.stopped.0 in
         let failed = counted_failed (even fine (λ wants. wants)) grows in
         record {
@@ -179,7 +180,7 @@ module _ {S : Type 0} (trust : Type 0) (gives : Function) (may_fail : Job → Fa
           none = λ is. (let zero_failed = under.never is in omega (arith, zero_failed, failed));
           rests = rests refl;
         }
-    came_to (Some why) under within grows even rests =
+    came_to A (Some why) under within grows even rests =
         let more = counted_unrun within grows in
         record {
           goes = under.goes;
@@ -199,29 +200,29 @@ module _ {S : Type 0} (trust : Type 0) (gives : Function) (may_fail : Job → Fa
         }
 
   -- once all runners have ended, and what was held is given up
-  pub comes : (d mid after : DeskState S) (held : List Attempt) (waiting : List Start) (heard put : Tally) (halt last : Option Halt) (result : Result (Unit {0}) Halt) (count count_now failures failures_now : ℕ)
-      → UnderHere d mid held waiting heard halt → ((IsWantHalt halt → ⊥) → waiting ≡ []) → (halt ≡ None → HasNothing mid)
+  pub comes : (A : Admitting) (d mid after : DeskState S) (held : List Attempt) (waiting : List Start) (heard put : Tally) (halt last : Option Halt) (result : Result (Unit {0}) Halt) (count count_now failures failures_now : ℕ)
+      → UnderHere d mid held waiting heard halt → ((IsWantHalt halt → ⊥) → waiting ≡ []) → (halt ≡ None → HasNothing A mid)
       → (held ≡ [] → (after ≡ mid) × (result ≡ settled halt)) → (IsWantHalt halt → IsFine after.trouble → IsWant result)
       → result ≡ settled last → UnderHere d after [] [] heard last
       → IsWithin heard put → (waiting ≡ [] → heard ≡ put) → GrowsWith none put count count_now failures failures_now
-      → Comes d after count count_now failures failures_now result
-  comes d mid after held waiting heard put halt last result count count_now failures failures_now was empties rests same wants is under within even grows =
+      → Comes A d after count count_now failures failures_now result
+  comes A d mid after held waiting heard put halt last result count count_now failures failures_now was empties rests same wants is under within even grows =
       let empty : IsFine after.trouble → (IsWant (settled last) → ⊥) → waiting ≡ [] = λ fine unwanting. empties (λ wanted. unwanting (subst IsWant is (wants wanted fine))) in
-      subst (Comes d after count count_now failures failures_now) (sym is)
-      (came_to d after heard put count count_now failures failures_now last under within grows (λ fine unwanting. even (empty fine unwanting))
+      subst (Comes A d after count count_now failures failures_now) (sym is)
+      (came_to d after heard put count count_now failures failures_now A last under within grows (λ fine unwanting. even (empty fine unwanting))
       (λ going. rested last going is under empty))
     where
-      rested : (last : Option Halt) → last ≡ None → result ≡ settled last → UnderHere d after [] [] heard last → (IsFine after.trouble → (IsWant (settled last) → ⊥) → waiting ≡ []) → HasNothing after
+      rested : (last : Option Halt) → last ≡ None → result ≡ settled last → UnderHere d after [] [] heard last → (IsFine after.trouble → (IsWant (settled last) → ⊥) → waiting ≡ []) → HasNothing A after
       rested (Some why) going is under empty = absurd (true≢false (sym (ap is_none going)))
       rested None going is under empty =
           let none_waits = empty under.stopped.0 (λ wants. wants) in
           let settles = same (held_none mid.plan (IsFine mid.trouble) (records_of mid.moves) trust _ held waiting was.matches none_waits) in
-          subst HasNothing (sym settles.0) (rests (halts_not halt (sym settles.1 ∙ is)))
+          subst (HasNothing A) (sym settles.0) (rests (halts_not halt (sym settles.1 ∙ is)))
 
   -- over a stronger fact
-  pub comes_less : (more : Type 0) (d after : DeskState S) (count count_now failures failures_now : ℕ) (result : Result (Unit {0}) Halt) → (more → sure) → Comes d after count count_now failures failures_now result
-      → ComesTo trust gives may_fail sources tells kept more files may_leave moment images_since d after count count_now failures failures_now result
-  comes_less more d after count count_now failures failures_now (Ok done) so came = record {
+  pub comes_less : (A : Admitting) (more : Type 0) (d after : DeskState S) (count count_now failures failures_now : ℕ) (result : Result (Unit {0}) Halt) → (more → sure) → Comes A d after count count_now failures failures_now result
+      → ComesTo A trust gives may_fail sources tells kept more files may_leave moment images_since d after count count_now failures failures_now result
+  comes_less A more d after count count_now failures failures_now (Ok done) so came = record {
     goes = came.goes;
     idle = came.idle;
     closed = came.closed;
@@ -237,7 +238,7 @@ module _ {S : Type 0} (trust : Type 0) (gives : Function) (may_fail : Job → Fa
     none = λ is. came.none (so is);
     rests = came.rests;
   }
-  comes_less more d after count count_now failures failures_now (Err why) so came = record {
+  comes_less A more d after count count_now failures failures_now (Err why) so came = record {
     goes = came.goes;
     idle = came.idle;
     closed = tt;

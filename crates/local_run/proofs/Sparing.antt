@@ -7,10 +7,8 @@ use Rattle.std.proofs.lemmas.List.{append-nil}
 use Rattle.std.proofs.lemmas.List.Elements.{All-append, All-cons, All-nil, All-weaker}
 use Rattle.std.proofs.lemmas.List.Folds.{list_any-append}
 use Rattle.std.proofs.lemmas.List.Sums.{sum_by-append}
-use Rattle.flow_types.specs.declared.numbers.AttemptNo.{AttemptNo}
 use Rattle.flow_types.specs.declared.numbers.FileNo.{FileNo}
 use Rattle.flow_types.specs.declared.numbers.LinkNo.{LinkNo}
-use Rattle.flow_types.specs.declared.numbers.RuleNo.{RuleNo}
 use Rattle.flow_types.specs.declared.plan.Plan.{Plan}
 use Rattle.flow_types.specs.declared.records.Record.{Record}
 use Rattle.flow_types.specs.declared.records.Record.TheVariants as records
@@ -19,13 +17,14 @@ use Rattle.run_history.specs.declared.moves.Move.{Move}
 use Rattle.run_history.specs.declared.moves.Move.TheVariants as moves
 use Rattle.run_history.specs.declared.options.Options.{Options}
 use Rattle.run_history.specs.Laws.{started_as}
+use Rattle.run_history.specs.Admissions.{Admitting}
 use Rattle.run_history.specs.Links.{records_of}
 use Rattle.run_history.specs.Moves.{is_change, is_join}
 use Rattle.desk.specs.declared.answers.Claim.{Claim}
 use Rattle.desk.specs.declared.answers.Claim.TheVariants as claims
 use Rattle.desk.specs.declared.answers.CloseRefused.{CloseRefused}
 use Rattle.desk.specs.declared.attempt.Attempt.{Attempt}
-use Rattle.desk.specs.Claims.{Claims}
+use Rattle.desk.specs.Claims.{ClaimsBy}
 use Rattle.desk.specs.Collections.{Collects}
 use Rattle.desk.specs.Kept.{IsLegal}
 use Rattle.desk.specs.State.{Closes, DeskState}
@@ -120,9 +119,9 @@ module _ {S : Type 0} (count : S → ℕ) (d after : DeskState S) where
   loses_it a moment (Err why) legal h = tt
 
   -- a rule was claimed
-  pub claims_spares : (link : LinkNo) (moment : ℕ) (claim : Claim) → Claims count d link moment (Ok claim) after → SparesAll d.moves after.moves
-  claims_spares link moment (claims.Taken attempt) h = one_spares d.moves (started_as d.moves attempt.rule moment link) after.moves (ap (λ (b : DeskState S). b.moves) h.2.5) refl tt
-  claims_spares link moment (claims.Nothing why) h = same_spares d.moves after.moves (ap (λ (b : DeskState S). b.moves) h.2)
+  pub claims_spares : (A : Admitting) (link : LinkNo) (moment : ℕ) (claim : Claim) → ClaimsBy A count d link moment (Ok claim) after → SparesAll d.moves after.moves
+  claims_spares A link moment (claims.Taken attempt) h = one_spares d.moves (started_as d.moves attempt.rule moment link) after.moves (ap (λ (b : DeskState S). b.moves) h.2.5) refl tt
+  claims_spares A link moment (claims.Nothing why) h = same_spares d.moves after.moves (ap (λ (b : DeskState S). b.moves) h.2)
 
   -- a file was dropped, or none
   pub collects_spares : (moment : ℕ) (file : Option FileNo) → Collects count d moment (Ok file) after → SparesAll d.moves after.moves

@@ -17,7 +17,8 @@ use Rattle.run_history.specs.Legal.{most_records}
 use Rattle.run_history.specs.Links.{records_of}
 use Rattle.run_history.specs.States.{limit_of}
 use Rattle.run_history.specs.Storage.{has_failed, input_bytes, ready_rules, running_rules}
-use Rattle.run_history.specs.Answers.{claim_of, end_of, has_ended, passes_inputs, rule_no}
+use Rattle.run_history.specs.Admissions.{Admitting, claim_by}
+use Rattle.run_history.specs.Answers.{end_of, has_ended, passes_inputs, rule_no}
 use Rattle.outside.specs.Disk.{Outcomes}
 use Rattle.outside.specs.Files.{Files}
 use Rattle.desk.specs.Ends.{Ends}
@@ -32,7 +33,7 @@ use Rattle.local_run.specs.Course.{GoesOn, HasNothing}
 use Rattle.local_run.specs.Ends.{FitsHere, HasFailed, IsCompleteEnd, IsFresh, IsRunEnd, LogsFailures, records_due}
 use Rattle.local_run.proofs.Added.{adds_end, adds_none, end_logs, halted_none}
 use Rattle.local_run.proofs.Completed.{completes_so, inputs_fit}
-use Rattle.local_run.proofs.EndKinds.{Rests, ends_so, least_says, over_says, unended_over}
+use Rattle.local_run.proofs.EndKinds.{AdmitsHere, Rests, ends_so, least_says, over_says, unended_over}
 use Rattle.local_run.proofs.Failures.{failed_rose}
 use Rattle.local_run.proofs.Fresh.{empty_from, fresh_unended, limit_more}
 use Rattle.local_run.proofs.Going.{goes_records}
@@ -46,9 +47,9 @@ module _ {S : Type 0} (trust : Type 0) (gives : Function) (may_fail : Job → Fa
   limited : IsFresh d.options.limit (records_of d.moves) → limit_of (records_of mid.moves) ≡ mid.options.limit
   limited fresh = ap limit_of grown ∙ limit_more (records_of d.moves) goes.more goes.anew ∙ fresh.limited ∙ sym (ap (λ (O : Options). O.limit) goes.options)
 
-  pub rests_at : IsValid d.plan → IsFresh d.options.limit (records_of d.moves) → mid.stop ≡ None → IsLegal mid.plan (records_of mid.moves) → is_empty (part (records_of mid.moves)) ≡ false
-      → length (running_rules mid.plan (records_of mid.moves)) ≤ 0 → has_ended (records_of mid.moves) ≡ false → HasNothing mid → Rests mid.plan mid.options mid.moves
-  rests_at valid fresh unset legal opened idle unended nothing = record {
+  pub rests_at : (A : Admitting) → AdmitsHere A mid.plan mid.options (records_of mid.moves) → IsValid d.plan → IsFresh d.options.limit (records_of d.moves) → mid.stop ≡ None → IsLegal mid.plan (records_of mid.moves) → is_empty (part (records_of mid.moves)) ≡ false
+      → length (running_rules mid.plan (records_of mid.moves)) ≤ 0 → has_ended (records_of mid.moves) ≡ false → HasNothing A mid → Rests A mid.plan mid.options mid.moves
+  rests_at A one valid fresh unset legal opened idle unended nothing = record {
     valid = subst IsValid (sym goes.plan) valid;
     legal = legal;
     opened = opened;
@@ -56,8 +57,9 @@ module _ {S : Type 0} (trust : Type 0) (gives : Function) (may_fail : Job → Fa
     unended = unended;
     limited = limited fresh;
     why = nothing.0;
-    none = subst (λ (stop : Option Stop). claim_of mid.plan mid.options mid.moves stop 0 ≡ Err nothing.0) unset nothing.1;
+    none = subst (λ (stop : Option Stop). claim_by A mid.plan mid.options mid.moves stop 0 ≡ Err nothing.0) unset nothing.1;
     undropped = nothing.2;
+    one = one;
   }
 
   fits_still : FitsHere d.plan d.options → FitsHere mid.plan mid.options
@@ -68,10 +70,10 @@ module _ {S : Type 0} (trust : Type 0) (gives : Function) (may_fail : Job → Fa
   answer_is count time check after h unset = sym (h.1 ∙ ap (end_of mid.plan mid.options mid.moves) unset)
 
   -- is one of a run's ends
-  pub ending_at : (count : S → ℕ) (time : ℕ) (check : Check) (after : DeskState S) → Ends count mid time (Ok check) after → mid.stop ≡ None → Rests mid.plan mid.options mid.moves → FitsHere d.plan d.options
+  pub ending_at : (A : Admitting) (count : S → ℕ) (time : ℕ) (check : Check) (after : DeskState S) → Ends count mid time (Ok check) after → mid.stop ≡ None → Rests A mid.plan mid.options mid.moves → FitsHere d.plan d.options
       → IsRunEnd d.options.limit check
-  ending_at count time check after h unset rests here =
-      subst (λ (O : Options). IsRunEnd O.limit check) goes.options (subst (IsRunEnd mid.options.limit) (answer_is count time check after h unset) (ends_so mid.plan mid.options mid.moves rests (fits_still here)))
+  ending_at A count time check after h unset rests here =
+      subst (λ (O : Options). IsRunEnd O.limit check) goes.options (subst (IsRunEnd mid.options.limit) (answer_is count time check after h unset) (ends_so A mid.plan mid.options mid.moves rests (fits_still here)))
 
   rose_at : (before now : ℕ) → IsFresh d.options.limit (records_of d.moves) → LogsFailures (records_of d.moves) (records_of mid.moves) before now
       → (r : ℕ) → find (has_failed (records_of mid.moves)) (rule_numbers mid.plan) ≡ Some r → before < now
@@ -88,14 +90,14 @@ module _ {S : Type 0} (trust : Type 0) (gives : Function) (may_fail : Job → Fa
       (λ more. least_says Q (filter (passes_inputs mid.plan H) (ready_rules mid.plan H)) (λ r. checks.InputsTooLarge (rule_no r) (input_bytes mid.plan H r)) (λ r. risen)) (λ more full. risen) (λ r most is. risen))
 
   -- All rules are complete, or there is a limit and no room, over a sure runner, where the inputs fit and the log has room.
-  pub complete_at : (count : S → ℕ) (time : ℕ) (check : Check) (after : DeskState S) (before now : ℕ) (image : Files) → Ends count mid time (Ok check) after → mid.stop ≡ None → Rests mid.plan mid.options mid.moves → FitsHere d.plan d.options
+  pub complete_at : (A : Admitting) (count : S → ℕ) (time : ℕ) (check : Check) (after : DeskState S) (before now : ℕ) (image : Files) → Ends count mid time (Ok check) after → mid.stop ≡ None → Rests A mid.plan mid.options mid.moves → FitsHere d.plan d.options
       → IsFresh d.options.limit (records_of d.moves) → LogsFailures (records_of d.moves) (records_of mid.moves) before now → now ≡ before → trust → Keeps (Fits trust gives sources) mid.plan mid.log (records_of mid.moves) image
       → SerialInputsFit d.plan gives sources → length (running_rules mid.plan (records_of mid.moves)) ≤ 0 → records_due mid.plan (records_of mid.moves) ≤ records_due d.plan (records_of d.moves)
       → records_due d.plan (records_of d.moves) + 1 ≤ most_records → IsCompleteEnd d.options.limit check
-  complete_at count time check after before now image h unset rests here fresh logs same trusted keeps fit idle due few =
+  complete_at A count time check after before now image h unset rests here fresh logs same trusted keeps fit idle due few =
       subst (λ (O : Options). IsCompleteEnd O.limit check) goes.options
       (subst (IsCompleteEnd mid.options.limit) (answer_is count time check after h unset)
-      (completes_so mid.plan mid.options mid.moves rests (fits_still here)
+      (completes_so A mid.plan mid.options mid.moves rests (fits_still here)
       (λ r found. let rose = rose_at before now fresh logs r found in let wrong : ⊥ = omega (arith, rose, same) in wrong)
       (inputs_fit trust mid.plan gives sources mid.log (records_of mid.moves) image trusted keeps (subst (λ (P : Plan). SerialInputsFit P gives sources) (sym goes.plan) fit)) idle (omega (arith, due, few))))
 

@@ -6,7 +6,7 @@ use Rattle.flow_types.specs.declared.numbers.LinkNo.{LinkNo}
 use Rattle.flow_types.specs.Plans.{takes}
 use Rattle.run_history.specs.declared.links.JoinRefused.{JoinRefused}
 use Rattle.run_history.specs.declared.moves.Move.TheVariants as moves
-use Rattle.run_history.specs.Answers.{claim_of}
+use Rattle.run_history.specs.Admissions.{Admitting, claim_by}
 use Rattle.run_history.specs.Links.{records_of}
 use Rattle.run_history.specs.Storage.{is_present}
 use Rattle.desk.specs.declared.answers.Claim.{Claim}
@@ -37,10 +37,10 @@ claimed_by (Ok (claims.Nothing why)) front back away = away
 claimed_by (Err halt) front back away = away
 
 -- What a claim for this link tells of the desk behind it: the attempt is on the link and runs, and the inputs of its rule are present; or this is why none was begun.
-abbrev pub IsClaimed : {S : Type 0} → DeskState S → LinkNo → Claim → Type 0
-IsClaimed d link (claims.Taken attempt) =
+abbrev pub IsClaimed : {S : Type 0} → Admitting → DeskState S → LinkNo → Claim → Type 0
+IsClaimed A d link (claims.Taken attempt) =
     (attempt.link ≡ link) × RunsAt d.plan (IsFine d.trouble) (records_of d.moves) attempt × (list_all (is_present d.plan (records_of d.moves)) (takes d.plan attempt.rule.0) ≡ true)
-IsClaimed d link (claims.Nothing why) = claim_of d.plan d.options d.moves d.stop link.0 ≡ Err why
+IsClaimed A d link (claims.Nothing why) = claim_by A d.plan d.options d.moves d.stop link.0 ≡ Err why
 
 -- once an attempt there was closed, beside these
 abbrev pub done_by : List Attempt → AwayState → AwayState

@@ -14,7 +14,7 @@ use Rattle.flow_types.specs.Plans.{maker_of}
 use Rattle.flow_types.specs.Serial.{Contents, Function, job_of, serial}
 use Rattle.run_history.specs.declared.answers.Nothing.{Nothing}
 use Rattle.run_history.specs.declared.answers.Nothing.TheVariants as nothing
-use Rattle.run_history.specs.Answers.{claim_of}
+use Rattle.run_history.specs.Admissions.{Admitting, claim_by}
 use Rattle.run_history.specs.declared.moves.Move.{Move}
 use Rattle.run_history.specs.History.{is_cleaned, is_opening}
 use Rattle.run_history.specs.declared.options.Options.{Options}
@@ -120,9 +120,9 @@ abbrev pub is_collect_first : Nothing → Bool
 is_collect_first (nothing.CollectFirst file) = true
 is_collect_first why = false
 
--- A claim for the local place gives no rule. Where that is since a file is to be dropped first, none can be dropped.
-abbrev pub HasNothing : {S : Type 0} → DeskState S → Type 0
-HasNothing d = (why : Nothing) × (claim_of d.plan d.options d.moves d.stop 0 ≡ Err why)
+-- A claim for the local place gives no rule, with this admission. Where that is since a file is to be dropped first, none can be dropped.
+abbrev pub HasNothing : {S : Type 0} → Admitting → DeskState S → Type 0
+HasNothing A d = (why : Nothing) × (claim_by A d.plan d.options d.moves d.stop 0 ≡ Err why)
     × (is_collect_first why ≡ true → (file : ℕ) → collection_of d.plan d.options d.moves ≡ Ok (Some file) → ⊥)
 
 -- No record was added, or the drop of a file.

@@ -11,6 +11,7 @@ use Rattle.flow_types.specs.declared.job.Start.{Start}
 use Rattle.flow_types.specs.declared.records.Record.{Record}
 use Rattle.flow_types.specs.Serial.{Contents, Function, job_of, serial}
 use Rattle.run_history.specs.declared.moves.Move.{Move}
+use Rattle.run_history.specs.Admissions.{Admitting}
 use Rattle.run_history.specs.Answers.{has_ended}
 use Rattle.run_history.specs.declared.options.Options.{Options}
 use Rattle.run_history.specs.Links.{may_run_on, names_link, records_of}
@@ -197,8 +198,8 @@ pub record Underway {S : Type 0} (trust : Type 0) (gives : Function) (may_fail :
   pub due : IsGoing halt → sure → IsSmooth away → records_due now.plan (records_of now.moves) ≤ records_due d.plan (records_of d.moves) + length held + loose_count loose + length away.attempts
 
 -- What a run comes to whose runners rise from these counts to those: nothing runs, a claim gives no rule, or it stopped, and this is why.
-pub record ComesTo {S A : Type 0} (trust : Type 0) (gives : Function) (may_fail : Job → Failure → Type 0) (sources : Contents) (tells kept sure : Type 0) (files : S → Files) (may_leave : S → Outcomes) (moment : S → ℕ)
-    (images_since : S → ℕ → Files → Type 0) (d after : DeskState S) (count count_now failures failures_now : ℕ) (result : Result A Halt) : Type 0 where
+pub record ComesTo {S B : Type 0} (A : Admitting) (trust : Type 0) (gives : Function) (may_fail : Job → Failure → Type 0) (sources : Contents) (tells kept sure : Type 0) (files : S → Files) (may_leave : S → Outcomes) (moment : S → ℕ)
+    (images_since : S → ℕ → Files → Type 0) (d after : DeskState S) (count count_now failures failures_now : ℕ) (result : Result B Halt) : Type 0 where
   pub goes : GoesOn trust gives may_fail sources tells files may_leave moment images_since [] d after
   pub idle : IsFine after.trouble → length (running_rules after.plan (records_of after.moves)) ≤ 0
   pub closed : Closed d after result
@@ -212,4 +213,4 @@ pub record ComesTo {S A : Type 0} (trust : Type 0) (gives : Function) (may_fail 
   pub unended : has_ended (records_of d.moves) ≡ false → has_ended (records_of after.moves) ≡ false
   pub due : OnOk result (sure → records_due after.plan (records_of after.moves) ≤ records_due d.plan (records_of d.moves))
   pub none : OnOk result (sure → failures_now ≡ failures)
-  pub rests : OnOk result (HasNothing after)
+  pub rests : OnOk result (HasNothing A after)

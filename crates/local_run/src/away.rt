@@ -3,6 +3,7 @@ ghost use Rattle.std.specs.Prelude.{◌≡◌, ◌<◌, ◌++◌, ◌∷◌, Lis
 ghost use Rattle.std.specs.Prelude.{IfOk, OnOk, length, slice_get, true};
 ghost use Rattle.flow_types.specs.declared.job.Start.{Start as StartValue};
 ghost use Rattle.flow_types.specs.declared.plan.Rule.{Rule};
+ghost use Rattle.flow_types.specs.declared.plan.Plan.{Plan as PlanValue};
 ghost use Rattle.flow_types.specs.Plans.{IsValid, makes};
 ghost use Rattle.flow_types.specs.Serial.{job_of, serial};
 ghost use Rattle.run_history.specs.Legal.{is_failure_at};
@@ -28,12 +29,12 @@ use flow_types::{Amounts, Bytes, Failure, FileNo, LinkNo, Rows};
 use outside::{Commands, Site};
 use run_history::JoinRefused;
 use std::alloc::Global;
-use task_core::AdmitAll;
+use task_core::Admission;
 use worker_pool::Terms as PoolTerms;
 
 /// A link joins with these amounts, the largest of one of its places, and a cache of so many bytes.
-pub fn join<B: PoolTerms, F: Commands, S: Site, T: Terms>(
-    desk: &mut Desk<F, S, T, AdmitAll>,
+pub fn join<B: PoolTerms, F: Commands, S: Site, T: Terms, A: Admission>(
+    desk: &mut Desk<F, S, T, A>,
     total: Amounts,
     largest: Amounts,
     cache: u64,
@@ -53,8 +54,8 @@ pub fn join<B: PoolTerms, F: Commands, S: Site, T: Terms>(
 }
 
 /// A link states other amounts and another cache, in bytes. Condition: it lives.
-pub fn change<B: PoolTerms, F: Commands, S: Site, T: Terms>(
-    desk: &mut Desk<F, S, T, AdmitAll>,
+pub fn change<B: PoolTerms, F: Commands, S: Site, T: Terms, A: Admission>(
+    desk: &mut Desk<F, S, T, A>,
     link: LinkNo,
     total: Amounts,
     largest: Amounts,
@@ -78,8 +79,8 @@ pub fn change<B: PoolTerms, F: Commands, S: Site, T: Terms>(
 
 /// A link leaves, on which none of the attempts on links runs. Conditions: the desk works, the link
 /// isn't the local place, and it lives.
-pub fn leave<B: PoolTerms, F: Commands, S: Site, T: Terms>(
-    desk: &mut Desk<F, S, T, AdmitAll>,
+pub fn leave<B: PoolTerms, F: Commands, S: Site, T: Terms, A: Admission>(
+    desk: &mut Desk<F, S, T, A>,
     link: LinkNo,
 )
     requires fine { IsFine desk.old.trouble }
@@ -107,12 +108,14 @@ pub fn leave<B: PoolTerms, F: Commands, S: Site, T: Terms>(
 
 /// Starts a rule on a link, if a claim for it gives one. Conditions: the link isn't the local
 /// place, and it lives.
-pub fn claim_away<B: PoolTerms, F: Commands, S: Site, T: Terms>(
-    desk: &mut Desk<F, S, T, AdmitAll>,
+pub fn claim_away<B: PoolTerms, F: Commands, S: Site, T: Terms, A: Admission>(
+    desk: &mut Desk<F, S, T, A>,
+    admission: &mut A,
     link: LinkNo,
     moment: u64,
 ) -> Result<Claim, Halt>
     requires beyond { 0 < link.0 }
+    requires stands { A.stands_for admission.old desk.old.plan }
     requires lives { is_live desk.old.options desk.old.moves link.0 ≡ true }
     ensures underway { (away : AwayState) (front back : List AttemptValue) (first : DeskState S)
         (held : List AttemptValue) (waiting : List StartValue) (heard : Tally)
@@ -124,11 +127,12 @@ pub fn claim_away<B: PoolTerms, F: Commands, S: Site, T: Terms>(
         S.files S.may_leave S.moment S.images_since (claimed_by result front back away) first
         desk.new held waiting None heard (halt_after result None) }
     ensures told { IfOk result (λ claim. IsFine desk.new.trouble
-        × IsClaimed desk.new link claim) }
+        × IsClaimed A.admitted desk.new link claim) }
     ensures spares { OnOk result (SparesAll desk.old.moves desk.new.moves) }
+    ensures stays { (P : PlanValue) → A.stands_for admission.old P → A.stands_for admission.new P }
 {
     let _works = desk.works();
-    match desk.claim(link, moment) {
+    match desk.claim_by(link, admission, moment) {
         Ok(claim) => Ok(claim),
         Err(ClaimRefused::Broken { .. }) => Err(Halt::Site),
         Err(ClaimRefused::Memory) => Err(Halt::Memory),
@@ -136,9 +140,9 @@ pub fn claim_away<B: PoolTerms, F: Commands, S: Site, T: Terms>(
 }
 
 /// The content of a file, as it was logged. Conditions: the desk works, and the file is present.
-pub fn read_away<B: PoolTerms, F: Commands, S: Site, T: Terms>(
+pub fn read_away<B: PoolTerms, F: Commands, S: Site, T: Terms, A: Admission>(
     alloc: Global,
-    desk: &mut Desk<F, S, T, AdmitAll>,
+    desk: &mut Desk<F, S, T, A>,
     file: FileNo,
 ) -> Result<Bytes, Halt>
     requires fine { IsFine desk.old.trouble }
@@ -162,8 +166,8 @@ pub fn read_away<B: PoolTerms, F: Commands, S: Site, T: Terms>(
 }
 
 /// Finishes an attempt on a link with what its job gave.
-pub fn finish_away<B: PoolTerms, F: Commands, S: Site, T: Terms>(
-    desk: &mut Desk<F, S, T, AdmitAll>,
+pub fn finish_away<B: PoolTerms, F: Commands, S: Site, T: Terms, A: Admission>(
+    desk: &mut Desk<F, S, T, A>,
     attempt: Attempt,
     outs: &Rows<Bytes>,
     moment: u64,
@@ -187,12 +191,12 @@ pub fn finish_away<B: PoolTerms, F: Commands, S: Site, T: Terms>(
     ensures ends { OnOk result
         (EndsIt desk.old.moves attempt (done_as attempt outs.now) desk.new.moves) }
 {
-    finish::<B, F, S, T>(desk, attempt, outs, moment)
+    finish::<B, F, S, T, A>(desk, attempt, outs, moment)
 }
 
 /// Closes an attempt on a link, whose command failed there.
-pub fn fail_away<B: PoolTerms, F: Commands, S: Site, T: Terms>(
-    desk: &mut Desk<F, S, T, AdmitAll>,
+pub fn fail_away<B: PoolTerms, F: Commands, S: Site, T: Terms, A: Admission>(
+    desk: &mut Desk<F, S, T, A>,
     attempt: Attempt,
     why: Failure,
     moment: u64,
@@ -227,8 +231,8 @@ pub fn fail_away<B: PoolTerms, F: Commands, S: Site, T: Terms>(
 }
 
 /// Gives an attempt on a link up.
-pub fn lose_away<B: PoolTerms, F: Commands, S: Site, T: Terms>(
-    desk: &mut Desk<F, S, T, AdmitAll>,
+pub fn lose_away<B: PoolTerms, F: Commands, S: Site, T: Terms, A: Admission>(
+    desk: &mut Desk<F, S, T, A>,
     attempt: Attempt,
     moment: u64,
 ) -> Result<(), Halt>

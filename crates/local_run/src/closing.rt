@@ -4,6 +4,7 @@ ghost use Rattle.std.specs.Prelude.{OnOk, length, slice_get, true};
 ghost use Rattle.flow_types.specs.declared.job.Outcome.TheVariants as outcomes;
 ghost use Rattle.flow_types.specs.declared.job.Start.{Start as StartValue};
 ghost use Rattle.flow_types.specs.declared.plan.Rule.{Rule};
+ghost use Rattle.flow_types.specs.declared.plan.Plan.{Plan as PlanValue};
 ghost use Rattle.flow_types.specs.Plans.{IsValid, makes};
 ghost use Rattle.flow_types.specs.Serial.{job_of, serial};
 ghost use Rattle.run_history.specs.Legal.{is_failure_at};
@@ -23,18 +24,20 @@ use desk::{Attempt, CloseRefused, Desk, Terms};
 use flow_types::{Bytes, Failure, Rows};
 use outside::{Clock, Commands, Site};
 use run_history::Stop;
-use task_core::AdmitAll;
+use task_core::Admission;
 use worker_pool::Terms as PoolTerms;
 
 /// Stops the run and gives the attempt up, for this cause. Where the site fails or memory is
 /// wanting in it, that is the cause.
-pub(crate) fn give_up<B: PoolTerms, F: Commands, S: Site, T: Terms, C: Clock>(
-    desk: &mut Desk<F, S, T, AdmitAll>,
+pub(crate) fn give_up<B: PoolTerms, F: Commands, S: Site, T: Terms, A: Admission, C: Clock>(
+    desk: &mut Desk<F, S, T, A>,
+    admission: &mut A,
     attempt: Attempt,
     clock: &C,
     why: Halt,
 ) -> Halt
     requires valid { IsValid desk.old.plan }
+    requires stands { A.stands_for admission.old desk.old.plan }
     requires runs { RunsAt desk.old.plan (IsFine desk.old.trouble) (records_of desk.old.moves)
         attempt }
     ensures underway { (away : AwayState) (first : DeskState S) (held : List AttemptValue)
@@ -48,8 +51,9 @@ pub(crate) fn give_up<B: PoolTerms, F: Commands, S: Site, T: Terms, C: Clock>(
         S.files S.may_leave S.moment S.images_since away first
         desk.new held waiting None heard (Some result) }
     ensures halt { GivesUp why desk.old.trouble desk.new.trouble result }
+    ensures stays { (P : PlanValue) → A.stands_for admission.old P → A.stands_for admission.new P }
 {
-    let _stops = desk.stop(Stop::Halt);
+    let _stops = desk.stop_by(admission, Stop::Halt);
     match desk.lose(attempt, clock.now()) {
         Ok(()) => why,
         Err(CloseRefused::Stale { .. }) => unreachable!(),
@@ -59,8 +63,8 @@ pub(crate) fn give_up<B: PoolTerms, F: Commands, S: Site, T: Terms, C: Clock>(
 }
 
 /// Finishes the attempt with what its job gave.
-pub(crate) fn finish<B: PoolTerms, F: Commands, S: Site, T: Terms>(
-    desk: &mut Desk<F, S, T, AdmitAll>,
+pub(crate) fn finish<B: PoolTerms, F: Commands, S: Site, T: Terms, A: Admission>(
+    desk: &mut Desk<F, S, T, A>,
     attempt: Attempt,
     outs: &Rows<Bytes>,
     moment: u64,
@@ -93,8 +97,8 @@ pub(crate) fn finish<B: PoolTerms, F: Commands, S: Site, T: Terms>(
 }
 
 /// Closes the attempt, whose command failed.
-pub(crate) fn fail<B: PoolTerms, F: Commands, S: Site, T: Terms>(
-    desk: &mut Desk<F, S, T, AdmitAll>,
+pub(crate) fn fail<B: PoolTerms, F: Commands, S: Site, T: Terms, A: Admission>(
+    desk: &mut Desk<F, S, T, A>,
     attempt: Attempt,
     why: Failure,
     moment: u64,

@@ -1,6 +1,7 @@
 //! A run over a desk, from its first claim to its end.
 ghost use Rattle.std.specs.Prelude.{◌≡◌, ◌≤◌, ◌<◌, ◌+◌, [], length, sum_by, IfOk, IfErr, None};
 ghost use Rattle.std.specs.Prelude.{OnOk};
+ghost use Rattle.flow_types.specs.declared.plan.Plan.{Plan as PlanValue};
 ghost use Rattle.flow_types.specs.Plans.{IsValid};
 ghost use Rattle.flow_types.specs.Serial.{serial};
 ghost use Rattle.run_history.specs.Answers.{before_end, end_over};
@@ -26,7 +27,7 @@ use run_history::Check;
 use std::alloc::Global;
 use std::sync::Wait;
 use std::thread::Threads;
-use task_core::AdmitAll;
+use task_core::Admission;
 use worker_pool::Gate;
 
 /// Runs the rules that the desk hands out for the local place, and ends the run. After a fault of
@@ -39,16 +40,19 @@ pub fn work<
     R: Runner<F>,
     C: Clock,
     T: Terms,
+    A: Admission,
 >(
     rt: &W,
     alloc: Global,
-    desk: &mut Desk<F, S, T, AdmitAll>,
+    desk: &mut Desk<F, S, T, A>,
+    admission: &mut A,
     runners: &mut [R],
     gate: &G,
     clock: &C,
 ) -> Result<Check, Halt>
     requires some { 0 < length runners.old }
     requires valid { IsValid desk.old.plan }
+    requires stands { A.stands_for admission.old desk.old.plan }
     requires fine { IsFine desk.old.trouble }
     requires idle { length (running_rules desk.old.plan (records_of desk.old.moves)) ≤ 0 }
     requires base { T.trust → S.tells × T.kept
@@ -91,8 +95,9 @@ pub fn work<
         (before_end (records_of desk.new.moves)) None) }
     ensures added { IsFresh desk.old.options.limit (records_of desk.old.moves)
         → RunAdds (records_of desk.old.moves) (records_of desk.new.moves) (ended_by result) }
+    ensures stays { (P : PlanValue) → A.stands_for admission.old P → A.stands_for admission.new P }
 {
-    match serve_all(rt, alloc, desk, runners, gate, clock) {
+    match serve_all(rt, alloc, desk, admission, runners, gate, clock) {
         Ok(()) => {}
         Err(halt) => return Err(halt),
     }

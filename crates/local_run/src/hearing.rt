@@ -1,6 +1,7 @@
 //! How a start that the pool had has ended.
 ghost use Rattle.std.specs.Prelude.{◌≡◌, List, None, OnOk, Option, Some, false};
 ghost use Rattle.flow_types.specs.declared.job.Start.{Start as StartValue};
+ghost use Rattle.flow_types.specs.declared.plan.Plan.{Plan as PlanValue};
 ghost use Rattle.flow_types.specs.Plans.{IsValid};
 ghost use Rattle.flow_types.specs.Serial.{serial};
 ghost use Rattle.outside.specs.Jobs.{IsSuccess};
@@ -22,17 +23,19 @@ use crate::held::Held;
 use desk::{Attempt, Desk, Terms};
 use flow_types::Outcome;
 use outside::{Clock, Commands, Site};
-use task_core::AdmitAll;
+use task_core::Admission;
 use worker_pool::{Pool, Terms as PoolTerms};
 
 /// Closes the attempt by how its job ended.
-fn close<B: PoolTerms, F: Commands, S: Site, T: Terms, C: Clock>(
-    desk: &mut Desk<F, S, T, AdmitAll>,
+fn close<B: PoolTerms, F: Commands, S: Site, T: Terms, A: Admission, C: Clock>(
+    desk: &mut Desk<F, S, T, A>,
+    admission: &mut A,
     attempt: Attempt,
     outcome: Outcome,
     clock: &C,
 ) -> Result<(), Halt>
     requires valid { IsValid desk.old.plan }
+    requires stands { A.stands_for admission.old desk.old.plan }
     requires runs { RunsAt desk.old.plan (IsFine desk.old.trouble) (records_of desk.old.moves)
         attempt }
     requires outcome { IsOutcomeAt desk.old.plan T.trust F.gives F.may_fail T.sources
@@ -48,23 +51,32 @@ fn close<B: PoolTerms, F: Commands, S: Site, T: Terms, C: Clock>(
         desk.new held waiting None (plus heard (tally_of outcome))
         (halt_after result halt) }
     ensures spares { attempt.link.0 ≡ 0 → OnOk result (SparesAll desk.old.moves desk.new.moves) }
+    ensures stays { (P : PlanValue) → A.stands_for admission.old P → A.stands_for admission.new P }
 {
     match outcome {
-        Outcome::Success(outs) => finish::<B, F, S, T>(desk, attempt, &outs, clock.now()),
-        Outcome::Failed(why) => fail::<B, F, S, T>(desk, attempt, why, clock.now()),
-        Outcome::NotRun => Err(give_up::<B, F, S, T, C>(desk, attempt, clock, Halt::Runner)),
+        Outcome::Success(outs) => finish::<B, F, S, T, A>(desk, attempt, &outs, clock.now()),
+        Outcome::Failed(why) => fail::<B, F, S, T, A>(desk, attempt, why, clock.now()),
+        Outcome::NotRun => Err(give_up::<B, F, S, T, A, C>(
+            desk,
+            admission,
+            attempt,
+            clock,
+            Halt::Runner,
+        )),
     }
 }
 
 /// Takes one report, where one is ready, and closes its attempt by how the job ended. It answers
 /// whether there was one.
-pub fn hear<B: PoolTerms, F: Commands, S: Site, T: Terms, C: Clock>(
-    desk: &mut Desk<F, S, T, AdmitAll>,
+pub fn hear<B: PoolTerms, F: Commands, S: Site, T: Terms, A: Admission, C: Clock>(
+    desk: &mut Desk<F, S, T, A>,
+    admission: &mut A,
     held: &mut Held,
     pool: &mut Pool<B>,
     clock: &C,
 ) -> bool
     requires valid { IsValid desk.old.plan }
+    requires stands { A.stands_for admission.old desk.old.plan }
     requires shaped { IsShapedPool B.fits }
     requires told { T.trust → TellsJobs desk.old.plan desk.old.options
         (ToldOf F.gives F.may_fail B.fits) (serial desk.old.plan F.gives T.sources) }
@@ -82,12 +94,13 @@ pub fn hear<B: PoolTerms, F: Commands, S: Site, T: Terms, C: Clock>(
     ensures line { pool.new.line ≡ pool.old.line }
     ensures spares { held.new.halt ≡ None
         → (held.old.halt ≡ None) × SparesAll desk.old.moves desk.new.moves }
+    ensures stays { (P : PlanValue) → A.stands_for admission.old P → A.stands_for admission.new P }
 {
     let Some(report) = pool.hear() else {
         return false;
     };
     let attempt = held.take(report.attempt);
-    if let Err(why) = close::<B, F, S, T, C>(desk, attempt, report.outcome, clock) {
+    if let Err(why) = close::<B, F, S, T, A, C>(desk, admission, attempt, report.outcome, clock) {
         held.stop(why);
     }
     true

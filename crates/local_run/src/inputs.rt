@@ -11,12 +11,12 @@ use desk::{Desk, InputRefused, Terms};
 use flow_types::{Given, Port, Rows};
 use outside::{Commands, Site};
 use std::alloc::Global;
-use task_core::AdmitAll;
+use task_core::Admission;
 
 /// The input at a port.
-fn read_port<F: Commands, S: Site, T: Terms>(
+fn read_port<F: Commands, S: Site, T: Terms, A: Admission>(
     alloc: Global,
-    desk: &mut Desk<F, S, T, AdmitAll>,
+    desk: &mut Desk<F, S, T, A>,
     port: &Port,
 ) -> Result<Given, InputRefused>
     requires present { is_present desk.old.plan (records_of desk.old.moves) port.now.file.0
@@ -42,9 +42,9 @@ fn read_port<F: Commands, S: Site, T: Terms>(
 }
 
 /// The inputs at these ports, each as it was logged. Condition: each file is present.
-pub(crate) fn read_inputs<F: Commands, S: Site, T: Terms>(
+pub(crate) fn read_inputs<F: Commands, S: Site, T: Terms, A: Admission>(
     alloc: Global,
-    desk: &mut Desk<F, S, T, AdmitAll>,
+    desk: &mut Desk<F, S, T, A>,
     ports: &[Port],
 ) -> Result<Rows<Given>, InputRefused>
     requires present { All (λ port. is_present desk.old.plan (records_of desk.old.moves)

@@ -16,12 +16,12 @@ use desk::{Attempt, Desk, InputRefused, Terms};
 use flow_types::{Job, Task};
 use outside::{Commands, Site};
 use std::alloc::Global;
-use task_core::AdmitAll;
+use task_core::Admission;
 
 /// The job of an attempt, over its inputs as they were logged.
-pub(crate) fn job_for<F: Commands, S: Site, T: Terms>(
+pub(crate) fn job_for<F: Commands, S: Site, T: Terms, A: Admission>(
     alloc: Global,
-    desk: &mut Desk<F, S, T, AdmitAll>,
+    desk: &mut Desk<F, S, T, A>,
     attempt: &Attempt,
 ) -> Result<Job, InputRefused>
     requires rule { attempt.now.rule.0 < length desk.old.plan.rules }

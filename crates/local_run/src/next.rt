@@ -3,8 +3,9 @@ ghost use Rattle.std.specs.Prelude.{◌≡◌, ◌≤◌, ◌<◌, ◌+◌, Err,
 ghost use Rattle.std.specs.Prelude.{OnOk, false, length, true};
 ghost use Rattle.std.specs.List.{list_all};
 ghost use Rattle.flow_types.specs.declared.job.Start.{Start as StartValue};
+ghost use Rattle.flow_types.specs.declared.plan.Plan.{Plan as PlanValue};
 ghost use Rattle.flow_types.specs.Plans.{IsValid, takes};
-ghost use Rattle.run_history.specs.Answers.{claim_of};
+ghost use Rattle.run_history.specs.Admissions.{claim_by};
 ghost use Rattle.run_history.specs.Links.{may_run_on, records_of};
 ghost use Rattle.run_history.specs.Storage.{is_present};
 ghost use Rattle.worker_pool.specs.declared.hand.Tally.{Tally};
@@ -26,7 +27,7 @@ use outside::{Clock, Commands, Site};
 use run_history::Nothing;
 use std::alloc::Global;
 use std::sync::Wait;
-use task_core::AdmitAll;
+use task_core::Admission;
 use worker_pool::{Pool, Terms as PoolTerms};
 
 /// Why a run stops whose input isn't read.
@@ -57,14 +58,14 @@ fn is_collect_first(why: Nothing) -> bool
 
 /// Where a claim for the local place took no rule since a file is to be dropped first, drops that,
 /// if the log has a place, and answers whether it did.
-fn make_way<B: PoolTerms, F: Commands, S: Site, C: Clock, T: Terms>(
-    desk: &mut Desk<F, S, T, AdmitAll>,
+fn make_way<B: PoolTerms, F: Commands, S: Site, C: Clock, T: Terms, A: Admission>(
+    desk: &mut Desk<F, S, T, A>,
     why: Nothing,
     clock: &C,
 ) -> Result<bool, Halt>
     requires fine { IsFine desk.old.trouble }
-    requires nothing { claim_of desk.old.plan desk.old.options desk.old.moves desk.old.stop 0
-        ≡ Err why }
+    requires nothing { claim_by A.admitted desk.old.plan desk.old.options desk.old.moves
+        desk.old.stop 0 ≡ Err why }
     ensures underway { (away : AwayState) (first : DeskState S) (held : List AttemptValue)
         (waiting : List StartValue) (heard : Tally)
         → Underway T.trust F.gives F.may_fail T.sources S.tells T.kept (IsSurePool B.fits)
@@ -76,7 +77,7 @@ fn make_way<B: PoolTerms, F: Commands, S: Site, C: Clock, T: Terms>(
         (halt_after result None) }
     ensures grew { IfOk result (λ dropped. dropped ≡ true
         → length (records_of desk.old.moves) + 1 ≤ length (records_of desk.new.moves)) }
-    ensures rests { IfOk result (λ dropped. dropped ≡ false → HasNothing desk.new) }
+    ensures rests { IfOk result (λ dropped. dropped ≡ false → HasNothing A.admitted desk.new) }
     ensures spares { OnOk result (SparesAll desk.old.moves desk.new.moves) }
 {
     if !is_collect_first(why) {
@@ -93,16 +94,18 @@ fn make_way<B: PoolTerms, F: Commands, S: Site, C: Clock, T: Terms>(
 
 /// Holds the attempt and hands its job to the pool. Where its inputs can't be read, or memory is
 /// wanting, the run stops.
-fn begin<B: PoolTerms, W: Wait, F: Commands, S: Site, T: Terms, C: Clock>(
+fn begin<B: PoolTerms, W: Wait, F: Commands, S: Site, T: Terms, A: Admission, C: Clock>(
     rt: &W,
     alloc: Global,
-    desk: &mut Desk<F, S, T, AdmitAll>,
+    desk: &mut Desk<F, S, T, A>,
+    admission: &mut A,
     held: &mut Held,
     pool: &mut Pool<B>,
     attempt: Attempt,
     clock: &C,
 )
     requires valid { IsValid desk.old.plan }
+    requires stands { A.stands_for admission.old desk.old.plan }
     requires base { T.trust → S.tells × T.kept }
     requires rule { attempt.rule.0 < length desk.old.plan.rules }
     requires here { attempt.link.0 ≡ 0 }
@@ -125,11 +128,12 @@ fn begin<B: PoolTerms, W: Wait, F: Commands, S: Site, T: Terms, C: Clock>(
         pool.new.waiting None pool.new.heard held.new.halt }
     ensures line { pool.new.line ≡ pool.old.line }
     ensures stays { held.new.halt ≡ None → desk.new.moves ≡ desk.old.moves }
+    ensures standing { (P : PlanValue) → A.stands_for admission.old P → A.stands_for admission.new P }
 {
     let job = match job_for(alloc, desk, &attempt) {
         Ok(job) => job,
         Err(why) => {
-            let halt = give_up::<B, F, S, T, C>(desk, attempt, clock, halt_by(why));
+            let halt = give_up::<B, F, S, T, A, C>(desk, admission, attempt, clock, halt_by(why));
             held.stop(halt);
             return;
         }
@@ -144,7 +148,7 @@ fn begin<B: PoolTerms, W: Wait, F: Commands, S: Site, T: Terms, C: Clock>(
             },
         ),
         Err(attempt) => {
-            let halt = give_up::<B, F, S, T, C>(desk, attempt, clock, Halt::Memory);
+            let halt = give_up::<B, F, S, T, A, C>(desk, admission, attempt, clock, Halt::Memory);
             held.stop(halt);
         }
     }
@@ -153,15 +157,17 @@ fn begin<B: PoolTerms, W: Wait, F: Commands, S: Site, T: Terms, C: Clock>(
 /// Starts a rule, if a claim for the local place gives one, or drops the file that is to go first.
 /// It answers whether it did anything; then the run may have stopped by it, and else the log has
 /// more records.
-pub(crate) fn next<B: PoolTerms, W: Wait, F: Commands, S: Site, T: Terms, C: Clock>(
+pub(crate) fn next<B: PoolTerms, W: Wait, F: Commands, S: Site, T: Terms, A: Admission, C: Clock>(
     rt: &W,
     alloc: Global,
-    desk: &mut Desk<F, S, T, AdmitAll>,
+    desk: &mut Desk<F, S, T, A>,
+    admission: &mut A,
     held: &mut Held,
     pool: &mut Pool<B>,
     clock: &C,
 ) -> bool
     requires valid { IsValid desk.old.plan }
+    requires stands { A.stands_for admission.old desk.old.plan }
     requires base { T.trust → S.tells × T.kept }
     requires room { length pool.old.waiting < 64 }
     requires underway { (away : AwayState) × (first : DeskState S)
@@ -180,16 +186,17 @@ pub(crate) fn next<B: PoolTerms, W: Wait, F: Commands, S: Site, T: Terms, C: Clo
     ensures line { pool.new.line ≡ pool.old.line }
     ensures grew { result ≡ true → held.new.halt ≡ None
         → length (records_of desk.old.moves) + 1 ≤ length (records_of desk.new.moves) }
-    ensures rests { result ≡ false → HasNothing desk.new }
+    ensures rests { result ≡ false → HasNothing A.admitted desk.new }
     ensures spares { held.new.halt ≡ None → SparesAll desk.old.moves desk.new.moves }
+    ensures stays { (P : PlanValue) → A.stands_for admission.old P → A.stands_for admission.new P }
 {
     let _works = desk.works();
-    match desk.claim(LinkNo(0), clock.now()) {
+    match desk.claim_by(LinkNo(0), admission, clock.now()) {
         Ok(Claim::Taken(attempt)) => {
-            begin(rt, alloc, desk, held, pool, attempt, clock);
+            begin(rt, alloc, desk, admission, held, pool, attempt, clock);
             true
         }
-        Ok(Claim::Nothing(why)) => match make_way::<B, F, S, C, T>(desk, why, clock) {
+        Ok(Claim::Nothing(why)) => match make_way::<B, F, S, C, T, A>(desk, why, clock) {
             Ok(dropped) => dropped,
             Err(halt) => {
                 held.stop(halt);

@@ -3,6 +3,7 @@ ghost use Rattle.std.specs.Prelude.{◌≡◌, ◌≤◌, ◌<◌, ◌+◌, [], 
 ghost use Rattle.std.specs.Prelude.{OnOk, sum_by, true};
 ghost use Rattle.crossbeam_queue.specs.Passes.{view, IsPassOf, IsSamePass};
 ghost use Rattle.flow_types.specs.declared.job.Start.{Start as StartValue};
+ghost use Rattle.flow_types.specs.declared.plan.Plan.{Plan as PlanValue};
 ghost use Rattle.flow_types.specs.Plans.{IsValid};
 ghost use Rattle.flow_types.specs.Serial.{serial};
 ghost use Rattle.run_history.specs.Links.{records_of};
@@ -33,21 +34,23 @@ use std::alloc::Global;
 use std::marker::Brand;
 use std::sync::Wait;
 use std::thread::Threads;
-use task_core::AdmitAll;
+use task_core::Admission;
 use worker_pool::{Gate, Line, Pool, Terms as PoolTerms, Ticket, Tickets, Token, new_tickets};
 
 /// Does what comes next, if nothing stopped the run and fewer rules run than these, and answers
 /// whether there was something.
-pub fn go_on<B: PoolTerms, W: Wait, F: Commands, S: Site, T: Terms, C: Clock>(
+pub fn go_on<B: PoolTerms, W: Wait, F: Commands, S: Site, T: Terms, A: Admission, C: Clock>(
     rt: &W,
     alloc: Global,
-    desk: &mut Desk<F, S, T, AdmitAll>,
+    desk: &mut Desk<F, S, T, A>,
+    admission: &mut A,
     held: &mut Held,
     pool: &mut Pool<B>,
     most: usize,
     clock: &C,
 ) -> bool
     requires valid { IsValid desk.old.plan }
+    requires stands { A.stands_for admission.old desk.old.plan }
     requires base { T.trust → S.tells × T.kept }
     requires underway { (away : AwayState) × (first : DeskState S)
         × Underway T.trust F.gives F.may_fail T.sources S.tells T.kept (IsSurePool B.fits)
@@ -65,9 +68,10 @@ pub fn go_on<B: PoolTerms, W: Wait, F: Commands, S: Site, T: Terms, C: Clock>(
     ensures grew { result ≡ true → held.new.halt ≡ None
         → length (records_of desk.old.moves) + 1 ≤ length (records_of desk.new.moves) }
     ensures rests { result ≡ false → held.new.halt ≡ None → length pool.new.waiting < most
-        → HasNothing desk.new }
+        → HasNothing A.admitted desk.new }
     ensures spares { held.new.halt ≡ None
         → (held.old.halt ≡ None) × SparesAll desk.old.moves desk.new.moves }
+    ensures stays { (P : PlanValue) → A.stands_for admission.old P → A.stands_for admission.new P }
 {
     if !held.is_going() {
         return false;
@@ -75,22 +79,24 @@ pub fn go_on<B: PoolTerms, W: Wait, F: Commands, S: Site, T: Terms, C: Clock>(
     if pool.out() >= most {
         return false;
     }
-    next(rt, alloc, desk, held, pool, clock)
+    next(rt, alloc, desk, admission, held, pool, clock)
 }
 
 /// Starts rules and drops files, as many rules at once as are wished, and hears how they ended,
 /// until nothing runs and a claim gives no rule. Once the run stopped nothing more is started.
 /// Where a runner wanted memory the pool has ended, and what runs is heard no more.
-fn serve<B: PoolTerms, W: Wait, F: Commands, S: Site, T: Terms, C: Clock>(
+fn serve<B: PoolTerms, W: Wait, F: Commands, S: Site, T: Terms, A: Admission, C: Clock>(
     rt: &W,
     alloc: Global,
-    desk: &mut Desk<F, S, T, AdmitAll>,
+    desk: &mut Desk<F, S, T, A>,
+    admission: &mut A,
     held: &mut Held,
     pool: &mut Pool<B>,
     most: usize,
     clock: &C,
 )
     requires valid { IsValid desk.old.plan }
+    requires stands { A.stands_for admission.old desk.old.plan }
     requires shaped { IsShapedPool B.fits }
     requires base { T.trust → S.tells × T.kept }
     requires told { T.trust → TellsJobs desk.old.plan desk.old.options
@@ -109,20 +115,21 @@ fn serve<B: PoolTerms, W: Wait, F: Commands, S: Site, T: Terms, C: Clock>(
         pool.new.waiting None pool.new.heard held.new.halt }
     ensures line { pool.new.line ≡ pool.old.line }
     ensures heard { (IsWantHalt held.new.halt → ⊥) → pool.new.waiting ≡ [] }
-    ensures rests { held.new.halt ≡ None → HasNothing desk.new }
+    ensures rests { held.new.halt ≡ None → HasNothing A.admitted desk.new }
+    ensures stays { (P : PlanValue) → A.stands_for admission.old P → A.stands_for admission.new P }
 {
     for _ in rt.forever() {
         let Some(seen) = pool.seen() else {
             held.stop(Halt::Memory);
             return;
         };
-        if go_on(rt, alloc, desk, held, pool, most, clock) {
+        if go_on(rt, alloc, desk, admission, held, pool, most, clock) {
             continue;
         }
         if pool.out() == 0 {
             return;
         }
-        if !hear(desk, held, pool, clock) {
+        if !hear(desk, admission, held, pool, clock) {
             pool.rest(rt, seen);
         }
     }
@@ -130,16 +137,18 @@ fn serve<B: PoolTerms, W: Wait, F: Commands, S: Site, T: Terms, C: Clock>(
 }
 
 /// As `serve`, and then ends the waits of the runners.
-fn serve_and_close<B: PoolTerms, W: Wait, F: Commands, S: Site, T: Terms, C: Clock>(
+fn serve_and_close<B: PoolTerms, W: Wait, F: Commands, S: Site, T: Terms, A: Admission, C: Clock>(
     rt: &W,
     alloc: Global,
-    desk: &mut Desk<F, S, T, AdmitAll>,
+    desk: &mut Desk<F, S, T, A>,
+    admission: &mut A,
     held: &mut Held,
     pool: &mut Pool<B>,
     most: usize,
     clock: &C,
 )
     requires valid { IsValid desk.old.plan }
+    requires stands { A.stands_for admission.old desk.old.plan }
     requires shaped { IsShapedPool B.fits }
     requires base { T.trust → S.tells × T.kept }
     requires told { T.trust → TellsJobs desk.old.plan desk.old.options
@@ -158,20 +167,23 @@ fn serve_and_close<B: PoolTerms, W: Wait, F: Commands, S: Site, T: Terms, C: Clo
         pool.new.waiting None pool.new.heard held.new.halt }
     ensures line { pool.new.line ≡ pool.old.line }
     ensures heard { (IsWantHalt held.new.halt → ⊥) → pool.new.waiting ≡ [] }
-    ensures rests { held.new.halt ≡ None → HasNothing desk.new }
+    ensures rests { held.new.halt ≡ None → HasNothing A.admitted desk.new }
+    ensures stays { (P : PlanValue) → A.stands_for admission.old P → A.stands_for admission.new P }
 {
-    serve(rt, alloc, desk, held, pool, most, clock);
+    serve(rt, alloc, desk, admission, held, pool, most, clock);
     pool.close();
 }
 
 /// Gives up what is still held, which is something only where memory was wanting, and tells why the
 /// run stopped.
-pub fn settle<B: PoolTerms, F: Commands, S: Site, T: Terms, C: Clock>(
-    desk: &mut Desk<F, S, T, AdmitAll>,
+pub fn settle<B: PoolTerms, F: Commands, S: Site, T: Terms, A: Admission, C: Clock>(
+    desk: &mut Desk<F, S, T, A>,
+    admission: &mut A,
     held: Held,
     clock: &C,
 ) -> Result<(), Halt>
     requires valid { IsValid desk.old.plan }
+    requires stands { A.stands_for admission.old desk.old.plan }
     requires underway { (away : AwayState) × (first : DeskState S) × (waiting : List StartValue)
         × (heard : Tally)
         × Underway T.trust F.gives F.may_fail T.sources S.tells T.kept (IsSurePool B.fits)
@@ -189,10 +201,11 @@ pub fn settle<B: PoolTerms, F: Commands, S: Site, T: Terms, C: Clock>(
     ensures same { held.attempts ≡ [] → (desk.new ≡ desk.old) × (result ≡ settled held.halt) }
     ensures wants { IsWantHalt held.halt → IsFine desk.new.trouble → IsWant result }
     ensures rests { OnOk result ((held.halt ≡ None) × (desk.new ≡ desk.old)) }
+    ensures stays { (P : PlanValue) → A.stands_for admission.old P → A.stands_for admission.new P }
 {
     let mut held = held;
     while let Some(attempt) = held.pop() {
-        let halt = give_up::<B, F, S, T, C>(desk, attempt, clock, Halt::Memory);
+        let halt = give_up::<B, F, S, T, A, C>(desk, admission, attempt, clock, Halt::Memory);
         held.stop(halt);
     }
     match held.end() {
@@ -211,12 +224,14 @@ fn serve_beside<
     R: Runner<F>,
     C: Clock,
     T: Terms,
+    A: Admission,
 >(
     rt: &W,
     alloc: Global,
     line: &Line<B>,
     token: &mut Token,
-    desk: &mut Desk<F, S, T, AdmitAll>,
+    desk: &mut Desk<F, S, T, A>,
+    admission: &mut A,
     held: &mut Held,
     pool: &mut Pool<B>,
     runners: &mut [R],
@@ -228,6 +243,7 @@ fn serve_beside<
         × (length runners.old ≤ (view token.old).parts) }
     requires runners { Crew (MayReport F.gives F.may_fail R.tells R.sure B.fits) runners.old }
     requires valid { IsValid desk.old.plan }
+    requires stands { A.stands_for admission.old desk.old.plan }
     requires shaped { IsShapedPool B.fits }
     requires base { T.trust → S.tells × T.kept }
     requires told { T.trust → TellsJobs desk.old.plan desk.old.options
@@ -251,18 +267,20 @@ fn serve_beside<
         pool.new.waiting None pool.new.heard held.new.halt }
     ensures line { pool.new.line ≡ pool.old.line }
     ensures heard { (IsWantHalt held.new.halt → ⊥) → pool.new.waiting ≡ [] }
-    ensures rests { held.new.halt ≡ None → HasNothing desk.new }
+    ensures rests { held.new.halt ≡ None → HasNothing A.admitted desk.new }
+    ensures stays { (P : PlanValue) → A.stands_for admission.old P → A.stands_for admission.new P }
 {
     let most = runners.len().min(64);
-    call_beside::<B, W, G, F, R, Desk<F, S, T, AdmitAll>, _>(
+    call_beside::<B, W, G, F, R, Desk<F, S, T, A>, _>(
         rt,
         line,
         token,
         runners,
         gate,
         desk,
-        &mut |desk: &mut Desk<F, S, T, AdmitAll>|
+        &mut |desk: &mut Desk<F, S, T, A>|
             requires valid { IsValid desk.old.plan }
+            requires stands { A.stands_for admission.now desk.old.plan }
             requires shaped { IsShapedPool B.fits }
             requires base { T.trust → S.tells × T.kept }
             requires told { T.trust → TellsJobs desk.old.plan desk.old.options
@@ -284,8 +302,10 @@ fn serve_beside<
             ensures line { pool.exit.now.line ≡ pool.entry.now.line }
             ensures heard { (IsWantHalt held.exit.now.halt → ⊥)
                 → pool.exit.now.waiting ≡ [] }
-            ensures rests { held.exit.now.halt ≡ None → HasNothing desk.new }
-        { serve_and_close(rt, alloc, desk, held, pool, most, clock) },
+            ensures stays { (P : PlanValue) → A.stands_for admission.entry.now P
+                → A.stands_for admission.exit.now P }
+            ensures rests { held.exit.now.halt ≡ None → HasNothing A.admitted desk.new }
+        { serve_and_close(rt, alloc, desk, admission, held, pool, most, clock) },
     );
 }
 
@@ -299,12 +319,14 @@ fn serve_in<
     R: Runner<F>,
     C: Clock,
     T: Terms,
+    A: Admission,
 >(
     rt: &W,
     alloc: Global,
     tickets: Tickets,
     pass: Ticket,
-    desk: &mut Desk<F, S, T, AdmitAll>,
+    desk: &mut Desk<F, S, T, A>,
+    admission: &mut A,
     runners: &mut [R],
     gate: &G,
     clock: &C,
@@ -313,27 +335,29 @@ fn serve_in<
     requires some { 0 < length runners.old }
     requires runners { Crew (MayReport F.gives F.may_fail R.tells R.sure B.fits) runners.old }
     requires valid { IsValid desk.old.plan }
+    requires stands { A.stands_for admission.old desk.old.plan }
     requires fine { IsFine desk.old.trouble }
     requires idle { length (running_rules desk.old.plan (records_of desk.old.moves)) ≤ 0 }
     requires shaped { IsShapedPool B.fits }
     requires base { T.trust → S.tells × T.kept }
     requires told { T.trust → TellsJobs desk.old.plan desk.old.options
         (ToldOf F.gives F.may_fail B.fits) (serial desk.old.plan F.gives T.sources) }
-    ensures came { ComesTo T.trust F.gives F.may_fail T.sources S.tells T.kept
+    ensures came { ComesTo A.admitted T.trust F.gives F.may_fail T.sources S.tells T.kept
         (IsSurePool B.fits) S.files S.may_leave S.moment S.images_since desk.old desk.new
         (sum_by R.count runners.old) (sum_by R.count runners.new)
         (sum_by R.failures runners.old) (sum_by R.failures runners.new) result }
+    ensures stays { (P : PlanValue) → A.stands_for admission.old P → A.stands_for admission.new P }
 {
     let Ok((line, token)) = Line::<B>::new(alloc) else {
         return Err(Halt::Memory);
     };
     let (mut pool, mut other) = Pool::new(&line, tickets, pass, token);
     let mut held = Held::new(alloc);
-    serve_beside::<B, W, G, F, S, R, C, T>(
-        rt, alloc, &line, &mut other, desk, &mut held, &mut pool, runners, gate, clock,
+    serve_beside::<B, W, G, F, S, R, C, T, A>(
+        rt, alloc, &line, &mut other, desk, admission, &mut held, &mut pool, runners, gate, clock,
     );
     pool.end(rt, other);
-    settle::<B, F, S, T, C>(desk, held, clock)
+    settle::<B, F, S, T, A, C>(desk, admission, held, clock)
 }
 
 /// Runs rules by all runners at once, and drops files, until nothing runs, a claim gives no rule
@@ -347,28 +371,34 @@ pub(crate) fn serve_all<
     R: Runner<F>,
     C: Clock,
     T: Terms,
+    A: Admission,
 >(
     rt: &W,
     alloc: Global,
-    desk: &mut Desk<F, S, T, AdmitAll>,
+    desk: &mut Desk<F, S, T, A>,
+    admission: &mut A,
     runners: &mut [R],
     gate: &G,
     clock: &C,
 ) -> Result<(), Halt>
     requires some { 0 < length runners.old }
     requires valid { IsValid desk.old.plan }
+    requires stands { A.stands_for admission.old desk.old.plan }
     requires fine { IsFine desk.old.trouble }
     requires idle { length (running_rules desk.old.plan (records_of desk.old.moves)) ≤ 0 }
     requires base { T.trust → S.tells × T.kept
         × TellsJobs desk.old.plan desk.old.options (AllTell R.tells runners.old)
         (serial desk.old.plan F.gives T.sources) }
-    ensures came { ComesTo T.trust F.gives F.may_fail T.sources S.tells T.kept
+    ensures came { ComesTo A.admitted T.trust F.gives F.may_fail T.sources S.tells T.kept
         (AllSure R.sure runners.old) S.files S.may_leave S.moment S.images_since desk.old desk.new
         (sum_by R.count runners.old) (sum_by R.count runners.new)
         (sum_by R.failures runners.old) (sum_by R.failures runners.new) result }
+    ensures stays { (P : PlanValue) → A.stands_for admission.old P → A.stands_for admission.new P }
 {
     let Ok((tickets, pass)) = new_tickets(alloc) else {
         return Err(Halt::Memory);
     };
-    serve_in::<Brand, W, G, F, S, R, C, T>(rt, alloc, tickets, pass, desk, runners, gate, clock)
+    serve_in::<Brand, W, G, F, S, R, C, T, A>(
+        rt, alloc, tickets, pass, desk, admission, runners, gate, clock,
+    )
 }

@@ -1,7 +1,7 @@
 use Rattle.std.proofs.Common.{◌++◌, Err, ap, arith, refl, subst, Ok}
 use Rattle.flow_types.specs.declared.records.Record.TheVariants as records
 use Rattle.desk.specs.declared.answers.CloseRefused.{CloseRefused}
-use Rattle.desk.specs.State.{Closes, DeskState, closed}
+use Rattle.desk.specs.State.{Closes, closed}
 use Rattle.local_run.specs.Beyond.{done_by, failed_by}
 use Rattle.local_run.specs.Underway.{IsSurePool}
 use Rattle.local_run.proofs.AwayClosed.{away_out}

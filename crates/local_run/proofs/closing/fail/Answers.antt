@@ -3,7 +3,7 @@ use Rattle.flow_types.specs.declared.records.Record.TheVariants as records
 use Rattle.flow_types.specs.declared.job.Outcome.TheVariants as outcomes
 use Rattle.worker_pool.specs.Tallies.{plus, tally_of}
 use Rattle.desk.specs.declared.answers.CloseRefused.{CloseRefused}
-use Rattle.desk.specs.State.{Closes, DeskState, closed}
+use Rattle.desk.specs.State.{Closes, closed}
 use Rattle.local_run.specs.Underway.{IsSurePool}
 use Rattle.local_run.proofs.Closings.{is_broken}
 use Rattle.local_run.proofs.RunsClosed.{failed_ending}

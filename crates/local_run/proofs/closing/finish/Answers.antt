@@ -1,8 +1,8 @@
-use Rattle.std.proofs.Common.{Err, ap, arith, map, refl, subst, Ok}
+use Rattle.std.proofs.Common.{Err, arith, map, refl, subst, Ok}
 use Rattle.flow_types.specs.declared.records.Record.TheVariants as records
 use Rattle.desk.specs.Kept.{logged}
 use Rattle.desk.specs.declared.answers.CloseRefused.{CloseRefused}
-use Rattle.desk.specs.State.{Closes, DeskState}
+use Rattle.desk.specs.State.{Closes}
 use Rattle.local_run.specs.Underway.{IsSurePool}
 use Rattle.local_run.proofs.Closings.{is_broken}
 use Rattle.local_run.proofs.RunsClosed.{done_ending}

@@ -1,5 +1,7 @@
-use Rattle.std.proofs.Common.{◌∙◌, [], refl, arith}
+use Rattle.std.proofs.Common.{◌∙◌, [], refl, arith, subst, sym}
 use Rattle.std.specs.Prelude.{sum_by}
+use Rattle.flow_types.specs.Plans.{IsValid}
+use Rattle.rule_graph.specs.Spelling.{plan_digest}
 use Rattle.run_history.specs.Links.{records_of}
 use Rattle.local_run.specs.declared.halt.Halt.TheVariants as halts
 use Rattle.local_run.proofs.Added.{end_same}
@@ -76,8 +78,13 @@ returns-in-Err-Memory-clause-failed g c fresh unset = c.serve_all.ensures.came.r
 
 pub returns-in-Ok-end-clause-ending : goal.returns-in-Ok-end-clause-ending
 returns-in-Ok-end-clause-ending g c fresh unset here =
-    ending_at g.T.Terms.trust g.F.Commands.gives g.F.Commands.may_fail g.T.Terms.sources g.S.Site.tells g.S.Site.files g.S.Site.may_leave g.S.Site.moment g.S.Site.images_since [] c.args.desk.now c.serve_all.new.desk c.serve_all.ensures.came.goes g.S.Site.count c.now.result c.in-Ok-end.check c.end.new.self c.in-Ok-end.ensures.reply (c.in-Ok.ensures.came.closed.1 ∙ unset)
-    (rests_at g.T.Terms.trust g.F.Commands.gives g.F.Commands.may_fail g.T.Terms.sources g.S.Site.tells g.S.Site.files g.S.Site.may_leave g.S.Site.moment g.S.Site.images_since [] c.args.desk.now c.serve_all.new.desk c.serve_all.ensures.came.goes c.requires.valid fresh (c.in-Ok.ensures.came.closed.1 ∙ unset)
+    let mid = c.serve_all.new.desk in
+    let same = c.serve_all.ensures.came.goes.plan in
+    let one =
+    (g.met.A.Admission g.world.𝓛 g.world.𝓜 g.world.𝓡 ((λ s x. x), (λ x. x), (λ x. x), λ x. x)).admits_one c.serve_all.new.admission mid.plan mid.options (plan_digest mid.plan) (records_of mid.moves)
+    (subst (g.A.Admission.stands_for c.serve_all.new.admission) (sym same) (c.serve_all.ensures.stays c.args.desk.now.plan c.requires.stands)) (subst IsValid (sym same) c.requires.valid) c.works-works.ensures.legal in
+    ending_at g.T.Terms.trust g.F.Commands.gives g.F.Commands.may_fail g.T.Terms.sources g.S.Site.tells g.S.Site.files g.S.Site.may_leave g.S.Site.moment g.S.Site.images_since [] c.args.desk.now c.serve_all.new.desk c.serve_all.ensures.came.goes g.A.Admission.admitted g.S.Site.count c.now.result c.in-Ok-end.check c.end.new.self c.in-Ok-end.ensures.reply (c.in-Ok.ensures.came.closed.1 ∙ unset)
+    (rests_at g.T.Terms.trust g.F.Commands.gives g.F.Commands.may_fail g.T.Terms.sources g.S.Site.tells g.S.Site.files g.S.Site.may_leave g.S.Site.moment g.S.Site.images_since [] c.args.desk.now c.serve_all.new.desk c.serve_all.ensures.came.goes g.A.Admission.admitted one c.requires.valid fresh (c.in-Ok.ensures.came.closed.1 ∙ unset)
     c.works-works.ensures.legal c.works-works.ensures.opened (c.serve_all.ensures.came.idle c.in-Ok.ensures.came.closed.0) (c.serve_all.ensures.came.unended (fresh_unended c.args.desk.now.options.limit (records_of c.args.desk.now.moves) fresh)) c.in-Ok.ensures.came.rests) here
 
 pub returns-in-Ok-end-clause-failed : goal.returns-in-Ok-end-clause-failed
@@ -88,10 +95,15 @@ returns-in-Ok-end-clause-failed g c fresh unset =
 
 pub returns-in-Ok-end-clause-completes : goal.returns-in-Ok-end-clause-completes
 returns-in-Ok-end-clause-completes g c fresh unset here told kept trusted fit sure few =
+    let mid = c.serve_all.new.desk in
+    let same = c.serve_all.ensures.came.goes.plan in
+    let one =
+    (g.met.A.Admission g.world.𝓛 g.world.𝓜 g.world.𝓡 ((λ s x. x), (λ x. x), (λ x. x), λ x. x)).admits_one c.serve_all.new.admission mid.plan mid.options (plan_digest mid.plan) (records_of mid.moves)
+    (subst (g.A.Admission.stands_for c.serve_all.new.admission) (sym same) (c.serve_all.ensures.stays c.args.desk.now.plan c.requires.stands)) (subst IsValid (sym same) c.requires.valid) c.works-works.ensures.legal in
     let image = g.S.Site.files c.serve_all.new.desk.site in
-    complete_at g.T.Terms.trust g.F.Commands.gives g.F.Commands.may_fail g.T.Terms.sources g.S.Site.tells g.S.Site.files g.S.Site.may_leave g.S.Site.moment g.S.Site.images_since [] c.args.desk.now c.serve_all.new.desk c.serve_all.ensures.came.goes g.S.Site.count c.now.result c.in-Ok-end.check c.end.new.self
+    complete_at g.T.Terms.trust g.F.Commands.gives g.F.Commands.may_fail g.T.Terms.sources g.S.Site.tells g.S.Site.files g.S.Site.may_leave g.S.Site.moment g.S.Site.images_since [] c.args.desk.now c.serve_all.new.desk c.serve_all.ensures.came.goes g.A.Admission.admitted g.S.Site.count c.now.result c.in-Ok-end.check c.end.new.self
     (sum_by g.R.Runner.failures c.args.runners.now) (sum_by g.R.Runner.failures c.serve_all.new.runners) image c.in-Ok-end.ensures.reply (c.in-Ok.ensures.came.closed.1 ∙ unset)
-    (rests_at g.T.Terms.trust g.F.Commands.gives g.F.Commands.may_fail g.T.Terms.sources g.S.Site.tells g.S.Site.files g.S.Site.may_leave g.S.Site.moment g.S.Site.images_since [] c.args.desk.now c.serve_all.new.desk c.serve_all.ensures.came.goes c.requires.valid fresh (c.in-Ok.ensures.came.closed.1 ∙ unset)
+    (rests_at g.T.Terms.trust g.F.Commands.gives g.F.Commands.may_fail g.T.Terms.sources g.S.Site.tells g.S.Site.files g.S.Site.may_leave g.S.Site.moment g.S.Site.images_since [] c.args.desk.now c.serve_all.new.desk c.serve_all.ensures.came.goes g.A.Admission.admitted one c.requires.valid fresh (c.in-Ok.ensures.came.closed.1 ∙ unset)
     c.works-works.ensures.legal c.works-works.ensures.opened (c.serve_all.ensures.came.idle c.in-Ok.ensures.came.closed.0) (c.serve_all.ensures.came.unended (fresh_unended c.args.desk.now.options.limit (records_of c.args.desk.now.moves) fresh)) c.in-Ok.ensures.came.rests) here fresh (c.in-Ok.ensures.came.failed c.in-Ok.ensures.came.closed.0 (λ wants. wants)) (c.in-Ok.ensures.came.none sure) trusted
     (c.works-works.ensures.now told kept c.in-Ok.ensures.came.closed.0 image ((g.met.S.Site g.world.𝓛 g.world.𝓜 g.world.𝓡 ((λ s x. x), (λ x. x), (λ x. x), λ x. x)).reads_image told c.serve_all.new.desk.site))
     fit (c.serve_all.ensures.came.idle c.in-Ok.ensures.came.closed.0) (c.in-Ok.ensures.came.due sure) few

@@ -32,6 +32,7 @@ returns-in-Success g c = record {
       c.finish.ensures.underway away first held waiting later halt
       (heard_more g.T.Terms.trust g.F.Commands.gives g.F.Commands.may_fail g.T.Terms.sources g.S.Site.tells g.T.Terms.kept (IsSurePool g.B.Terms.fits) g.S.Site.files g.S.Site.may_leave g.S.Site.moment g.S.Site.images_since away first c.args.desk.now held waiting (Some c.args.attempt) heard later halt (omega arith) (omega (arith, none)) u);
   spares = λ here. ends_spare c.args.desk.now.moves c.args.attempt (done_as c.args.attempt c.in-Success.outs) c.finish.new.desk.moves (λ moment. refl) (λ moment H is. is) here c.finish.result c.finish.ensures.ends;
+  stays = λ P stands. stands;
 }
 
 pub returns-in-Failed : goal.returns-in-Failed
@@ -40,6 +41,7 @@ returns-in-Failed g c = record {
       subst (λ (o : Outcome). Underway g.T.Terms.trust g.F.Commands.gives g.F.Commands.may_fail g.T.Terms.sources g.S.Site.tells g.T.Terms.kept (IsSurePool g.B.Terms.fits) g.S.Site.files g.S.Site.may_leave g.S.Site.moment g.S.Site.images_since away first c.fail.new.desk held waiting None (plus heard (tally_of o)) (halt_after c.fail.result halt)) (sym c.in-Failed.is)
       (c.fail.ensures.underway away first held waiting heard halt (λ is. subst IsSuccess c.in-Failed.is (success is)) u);
   spares = λ here. ends_spare c.args.desk.now.moves c.args.attempt (failed_as c.args.attempt c.in-Failed.why) c.fail.new.desk.moves (λ moment. refl) (λ moment H is. is) here c.fail.result c.fail.ensures.ends;
+  stays = λ P stands. stands;
 }
 
 pub returns-in-NotRun : goal.returns-in-NotRun
@@ -52,4 +54,5 @@ returns-in-NotRun g c = record {
       (heard_more g.T.Terms.trust g.F.Commands.gives g.F.Commands.may_fail g.T.Terms.sources g.S.Site.tells g.T.Terms.kept (IsSurePool g.B.Terms.fits) g.S.Site.files g.S.Site.may_leave g.S.Site.moment g.S.Site.images_since away first c.args.desk.now held waiting (Some c.args.attempt) heard later halt (omega arith) (omega (arith, none)) u)
       (λ fine. unrun_stops g.T.Terms.trust g.F.Commands.gives g.F.Commands.may_fail g.T.Terms.sources g.S.Site.tells g.T.Terms.kept (IsSurePool g.B.Terms.fits) g.S.Site.files g.S.Site.may_leave g.S.Site.moment g.S.Site.images_since away c.args.desk.now later fine (omega (arith, one)) (λ is. subst IsSuccess c.in-NotRun.is (success is)));
   spares = λ here. tt;
+  stays = c.give_up.ensures.stays;
 }

@@ -17,6 +17,12 @@ pub go_on-requires-clause-valid : goal.go_on-requires-clause-valid
 go_on-requires-clause-valid g c κs within =
     let began = c.requires.underway.2 in let now = c.loop.invariant.underway c.requires.underway.0 c.requires.underway.1 began in subst IsValid (sym (now.goes.plan ∙ sym began.goes.plan)) c.requires.valid
 
+pub go_on-requires-clause-stands : goal.go_on-requires-clause-stands
+go_on-requires-clause-stands g c κs within =
+    let began = c.requires.underway.2 in
+    let now = c.loop.invariant.underway c.requires.underway.0 c.requires.underway.1 began in
+    subst (g.A.Admission.stands_for c.loop.admission) (sym (now.goes.plan ∙ sym began.goes.plan)) (c.loop.invariant.stays c.args.desk.now.plan c.requires.stands)
+
 pub go_on-requires-clause-underway : goal.go_on-requires-clause-underway
 go_on-requires-clause-underway g c κs within = (c.requires.underway.0, c.requires.underway.1, c.loop.invariant.underway c.requires.underway.0 c.requires.underway.1 c.requires.underway.2)
 
@@ -24,6 +30,7 @@ pub loop-preserved-then-go_on : goal.loop-preserved-then-go_on
 loop-preserved-then-go_on g c = record {
   underway = λ away first u. c.go_on.ensures.underway away first (c.loop.invariant.underway away first u);
   line = c.go_on.ensures.line ∙ c.loop.invariant.line;
+  stays = λ P stands. c.go_on.ensures.stays P (c.loop.invariant.stays P stands);
 }
 
 pub returns-then-out-eq0-clause-underway : goal.returns-then-out-eq0-clause-underway
@@ -34,6 +41,12 @@ hear-requires-clause-valid g c κs within =
     let began = c.requires.underway.2 in
     let now = c.go_on.ensures.underway c.requires.underway.0 c.requires.underway.1 (c.loop.invariant.underway c.requires.underway.0 c.requires.underway.1 began) in
     subst IsValid (sym (now.goes.plan ∙ sym began.goes.plan)) c.requires.valid
+
+pub hear-requires-clause-stands : goal.hear-requires-clause-stands
+hear-requires-clause-stands g c κs within =
+    let began = c.requires.underway.2 in
+    let now = c.go_on.ensures.underway c.requires.underway.0 c.requires.underway.1 (c.loop.invariant.underway c.requires.underway.0 c.requires.underway.1 began) in
+    subst (g.A.Admission.stands_for c.go_on.new.admission) (sym (now.goes.plan ∙ sym began.goes.plan)) (c.go_on.ensures.stays c.args.desk.now.plan (c.loop.invariant.stays c.args.desk.now.plan c.requires.stands))
 
 pub hear-requires-clause-told : goal.hear-requires-clause-told
 hear-requires-clause-told g c κs within =
@@ -49,10 +62,12 @@ pub loop-preserved-then-not-hear : goal.loop-preserved-then-not-hear
 loop-preserved-then-not-hear g c = record {
   underway = λ away first u. c.hear.ensures.underway away first (c.go_on.ensures.underway away first (c.loop.invariant.underway away first u));
   line = c.hear.ensures.line ∙ (c.go_on.ensures.line ∙ c.loop.invariant.line);
+  stays = λ P stands. c.hear.ensures.stays P (c.go_on.ensures.stays P (c.loop.invariant.stays P stands));
 }
 
 pub loop-preserved : goal.loop-preserved
 loop-preserved g c = record {
   underway = λ away first u. c.hear.ensures.underway away first (c.go_on.ensures.underway away first (c.loop.invariant.underway away first u));
   line = c.hear.ensures.line ∙ (c.go_on.ensures.line ∙ c.loop.invariant.line);
+  stays = λ P stands. c.hear.ensures.stays P (c.go_on.ensures.stays P (c.loop.invariant.stays P stands));
 }

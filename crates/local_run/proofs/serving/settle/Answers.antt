@@ -13,6 +13,12 @@ give_up-halt-requires-clause-valid g c κs within =
     let now = c.loop-attempt.invariant.underway c.requires.underway.0 c.requires.underway.1 c.requires.underway.2 c.requires.underway.3 began in
     subst IsValid (sym (now.1.goes.plan ∙ sym began.goes.plan)) c.requires.valid
 
+pub give_up-halt-requires-clause-stands : goal.give_up-halt-requires-clause-stands
+give_up-halt-requires-clause-stands g c κs within =
+    let began = c.requires.underway.4 in
+    let now = c.loop-attempt.invariant.underway c.requires.underway.0 c.requires.underway.1 c.requires.underway.2 c.requires.underway.3 began in
+    subst (g.A.Admission.stands_for c.loop-attempt.admission) (sym (now.1.goes.plan ∙ sym began.goes.plan)) (c.loop-attempt.invariant.stays c.args.desk.now.plan c.requires.stands)
+
 pub give_up-halt-requires-clause-runs : goal.give_up-halt-requires-clause-runs
 give_up-halt-requires-clause-runs g c κs within =
     let kept = c.loop-attempt.invariant.underway c.requires.underway.0 c.requires.underway.1 c.requires.underway.2 c.requires.underway.3 c.requires.underway.4 in
@@ -36,6 +42,7 @@ loop-attempt-preserved g c = record {
       let more = length-append c.pop.new.self.attempts (c.in-Some.attempt ∷ []) in
       let wrong : ⊥ = omega (arith, are, empty, more) in absurd wrong;
   still = λ none. absurd (true≢false (sym (ap is_none (sym (ap (λ (h : HeldState). h.halt) c.stop.ensures) ∙ none))));
+  stays = λ P stands. c.give_up-halt.ensures.stays P (c.loop-attempt.invariant.stays P stands);
   wants = λ want fine. subst (λ (h : HeldState). IsWantHalt h.halt) (sym c.stop.ensures) (gives_want c.loop-attempt.desk.trouble c.give_up-halt.new.desk.trouble c.give_up-halt.result c.give_up-halt.ensures.halt fine);
 }
 
