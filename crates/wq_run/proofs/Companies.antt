@@ -5,6 +5,7 @@ use Rattle.std.specs.List.{list_any}
 use Rattle.std.proofs.lemmas.Bool.{eq-eqb, ltb-true}
 use Rattle.std.proofs.lemmas.List.{append-nil}
 use Rattle.std.proofs.lemmas.Option.{slice_get-get_or}
+use Rattle.flow_types.specs.declared.plan.Plan.{Plan}
 use Rattle.flow_types.specs.declared.numbers.Amounts.{Amounts}
 use Rattle.flow_types.specs.declared.numbers.LinkNo.{LinkNo}
 use Rattle.flow_types.specs.declared.job.Job.{Job}
@@ -230,6 +231,11 @@ module _ {S : Type 0} {trust : Type 0} {gives : Function} {may_fail : Job → Fa
         → KeepsManned trust gives may_fail sources tells kept sure files may_leave moment images_since d after held held_now seats seats_now
         → IsValid d.plan → IsValid after.plan
     valid_then is keeps valid = subst IsValid (sym ((keeps is.first is.waiting is.heard is.manned).under.goes.plan ∙ sym is.manned.under.goes.plan)) valid
+
+    pub standing_then : {d after : DeskState S} {held held_now : HeldState} {seats seats_now : List (SeatState L)} (stands : Plan → Type 0) → IsManned trust gives may_fail sources tells kept sure files may_leave moment images_since d held seats
+        → KeepsManned trust gives may_fail sources tells kept sure files may_leave moment images_since d after held held_now seats seats_now
+        → stands d.plan → stands after.plan
+    standing_then stands is keeps so = subst stands (sym ((keeps is.first is.waiting is.heard is.manned).under.goes.plan ∙ sym is.manned.under.goes.plan)) so
 
     -- the same seats
     pub man_as : {first d : DeskState S} {held : HeldState} {waiting : List Start} {heard : Tally} {seats seats_now : List (SeatState L)} → seats_now ≡ seats

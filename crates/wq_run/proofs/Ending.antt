@@ -19,7 +19,8 @@ use Rattle.run_history.specs.declared.answers.Stop.TheVariants as stops
 use Rattle.run_history.specs.declared.moves.Move.{Move}
 use Rattle.run_history.specs.declared.moves.Move.TheVariants as moves
 use Rattle.run_history.specs.declared.options.Options.{Options}
-use Rattle.run_history.specs.Answers.{before_end, end_of, end_over, failed_answer, has_ended, is_in_vain, is_waited_end, kind_of, last_why, log_full, logged_end, of_least, rule_no, stop_at_end, where_so, first_of, collected_count, passes_inputs, no_room, where_none}
+use Rattle.run_history.specs.Admissions.{Admitting, is_in_vain_by}
+use Rattle.run_history.specs.Answers.{before_end, end_of, end_over, failed_answer, has_ended, is_waited_end, kind_of, last_why, log_full, logged_end, of_least, rule_no, stop_at_end, where_so, first_of, collected_count, passes_inputs, no_room, where_none}
 use Rattle.run_history.specs.History.{is_cleaned_kind, is_end, since_opening}
 use Rattle.run_history.specs.Legal.{has_places}
 use Rattle.run_history.specs.Links.{records_of}
@@ -204,9 +205,19 @@ over_so true None false places full true count roomy said rest i w e f each = tt
 over_so true None false places full false count [] said rest i w e f each = absurd (true≢false e)
 over_so true None false places full false count (r ∷ rs) said rest i w e f each = each r
 
+-- one that passes both tests passes the second
+any_second : (p q : ℕ → Bool) (xs : List ℕ) → list_any (λ r. p r && q r) xs ≡ true → list_any q xs ≡ true
+any_second p q [] is = is
+any_second p q (x ∷ xs) is = by_tests (p x) (q x) (any_second p q xs) is
+  where
+    by_tests : (b c : Bool) → (list_any (λ r. p r && q r) xs ≡ true → list_any q xs ≡ true) → ((b && c) || list_any (λ r. p r && q r) xs) ≡ true → (c || list_any q xs) ≡ true
+    by_tests b true rest is = refl
+    by_tests true false rest is = rest is
+    by_tests false false rest is = rest is
+
 -- there it comes to an end
-pub vain_over : (P : Plan) (O : Options) (M : List Move) (stop : Option Stop) (n : ℕ) → has_ended (records_of M) ≡ false → stop ≡ Some (stops.Waited n) → is_in_vain P O M ≡ true → IsOver (end_of P O M stop)
-vain_over P O M stop n unended is vain =
+pub vain_over : (A : Admitting) (P : Plan) (O : Options) (M : List Move) (stop : Option Stop) (n : ℕ) → has_ended (records_of M) ≡ false → stop ≡ Some (stops.Waited n) → is_in_vain_by A P O M ≡ true → IsOver (end_of P O M stop)
+vain_over A P O M stop n unended is vain =
     let H = records_of M in
     let all = and_parts _ _ vain in
     let three = and_parts _ _ all.0 in
@@ -215,7 +226,7 @@ vain_over P O M stop n unended is vain =
     (over_so (is_empty (running_rules P H)) (option_and_then (failed_answer H) (find (has_failed H) (rule_numbers P))) (is_some (wanted P O.mode H)) (has_places P H 1) (log_full H)
     (list_all (is_complete H) (rule_numbers P)) (collected_count P H) (filter (fits_storage P H) (ready_rules P H)) (λ r. checks.Waited (record { idles = n; rule = rule_no r }))
     (of_least (filter (passes_inputs P H) (ready_rules P H)) (λ r. checks.InputsTooLarge (rule_no r) (input_bytes P H r)) ∷ where_so (not (has_places P H 2)) (log_full H) ∷ where_none (filter (fits_storage P H) (ready_rules P H)) (ready_rules P H) (no_room P H) ∷ [])
-    two.0 (none_some (wanted P O.mode H) two.1) (some_left (fits_storage P H) (ready_rules P H) three.1) (failed_over H (find (has_failed H) (rule_numbers P))) (λ r. tt))
+    two.0 (none_some (wanted P O.mode H) two.1) (some_left (fits_storage P H) (ready_rules P H) (any_second (A P O H) (fits_storage P H) (ready_rules P H) three.1)) (failed_over H (find (has_failed H) (rule_numbers P))) (λ r. tt))
 
 pub broken_ends : {S : Type 0} (tells kept : Type 0) (files : S → Files) (count : S → ℕ) (d : DeskState S) (moment : ℕ) (why : EndRefused) (before now : ℕ) (after : DeskState S) → why ≡ refused.Broken before now → Ends count d moment (Err why) after
     → HaltedBy tells kept (Unit {0}) files after 0 0 halts.Site

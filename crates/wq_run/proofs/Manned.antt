@@ -18,10 +18,11 @@ use Rattle.run_history.specs.declared.answers.Check.{Check}
 use Rattle.run_history.specs.declared.answers.Check.TheVariants as checks
 use Rattle.run_history.specs.declared.moves.Move.{Move}
 use Rattle.run_history.specs.declared.options.Options.{Options}
-use Rattle.run_history.specs.Answers.{before_end, has_link, is_in_vain, passes_inputs}
+use Rattle.run_history.specs.Admissions.{Admitting, is_in_vain_by, may_be_stored}
+use Rattle.run_history.specs.Answers.{before_end, has_link, passes_inputs}
 use Rattle.run_history.specs.Links.{Load, amounts_on, fits, has_room, is_at_most, is_live, is_local_rule, leaves_amounts, leaves_bytes, load_of, may_run_on, most_tasks, needs_of, no_amounts, records_of, with_amounts}
 use Rattle.run_history.specs.Moves.{joins_and_changes, next_link}
-use Rattle.run_history.specs.Storage.{fits_storage, input_bytes, is_ready, ready_rules, running_rules, wanted}
+use Rattle.run_history.specs.Storage.{input_bytes, is_ready, ready_rules, running_rules, wanted}
 use Rattle.run_history.proofs.Bools.{both, filter_keeps, range_all}
 use Rattle.run_history.proofs.Going.{idle-fits}
 use Rattle.links.specs.declared.passing.Passed.{Passed}
@@ -107,36 +108,36 @@ elsewhere false false is = absurd (true≢false is)
 -- ---- a wait
 
 -- A ready rule that fits the storage fits the local place, or such a link.
-never_left_over : (P : Plan) (O : Options) (M : List Move) (least total largest : Amounts) (cache r : ℕ) → is_empty (running_rules P (records_of M)) ≡ true → fits_storage P (records_of M) r ≡ true
-    → (not (fits_storage P (records_of M) r) || not (has_link P O M r)) ≡ true → (not (fits_storage P (records_of M) r) || not (fits_empty P O (records_of M) 1 (row_of total largest cache) r)) ≡ true
+never_left_over : (A : Admitting) (P : Plan) (O : Options) (M : List Move) (least total largest : Amounts) (cache r : ℕ) → is_empty (running_rules P (records_of M)) ≡ true → may_be_stored A P O (records_of M) r ≡ true
+    → (not (may_be_stored A P O (records_of M) r) || not (has_link P O M r)) ≡ true → (not (may_be_stored A P O (records_of M) r) || not (fits_empty P O (records_of M) 1 (row_of total largest cache) r)) ≡ true
     → r < length P.rules → IsOfferOf least total largest cache → NeedsAtMost P O least → passes_inputs P (records_of M) r ≡ false → (here : Bool) → may_run_on P O r 0 ≡ here → ⊥
-never_left_over P O M least total largest cache r idle storage unlinked unfit inside offer most small true may =
-    not_both (fits_storage P (records_of M) r) (has_link P O M r) storage unlinked (has_here P O M r idle may (most.here r inside may))
-never_left_over P O M least total largest cache r idle storage unlinked unfit inside offer most small false may =
-    not_both (fits_storage P (records_of M) r) (fits_empty P O (records_of M) 1 (row_of total largest cache) r) storage unfit
+never_left_over A P O M least total largest cache r idle storage unlinked unfit inside offer most small true may =
+    not_both (may_be_stored A P O (records_of M) r) (has_link P O M r) storage unlinked (has_here P O M r idle may (most.here r inside may))
+never_left_over A P O M least total largest cache r idle storage unlinked unfit inside offer most small false may =
+    not_both (may_be_stored A P O (records_of M) r) (fits_empty P O (records_of M) 1 (row_of total largest cache) r) storage unfit
     (fits_offered P O (records_of M) least total largest cache r offer (elsewhere (is_local_rule P r) O.wq may) (λ amounts states. most.there r amounts inside may states) small)
 
 -- So waiting isn't in vain where such a link is there.
-not_vain : (P : Plan) (O : Options) (M : List Move) (least total largest : Amounts) (cache : ℕ) → is_in_vain P O M ≡ true → TakesNone P O (records_of M) (row_of total largest cache) → IsOfferOf least total largest cache → NeedsAtMost P O least → ((r : ℕ) → passes_inputs P (records_of M) r ≡ false) → ⊥
-not_vain P O M least total largest cache vain takes offer most small =
+not_vain : (A : Admitting) (P : Plan) (O : Options) (M : List Move) (least total largest : Amounts) (cache : ℕ) → is_in_vain_by A P O M ≡ true → TakesNone A P O (records_of M) (row_of total largest cache) → IsOfferOf least total largest cache → NeedsAtMost P O least → ((r : ℕ) → passes_inputs P (records_of M) r ≡ false) → ⊥
+not_vain A P O M least total largest cache vain takes offer most small =
     let H : List Record = records_of M in
-    let some : Bool = list_any (fits_storage P H) (ready_rules P H) in
-    let every : Bool = list_all (λ r. not (fits_storage P H r) || not (has_link P O M r)) (ready_rules P H) in
+    let some : Bool = list_any (may_be_stored A P O H) (ready_rules P H) in
+    let every : Bool = list_all (λ r. not (may_be_stored A P O H r) || not (has_link P O M r)) (ready_rules P H) in
     let idle : Bool = is_empty (running_rules P H) && is_none (wanted P O.mode H) in
     let parts = and_parts (idle && some) every vain in
     let firsts = and_parts idle some parts.0 in
     let idle_parts = and_parts (is_empty (running_rules P H)) (is_none (wanted P O.mode H)) firsts.0 in
-    let f = found (fits_storage P H) (ready_rules P H) firsts.1 in
+    let f = found (may_be_stored A P O H) (ready_rules P H) firsts.1 in
     let within = filter_keeps (λ r. nat_lt r (length P.rules)) (is_ready P H) (rule_numbers P) (range_all 0 (length P.rules) (length P.rules) (omega arith)) in
-    never_left_over P O M least total largest cache f.rule idle_parts.0 f.so (f.each (λ r. not (fits_storage P H r) || not (has_link P O M r)) parts.1)
-    (f.each (λ r. not (fits_storage P H r) || not (fits_empty P O H 1 (row_of total largest cache) r)) (takes 1 (omega arith)))
+    never_left_over A P O M least total largest cache f.rule idle_parts.0 f.so (f.each (λ r. not (may_be_stored A P O H r) || not (has_link P O M r)) parts.1)
+    (f.each (λ r. not (may_be_stored A P O H r) || not (fits_empty P O H 1 (row_of total largest cache) r)) (takes 1 (omega arith)))
     (ltb-true f.rule (length P.rules) (f.each (λ r. nat_lt r (length P.rules)) within)) offer most (small f.rule) (may_run_on P O f.rule 0) refl
 
 -- nor where a link offered as much
-offer_never : (P : Plan) (O : Options) (M : List Move) (least : Amounts) (up : List ℕ) → is_in_vain P O M ≡ true → IsVainOffer P O (records_of M) up → OffersAtLeast least up → NeedsAtMost P O least → ((r : ℕ) → passes_inputs P (records_of M) r ≡ false) → ⊥
-offer_never P O M least up vain shown offers most small =
+offer_never : (A : Admitting) (P : Plan) (O : Options) (M : List Move) (least : Amounts) (up : List ℕ) → is_in_vain_by A P O M ≡ true → IsVainOffer A P O (records_of M) up → OffersAtLeast least up → NeedsAtMost P O least → ((r : ℕ) → passes_inputs P (records_of M) r ≡ false) → ⊥
+offer_never A P O M least up vain shown offers most small =
     let o = shown.1 in
-    not_vain P O M least o.total o.largest o.cache vain (subst (TakesNone P O (records_of M)) o.is shown.2)
+    not_vain A P O M least o.total o.largest o.cache vain (subst (TakesNone A P O (records_of M)) o.is shown.2)
     (⊎_elim (λ hello. offers.hello o.total o.largest o.cache hello) (λ totals. offers.totals o.total o.largest o.cache totals) o.came) most small
 
 -- ---- a whole run
@@ -147,28 +148,28 @@ AreSmall P all = (r : ℕ) → passes_inputs P (before_end (records_of all)) r �
 
 module _ {L : Type 0} (gives : Function) (may_fail : Job → Failure → Type 0) (history : L → List Passed) (count idles : L → ℕ) (closed : L → Bool) (limit : ℕ) where
   -- what the seats' links stated was offered there
-  pub stated_ended : {A E : Type 0} (ill : LinkNo → L → Type 0) (M all : List Move) (c c_now : CompanyState L) (got got_now : List (Option LinkNo × L)) (r : Result A E) → c.seats ≡ [] → (let none : Option Halt = None in OnOk r (KeepsOn ill history M all none none c c_now got got_now))
+  pub stated_ended : {X E : Type 0} (ill : LinkNo → L → Type 0) (M all : List Move) (c c_now : CompanyState L) (got got_now : List (Option LinkNo × L)) (r : Result X E) → c.seats ≡ [] → (let none : Option Halt = None in OnOk r (KeepsOn ill history M all none none c c_now got got_now))
       → OnOk r ((c_now.failed ≡ false) × (c_now.lost ≡ false)) → OnOk r (AllByRecursion (OffersAsStated history all) c_now.seats)
   stated_ended ill M all c c_now got got_now (Ok x) none keeps sound =
       let first : (let halt : Option Halt = None in AreEarnedIf ill history got M M halt c got) = λ halt fine kept. record { links = []; are = sym (append-nil got); each = tt; joins = omega arith; offered = subst (AllByRecursion (OffersAsStated history M)) (sym none) tt } in
       (keeps.earns.goes got M first refl sound.0 sound.1).offered
   stated_ended ill M all c c_now got got_now (Err why) none keeps sound = tt
 
-  module _ (sure : L → Type 0) (offers : L → Amounts → Type 0) (asked : Asked) (offers_is : (way : L) → offers way asked.least → OffersAtLeast asked.least (received_in (history way))) (P : Plan) (O : Options) (most : NeedsAtMost P O asked.least) where
+  module _ (sure : L → Type 0) (offers : L → Amounts → Type 0) (asked : Asked) (offers_is : (way : L) → offers way asked.least → OffersAtLeast asked.least (received_in (history way))) (A : Admitting) (P : Plan) (O : Options) (most : NeedsAtMost P O asked.least) where
     abbrev Relied : L → Type 0
     Relied way = IsSureOf sure offers (Some asked) way
 
-    seats_never : (M : List Move) → is_in_vain P O M ≡ true → ((r : ℕ) → passes_inputs P (records_of M) r ≡ false) → (seats : List (SeatState L)) → 0 < length seats → AllByRecursion (IsSureSeat gives may_fail history Relied) seats
-        → AllByRecursion (λ (s : SeatState L). IsVainSeat P O (records_of M) (Some s.link) (received_in (history s.peer.way))) seats → ⊥
+    seats_never : (M : List Move) → is_in_vain_by A P O M ≡ true → ((r : ℕ) → passes_inputs P (records_of M) r ≡ false) → (seats : List (SeatState L)) → 0 < length seats → AllByRecursion (IsSureSeat gives may_fail history Relied) seats
+        → AllByRecursion (λ (s : SeatState L). IsVainSeat A P O (records_of M) (Some s.link) (received_in (history s.peer.way))) seats → ⊥
     seats_never M vain small [] some are shown = (let wrong : ⊥ = omega (arith, some) in wrong)
-    seats_never M vain small (s ∷ seats) some are shown = offer_never P O M asked.least (received_in (history s.peer.way)) vain shown.0.1 (offers_is s.peer.way (are.0.tended.surely.offering asked refl)) most small
+    seats_never M vain small (s ∷ seats) some are shown = offer_never A P O M asked.least (received_in (history s.peer.way)) vain shown.0.1 (offers_is s.peer.way (are.0.tended.surely.offering asked refl)) most small
 
     module _ (rise : ℕ) (all : List Move) (c : CompanyState L) (coming unmet : Type 0) (some : 1 ≤ limit) (unrisen : unmet → rise ≤ 0) (placed : AreSeats P O all c.seats) where
-      waited : (check : Check) (ended : EndsHere P O limit rise all check) → Because ended.ends.stop check → IsSureCompany gives may_fail history idles Relied coming unmet all c → AllByRecursion (OffersAsStated history all) c.seats → IfWaited check (c.guests ≡ []) → IfWaited check (AreSmall P all → ⊥)
+      waited : (check : Check) (ended : EndsHere A P O limit rise all check) → Because ended.ends.stop check → IsSureCompany gives may_fail history idles Relied coming unmet all c → AllByRecursion (OffersAsStated history all) c.seats → IfWaited check (c.guests ≡ []) → IfWaited check (AreSmall P all → ⊥)
       waited (checks.Waited wait) ended because is stated alone = λ small.
           let M = ended.ends.moves in
-          let vain = subst (IsVain P O M limit rise) because ended.ends.vain in
-          let shown = seats_vain gives may_fail history count idles closed limit P O M all ended.more vain.2 ended.are ended.none c.seats placed stated in
+          let vain = subst (IsVain A P O M limit rise) because ended.ends.vain in
+          let shown = seats_vain gives may_fail history count idles closed limit A P O M all ended.more vain.2 ended.are ended.none c.seats placed stated in
           let least : limit ≤ wait.idles = vain.0 in
           let up : wait.idles ≤ rise = vain.1 in
           ⊎_elim (λ unmet. let none = unrisen unmet in let wrong : ⊥ = omega (arith, some, none, least, up) in wrong)
@@ -184,7 +185,7 @@ module _ {L : Type 0} (gives : Function) (may_fail : Job → Failure → Type 0)
       waited checks.Halted ended because is stated alone = tt
 
       -- What a whole run shows.
-      pub manned_whole : (r : Result Check Stopped) → OnOk r (IsSureCompany gives may_fail history idles Relied coming unmet all c) → OnOk r (AllByRecursion (OffersAsStated history all) c.seats) → IfOk r (λ check. IfWaited check (c.guests ≡ [])) → IfOk r (EndsHere P O limit rise all)
+      pub manned_whole : (r : Result Check Stopped) → OnOk r (IsSureCompany gives may_fail history idles Relied coming unmet all c) → OnOk r (AllByRecursion (OffersAsStated history all) c.seats) → IfOk r (λ check. IfWaited check (c.guests ≡ [])) → IfOk r (EndsHere A P O limit rise all)
           → IfOk r (λ check. IfWaited check (AreSmall P all → ⊥))
       manned_whole (Ok check) is stated alone ended =
           waited check ended (subst (Because ended.ends.stop) (sym ended.ends.answer) (waits_by P O (before_end (records_of all)) ended.ends.stop)) is stated alone

@@ -5,6 +5,7 @@ use Rattle.flow_types.specs.declared.job.Job.{Job}
 use Rattle.flow_types.specs.declared.job.Failure.{Failure}
 use Rattle.flow_types.specs.declared.job.Start.{Start}
 use Rattle.flow_types.specs.Serial.{Contents, Function}
+use Rattle.run_history.specs.Admissions.{Admitting, all_admitted}
 use Rattle.run_history.specs.Links.{records_of}
 use Rattle.run_history.specs.Storage.{running_rules}
 use Rattle.outside.specs.Disk.{IsImage, Outcomes}
@@ -75,9 +76,9 @@ module _ {S : Type 0} (trust : Type 0) (gives : Function) (may_fail : Job → Fa
   }
 
   -- what is so of a run here
-  on_from : (d after : DeskState S) (count count_now failures failures_now : ℕ) (result : Result (Unit {0}) Halt)
-      → ComesTo trust gives may_fail sources tells kept sure files may_leave moment images_since d after count count_now failures failures_now result → On d after count count_now failures failures_now result
-  on_from d after count count_now failures failures_now result came = record {
+  on_from : (A : Admitting) (d after : DeskState S) (count count_now failures failures_now : ℕ) (result : Result (Unit {0}) Halt)
+      → ComesTo A trust gives may_fail sources tells kept sure files may_leave moment images_since d after count count_now failures failures_now result → On d after count count_now failures failures_now result
+  on_from A d after count count_now failures failures_now result came = record {
     links = [];
     goes = came.goes;
     idle = came.idle;
@@ -95,7 +96,7 @@ module _ {S : Type 0} (trust : Type 0) (gives : Function) (may_fail : Job → Fa
   pub on_want : (d : DeskState S) (count failures : ℕ) → (tells → (image : Files) → images_since d.site (moment d.site) image → IsImage (may_leave d.site) image)
       → length (running_rules d.plan (records_of d.moves)) ≤ 0 → On d d count count failures failures (Err halts.Memory)
   on_want d count failures only_now idle =
-      on_from d d count count failures failures (Err halts.Memory) (comes_want trust gives may_fail sources tells kept sure files may_leave moment images_since d count failures only_now idle)
+      on_from all_admitted d d count count failures failures (Err halts.Memory) (comes_want trust gives may_fail sources tells kept sure files may_leave moment images_since all_admitted d count failures only_now idle)
 
   -- over a stronger fact
   pub on_less : (more : Type 0) (d after : DeskState S) (count count_now failures failures_now : ℕ) (result : Result (Unit {0}) Halt) → (more → sure) → On d after count count_now failures failures_now result

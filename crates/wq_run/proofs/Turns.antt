@@ -18,16 +18,20 @@ use Rattle.local_run.specs.Underway.{HeldState, IsWantHalt}
 use Rattle.run_history.specs.declared.options.Options.{Options}
 use Rattle.wq_run.specs.Seats.{CompanyState, Meets, inside_of}
 use Rattle.wq_run.specs.Trusted.{IsOpen}
-use Rattle.wq_run.specs.Turns.{MayServe}
+use Rattle.wq_run.specs.Turns.{AsOne, MayServe, as_one}
 
-module _ {S L : Type 0} (trust : Type 0) (gives : Function) (may_fail : Job → Failure → Type 0) (sources : Contents) (tells kept : Type 0) (files : S → Files) (may_leave : S → Outcomes) (moment : S → ℕ)
+module _ {S L : Type 0} (stands : Plan → Type 0) (trust : Type 0) (gives : Function) (may_fail : Job → Failure → Type 0) (sources : Contents) (tells kept : Type 0) (files : S → Files) (may_leave : S → Outcomes) (moment : S → ℕ)
     (images_since : S → ℕ → Files → Type 0) (fits : Job → Outcome → Type 0) (keen : ℕ → Type 0) (holds : Type 0) (plan : Plan) (options : Options) (run : ℕ) (due : Contents) (listens honest : Type 0) (most : ℕ) where
   pub may_serve_at : (d e : DeskState S) (held : HeldState) (pool : PoolState) (company other : CompanyState L) → d ≡ e → company ≡ other
-      → MayServe trust gives may_fail sources tells kept files may_leave moment images_since fits keen holds plan options run due listens honest most d held pool company.seats
-      → MayServe trust gives may_fail sources tells kept files may_leave moment images_since fits keen holds plan options run due listens honest most e held pool other.seats
+      → MayServe (stands d.plan) trust gives may_fail sources tells kept files may_leave moment images_since fits keen holds plan options run due listens honest most d held pool company.seats
+      → MayServe (stands e.plan) trust gives may_fail sources tells kept files may_leave moment images_since fits keen holds plan options run due listens honest most e held pool other.seats
   may_serve_at d e held pool company other same like may =
-      subst (λ (x : DeskState S). MayServe trust gives may_fail sources tells kept files may_leave moment images_since fits keen holds plan options run due listens honest most x held pool other.seats) same
-      (subst (λ (x : CompanyState L). MayServe trust gives may_fail sources tells kept files may_leave moment images_since fits keen holds plan options run due listens honest most d held pool x.seats) like may)
+      subst (λ (x : DeskState S). MayServe (stands x.plan) trust gives may_fail sources tells kept files may_leave moment images_since fits keen holds plan options run due listens honest most x held pool other.seats) same
+      (subst (λ (x : CompanyState L). MayServe (stands d.plan) trust gives may_fail sources tells kept files may_leave moment images_since fits keen holds plan options run due listens honest most d held pool x.seats) like may)
+
+-- what is stated as one fact
+pub stated : {A : Type 0} → AsOne A → A
+stated (as_one a) = a
 
 -- where the hall and the company are these
 pub met_at : {X L : Type 0} (count : X → ℕ) (got : X → List (Option LinkNo × L)) (given idles : X → ℕ) (hall hall_now hall_then : X) (company other company_now company_then : CompanyState L) → hall_now ≡ hall_then → company ≡ other → company_now ≡ company_then

@@ -22,7 +22,8 @@ use Rattle.run_history.specs.declared.answers.Stop.{Stop}
 use Rattle.run_history.specs.declared.answers.Stop.TheVariants as stops
 use Rattle.run_history.specs.declared.moves.Move.{Move}
 use Rattle.run_history.specs.declared.options.Options.{Options}
-use Rattle.run_history.specs.Answers.{collected_count, end_over, failed_answer, has_link, idles_in, is_halt, is_in_vain, last_why, log_full, no_room, of_least, or_else, passes_inputs, rule_no, where_none, where_so}
+use Rattle.run_history.specs.Admissions.{Admitting, is_in_vain_by, may_be_stored}
+use Rattle.run_history.specs.Answers.{collected_count, end_over, failed_answer, has_link, idles_in, is_halt, last_why, log_full, no_room, of_least, or_else, passes_inputs, rule_no, where_none, where_so}
 use Rattle.run_history.specs.Legal.{has_places}
 use Rattle.run_history.specs.Links.{Load, LinkRow, amounts_on, fits, has_room, is_at_most, is_live, is_local_rule, leaves_amounts, leaves_bytes, link_row, load_of, loads_on, local_row, may_run_on, most_tasks, records_of, runs_on, taken_on, with_amounts}
 use Rattle.run_history.specs.Moves.{is_join, joins_and_changes, most_links, next_link}
@@ -182,16 +183,16 @@ empty_is : (xs : List ℕ) → is_empty xs ≡ true → xs ≡ []
 empty_is [] none = refl
 empty_is (x ∷ xs) none = absurd (true≢false (sym none))
 
--- Where waiting is in vain, no ready rule that fits the storage fits what a live link states.
-pub takes_none : (P : Plan) (O : Options) (M : List Move) (k : ℕ) (row : LinkRow) → is_in_vain P O M ≡ true → 0 < k → k < next_link M → stated_by k M ≡ Some row → TakesNone P O (records_of M) row
-takes_none P O M k row vain beyond joined stated j away =
+-- Where waiting is in vain, no admitted ready rule that fits the storage fits what a live link states.
+pub takes_none : (A : Admitting) (P : Plan) (O : Options) (M : List Move) (k : ℕ) (row : LinkRow) → is_in_vain_by A P O M ≡ true → 0 < k → k < next_link M → stated_by k M ≡ Some row → TakesNone A P O (records_of M) row
+takes_none A P O M k row vain beyond joined stated j away =
     let H : List Record = records_of M in
-    let some : Bool = list_any (fits_storage P H) (ready_rules P H) in
-    let every : Bool = list_all (λ r. not (fits_storage P H r) || not (has_link P O M r)) (ready_rules P H) in
+    let some : Bool = list_any (may_be_stored A P O H) (ready_rules P H) in
+    let every : Bool = list_all (λ r. not (may_be_stored A P O H r) || not (has_link P O M r)) (ready_rules P H) in
     let idle : Bool = is_empty (running_rules P H) && is_none (wanted P O.mode H) in
     let parts = and_parts (idle && some) every vain in
     let idle_parts = and_parts (is_empty (running_rules P H)) (is_none (wanted P O.mode H)) (and_parts idle some parts.0).0 in
-    all_weaker (λ r. not (fits_storage P H r) || not (has_link P O M r)) (λ r. not (fits_storage P H r) || not (fits_empty P O H j row r)) (λ r is. step r (empty_is (running_rules P H) idle_parts.0) (fits_storage P H r) (has_link P O M r) (fits_empty P O H j row r) refl refl is) (ready_rules P H) parts.1
+    all_weaker (λ r. not (may_be_stored A P O H r) || not (has_link P O M r)) (λ r. not (may_be_stored A P O H r) || not (fits_empty P O H j row r)) (λ r is. step r (empty_is (running_rules P H) idle_parts.0) (may_be_stored A P O H r) (has_link P O M r) (fits_empty P O H j row r) refl refl is) (ready_rules P H) parts.1
   where
     here : (k == 0) ≡ false
     here = other_number k beyond
@@ -240,12 +241,12 @@ lives_states O M k beyond lives = by_row (stated_by k M) refl
 -- ---- all links
 
 -- what a wait in vain shows of what was received over a link
-abbrev pub IsVainOffer : Plan → Options → List Record → List ℕ → Type 0
-IsVainOffer P O H up = (row : LinkRow) × IsOffered up row × TakesNone P O H row
+abbrev pub IsVainOffer : Admitting → Plan → Options → List Record → List ℕ → Type 0
+IsVainOffer A P O H up = (row : LinkRow) × IsOffered up row × TakesNone A P O H row
 
 -- the same of one with a number
-abbrev pub IsVainSeat : Plan → Options → List Record → Option LinkNo → List ℕ → Type 0
-IsVainSeat P O H number up = (is_some number ≡ true) × IsVainOffer P O H up
+abbrev pub IsVainSeat : Admitting → Plan → Options → List Record → Option LinkNo → List ℕ → Type 0
+IsVainSeat A P O H number up = (is_some number ≡ true) × IsVainOffer A P O H up
 
 module _ {L : Type 0} (gives : Function) (may_fail : Job → Failure → Type 0) (history : L → List Passed) (count idles : L → ℕ) (closed : L → Bool) (limit : ℕ) where
   abbrev Back : Type 0
@@ -265,9 +266,9 @@ module _ {L : Type 0} (gives : Function) (may_fail : Job → Failure → Type 0)
   unnumbered honest others link way (ill.too_many_links none many) = absurd (true≢false (sym (ap is_none none)))
   unnumbered honest others link way (ill.too_many_offers n many came) = ill.too_many_offers n many came
 
-  module _ (P : Plan) (O : Options) (H : List Record) (all : List Move) (links : List Back) (crowds : IsFull all → (n : ℕ) × (1000000 ≤ n) × ill.OffersCame (accounts_of history count idles closed links) n) (crowded : (way : L) (front behind : List Back) → (let none : Option LinkNo = None in links ≡ front ++ ((none, way) ∷ behind)) → most_links ≤ count_by is_join all → 33 ≤ length links) where
+  module _ (A : Admitting) (P : Plan) (O : Options) (H : List Record) (all : List Move) (links : List Back) (crowds : IsFull all → (n : ℕ) × (1000000 ≤ n) × ill.OffersCame (accounts_of history count idles closed links) n) (crowded : (way : L) (front behind : List Back) → (let none : Option LinkNo = None in links ≡ front ++ ((none, way) ∷ behind)) → most_links ≤ count_by is_join all → 33 ≤ length links) where
     abbrev Shown : Back → Type 0
-    Shown x = IsVainLink gives may_fail history count idles closed limit P O H links x
+    Shown x = IsVainLink gives may_fail history count idles closed limit A P O H links x
 
     earned_shown : (number : Option LinkNo) (way : L) (front behind : List Back) → links ≡ front ++ ((number, way) ∷ behind) → HasEarned (IsIllLink gives may_fail history count idles closed limit) all number way → Shown (number, way)
     earned_shown (Some link) way front behind are (inl is) = inl (is (accounts_of history count idles closed links))
@@ -282,7 +283,7 @@ module _ {L : Type 0} (gives : Function) (may_fail : Job → Failure → Type 0)
     all_earned front (x ∷ more) behind are each =
         (earned_shown x.0 x.1 front (more ++ behind) are each.0, all_earned (front ++ (x ∷ [])) more behind (are ∙ sym (append_assoc front (x ∷ []) (more ++ behind))) each.1)
 
-    all_offered : (more : List Back) → AllByRecursion (λ (x : Back). IsVainSeat P O H x.0 (received_in (history x.1))) more → AllByRecursion Shown more
+    all_offered : (more : List Back) → AllByRecursion (λ (x : Back). IsVainSeat A P O H x.0 (received_in (history x.1))) more → AllByRecursion Shown more
     all_offered [] each = tt
     all_offered (x ∷ more) each = (inr each.0.1, all_offered more each.1)
 
@@ -301,44 +302,44 @@ module _ {L : Type 0} (gives : Function) (may_fail : Job → Failure → Type 0)
       let many = length-append front ((none, way) ∷ behind) in
       omega (arith, sums, rest, one, two, many)
 
-  numbered_all : (P : Plan) (O : Options) (H : List Record) (xs : List Back) → AllByRecursion (λ (x : Back). IsVainSeat P O H x.0 (received_in (history x.1))) xs → numbered_in xs ≡ length xs
-  numbered_all P O H [] each = refl
-  numbered_all P O H (x ∷ xs) each =
+  numbered_all : (A : Admitting) (P : Plan) (O : Options) (H : List Record) (xs : List Back) → AllByRecursion (λ (x : Back). IsVainSeat A P O H x.0 (received_in (history x.1))) xs → numbered_in xs ≡ length xs
+  numbered_all A P O H [] each = refl
+  numbered_all A P O H (x ∷ xs) each =
       let cons : numbered_in (x ∷ xs) ≡ cond (is_some x.0) 1 0 + numbered_in xs = sum_by-cons (λ (y : Back). cond (is_some y.0) 1 0) x xs in
       let one : ◌≡◌ {A = ℕ} (cond (is_some x.0) 1 0) 1 = ap (λ (b : Bool). cond b 1 0) each.0.0 in
-      let rest : numbered_in xs ≡ length xs = numbered_all P O H xs each.1 in
+      let rest : numbered_in xs ≡ length xs = numbered_all A P O H xs each.1 in
       omega (arith, cons, one, rest)
 
   -- What was offered at the seats of a run that waited in vain takes none of the rules.
-  pub seats_vain : (P : Plan) (O : Options) (M all more : List Move) → is_in_vain P O M ≡ true → all ≡ M ++ more → link_moves more ≡ [] → (seats : List (SeatState L)) → AreSeats P O all seats → AllByRecursion (OffersAsStated history all) seats
-      → AllByRecursion (λ (s : SeatState L). IsVainSeat P O (records_of M) (Some s.link) (received_in (history s.peer.way))) seats
-  seats_vain P O M all more vain are none [] placed offered = tt
-  seats_vain P O M all more vain are none (s ∷ seats) placed offered =
+  pub seats_vain : (A : Admitting) (P : Plan) (O : Options) (M all more : List Move) → is_in_vain_by A P O M ≡ true → all ≡ M ++ more → link_moves more ≡ [] → (seats : List (SeatState L)) → AreSeats P O all seats → AllByRecursion (OffersAsStated history all) seats
+      → AllByRecursion (λ (s : SeatState L). IsVainSeat A P O (records_of M) (Some s.link) (received_in (history s.peer.way))) seats
+  seats_vain A P O M all more vain are none [] placed offered = tt
+  seats_vain A P O M all more vain are none (s ∷ seats) placed offered =
       let linked : link_moves all ≡ link_moves M ++ [] = ap link_moves are ∙ links_grown M more ∙ ap (λ (l : List Move). link_moves M ++ l) none in
       let states = lives_states O all s.link.0 placed.0.placed.beyond placed.0.placed.lives in
       let was : stated_by s.link.0 M ≡ Some states.0 = sym (stated_same s.link.0 M [] all linked refl) ∙ states.1 in
       let joined = offered.0.joined in
       let same = joins_same M all (linked ∙ append-nil (link_moves M)) in (
-        (refl, (states.0, offered.0.offered states.0 states.1, takes_none P O M s.link.0 states.0 vain placed.0.placed.beyond (omega (arith, joined, same)) was)),
-        seats_vain P O M all more vain are none seats placed.2 offered.1,
+        (refl, (states.0, offered.0.offered states.0 states.1, takes_none A P O M s.link.0 states.0 vain placed.0.placed.beyond (omega (arith, joined, same)) was)),
+        seats_vain A P O M all more vain are none seats placed.2 offered.1,
       )
 
   -- Each link of a run that waited in vain is so.
-  pub all_vain : (P : Plan) (O : Options) (M all : List Move) (first : List Move) (seats : List (SeatState L)) (before got got_now : List Back) → joins_and_changes first ≡ 0
-      → AreEarned (IsIllLink gives may_fail history count idles closed limit) history before first all seats got → HandsBack history seats got got_now → AllByRecursion (λ (s : SeatState L). IsVainSeat P O (records_of M) (Some s.link) (received_in (history s.peer.way))) seats
+  pub all_vain : (A : Admitting) (P : Plan) (O : Options) (M all : List Move) (first : List Move) (seats : List (SeatState L)) (before got got_now : List Back) → joins_and_changes first ≡ 0
+      → AreEarned (IsIllLink gives may_fail history count idles closed limit) history before first all seats got → HandsBack history seats got got_now → AllByRecursion (λ (s : SeatState L). IsVainSeat A P O (records_of M) (Some s.link) (received_in (history s.peer.way))) seats
       → ((links : List Back) → got_now ≡ before ++ links → IsFull all → (n : ℕ) × (1000000 ≤ n) × ill.OffersCame (accounts_of history count idles closed links) n)
-      → AreVain gives may_fail history count idles closed limit P O (records_of M) before got_now
-  all_vain P O M all first seats before got got_now anew earned hands shown crowds = record {
+      → AreVain gives may_fail history count idles closed limit A P O (records_of M) before got_now
+  all_vain A P O M all first seats before got got_now anew earned hands shown crowds = record {
     links = earned.links ++ hands.links;
     back = back;
-    each = All-from_recursion (IsVainLink gives may_fail history count idles closed limit P O (records_of M) (earned.links ++ hands.links)) (earned.links ++ hands.links)
-        (all_joined (IsVainLink gives may_fail history count idles closed limit P O (records_of M) (earned.links ++ hands.links)) earned.links hands.links
-        (all_earned P O (records_of M) all (earned.links ++ hands.links) (crowds (earned.links ++ hands.links) back) crowded [] earned.links hands.links refl earned.each)
-        (all_offered P O (records_of M) all (earned.links ++ hands.links) (crowds (earned.links ++ hands.links) back) crowded hands.links offers));
+    each = All-from_recursion (IsVainLink gives may_fail history count idles closed limit A P O (records_of M) (earned.links ++ hands.links)) (earned.links ++ hands.links)
+        (all_joined (IsVainLink gives may_fail history count idles closed limit A P O (records_of M) (earned.links ++ hands.links)) earned.links hands.links
+        (all_earned A P O (records_of M) all (earned.links ++ hands.links) (crowds (earned.links ++ hands.links) back) crowded [] earned.links hands.links refl earned.each)
+        (all_offered A P O (records_of M) all (earned.links ++ hands.links) (crowds (earned.links ++ hands.links) back) crowded hands.links offers));
   }
     where
-      offers : AllByRecursion (λ (x : Back). IsVainSeat P O (records_of M) x.0 (received_in (history x.1))) hands.links
-      offers = hands_so history (IsVainSeat P O (records_of M)) (λ number up added so. (so.0, (so.1.0, offered_later up added (up ++ added) so.1.0 refl so.1.1, so.1.2))) seats shown hands.links hands.each
+      offers : AllByRecursion (λ (x : Back). IsVainSeat A P O (records_of M) x.0 (received_in (history x.1))) hands.links
+      offers = hands_so history (IsVainSeat A P O (records_of M)) (λ number up added so. (so.0, (so.1.0, offered_later up added (up ++ added) so.1.0 refl so.1.1, so.1.2))) seats shown hands.links hands.each
 
       back : got_now ≡ before ++ (earned.links ++ hands.links)
       back = hands.are ∙ ap (λ (xs : List Back). xs ++ hands.links) earned.are ∙ append_assoc before earned.links hands.links
@@ -351,5 +352,5 @@ module _ {L : Type 0} (gives : Function) (may_fail : Job → Failure → Type 0)
           let same = ap length are in
           let same_numbers = ap (λ (xs : List Back). numbered_in xs) are in
           let both : numbered_in (earned.links ++ hands.links) ≡ numbered_in earned.links + numbered_in hands.links = sum_by-append (λ (x : Back). cond (is_some x.0) 1 0) earned.links hands.links in
-          let numbered = numbered_all P O (records_of M) hands.links offers in
+          let numbered = numbered_all A P O (records_of M) hands.links offers in
           omega (arith, joins, seated, less, same, same_numbers, both, numbered, many, anew)

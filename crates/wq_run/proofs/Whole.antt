@@ -14,6 +14,7 @@ use Rattle.run_history.specs.declared.answers.Check.TheVariants as checks
 use Rattle.run_history.specs.declared.answers.Stop.{Stop}
 use Rattle.run_history.specs.declared.moves.Move.{Move}
 use Rattle.run_history.specs.declared.options.Options.{Options}
+use Rattle.run_history.specs.Admissions.{Admitting}
 use Rattle.run_history.specs.Answers.{before_end}
 use Rattle.run_history.specs.Links.{records_of}
 use Rattle.run_history.specs.Moves.{joins_and_changes}
@@ -32,7 +33,7 @@ use Rattle.wq_run.specs.Vain.{AreVain, HandsBack, IfWaited}
 use Rattle.wq_run.proofs.Fares.{same_so}
 use Rattle.wq_run.proofs.Vain.{Because, all_vain, seats_vain, waits_by}
 
-prefix_is : {A : Type 0} (f xs ys : List A) → f ++ xs ≡ f ++ ys → xs ≡ ys
+prefix_is : {B : Type 0} (f xs ys : List B) → f ++ xs ≡ f ++ ys → xs ≡ ys
 prefix_is [] xs ys same = same
 prefix_is (x ∷ f) xs ys same = prefix_is f xs ys cc
 
@@ -58,9 +59,9 @@ module _ {L : Type 0} (gives : Function) (may_fail : Job → Failure → Type 0)
       subst (λ (xs : List Back). (n : ℕ) × (1000000 ≤ n) × OffersCame (accounts_of history count idles closed xs) n) same
       (counted.came, omega (arith, full, enough, none, anew), offers_of counted.behind.0 counted.came counted.back)
 
-  module _ (P : Plan) (O : Options) (least rise : ℕ) (first all : List Move) (c c_mid c_now : CompanyState L) (got got_mid got_now : List Back) (anew : joins_and_changes first ≡ 0) (none : c.seats ≡ []) where
+  module _ (A : Admitting) (P : Plan) (O : Options) (least rise : ℕ) (first all : List Move) (c c_mid c_now : CompanyState L) (got got_mid got_now : List Back) (anew : joins_and_changes first ≡ 0) (none : c.seats ≡ []) where
     abbrev Vain : Type 0
-    Vain = AreVain gives may_fail history count idles closed limit P O (before_end (records_of all)) got got_now
+    Vain = AreVain gives may_fail history count idles closed limit A P O (before_end (records_of all)) got got_now
 
     abbrev pub Hands : Type 0
     Hands = c_mid.guests ≡ [] → c_now.lost ≡ false → HandsBack history c_mid.seats got_mid got_now
@@ -81,15 +82,15 @@ module _ {L : Type 0} (gives : Function) (may_fail : Job → Failure → Type 0)
       same_so (IsDueLoss Ill history got got c.seats (IsFull first)) first first refl,
     )
 
-    waited : (check : Check) (stop : Option Stop) (M more : List Move) → Because stop check → IsVain P O M least rise stop → (let halt : Option Halt = None in KeepsOn Ill history first all halt halt c c_mid got got_mid) → (c_mid.failed ≡ false) × (c_mid.lost ≡ false)
+    waited : (check : Check) (stop : Option Stop) (M more : List Move) → Because stop check → IsVain A P O M least rise stop → (let halt : Option Halt = None in KeepsOn Ill history first all halt halt c c_mid got got_mid) → (c_mid.failed ≡ false) × (c_mid.lost ≡ false)
         → IfWaited check (c_mid.guests ≡ []) → all ≡ M ++ more → link_moves more ≡ [] → records_of M ≡ before_end (records_of all) → AreSeats P O all c_mid.seats
         → IsCounted history (HeardAll history []) got got_now first all → Hands → c_now.lost ≡ false → IfWaited check Vain
     waited (checks.Waited wait) stop M more because vain keeps sound alone are unlinked logged placed counted hands kept =
         let earned = keeps.earns.goes got first earned_first refl sound.0 sound.1 in
-        let is = subst (IsVain P O M least rise) because vain in
-        let seats = seats_vain gives may_fail history count idles closed limit P O M all more is.2 are unlinked c_mid.seats placed earned.offered in
-        subst (λ (H : List Record). AreVain gives may_fail history count idles closed limit P O H got got_now) logged
-        (all_vain gives may_fail history count idles closed limit P O M all first c_mid.seats got got_mid got_now anew earned (hands alone kept) seats (full_came first all got got_now anew counted))
+        let is = subst (IsVain A P O M least rise) because vain in
+        let seats = seats_vain gives may_fail history count idles closed limit A P O M all more is.2 are unlinked c_mid.seats placed earned.offered in
+        subst (λ (H : List Record). AreVain gives may_fail history count idles closed limit A P O H got got_now) logged
+        (all_vain gives may_fail history count idles closed limit A P O M all first c_mid.seats got got_mid got_now anew earned (hands alone kept) seats (full_came first all got got_now anew counted))
     waited (checks.Complete collected) stop M more because vain keeps sound alone are unlinked logged placed counted hands kept = tt
     waited (checks.CommandFailed rule why) stop M more because vain keeps sound alone are unlinked logged placed counted hands kept = tt
     waited (checks.InputsTooLarge rule total) stop M more because vain keeps sound alone are unlinked logged placed counted hands kept = tt
@@ -100,7 +101,7 @@ module _ {L : Type 0} (gives : Function) (may_fail : Job → Failure → Type 0)
 
     -- What a whole run shows that began with no link.
     pub vain_whole : (r : Result Check Stopped) → OnOk r (let halt : Option Halt = None in KeepsOn Ill history first all halt halt c c_mid got got_mid) → OnOk r ((c_mid.failed ≡ false) × (c_mid.lost ≡ false)) → IfOk r (λ check. IfWaited check (c_mid.guests ≡ []))
-        → IfOk r (EndsHere P O least rise all) → AreSeats P O all c_mid.seats → (let halt : Option Halt = None in KeepsDue Ill history all all halt halt c_mid c_now got_mid got_now) → c_now.failed ≡ c_mid.failed → c_now.lost ≡ false → c_now.seats ≡ [] → Hands
+        → IfOk r (EndsHere A P O least rise all) → AreSeats P O all c_mid.seats → (let halt : Option Halt = None in KeepsDue Ill history all all halt halt c_mid c_now got_mid got_now) → c_now.failed ≡ c_mid.failed → c_now.lost ≡ false → c_now.seats ≡ [] → Hands
         → IfOk r (λ check. IfWaited check Vain)
     vain_whole (Ok check) keeps sound alone ended placed last failed kept empty hands =
         let now = last.goes got first (keeps.due.goes got first due_first) refl (failed ∙ sound.0) kept in

@@ -16,7 +16,8 @@ use Rattle.run_history.specs.declared.answers.Stop.{Stop}
 use Rattle.run_history.specs.declared.answers.Stop.TheVariants as stops
 use Rattle.run_history.specs.declared.moves.Move.{Move}
 use Rattle.run_history.specs.declared.options.Options.{Options}
-use Rattle.run_history.specs.Answers.{before_end, end_over, is_in_vain, stop_of}
+use Rattle.run_history.specs.Admissions.{Admitting, is_in_vain_by, stop_by}
+use Rattle.run_history.specs.Answers.{before_end, end_over}
 use Rattle.run_history.specs.Links.{is_live, records_of}
 use Rattle.run_history.specs.Storage.{running_rules}
 use Rattle.outside.specs.Disk.{IsImage, Outcomes}
@@ -54,24 +55,24 @@ halt_later t count mid now halts.Runner less h = (h.0, (let rose = h.1 in omega 
 halt_later t count mid now halts.Site less h = h
 halt_later t count mid now halts.Memory less h = h
 
-vain_more : (P : Plan) (O : Options) (M : List Move) (limit rise more : ℕ) (stop : Option Stop) → rise ≤ more → IsVain P O M limit rise stop → IsVain P O M limit more stop
-vain_more P O M limit rise more None less h = tt
-vain_more P O M limit rise more (Some (stops.Waited idles)) less h = (h.0, (let few = h.1 in omega (arith, few, less)), h.2)
-vain_more P O M limit rise more (Some stops.Halt) less h = h
+vain_more : (A : Admitting) (P : Plan) (O : Options) (M : List Move) (limit rise more : ℕ) (stop : Option Stop) → rise ≤ more → IsVain A P O M limit rise stop → IsVain A P O M limit more stop
+vain_more A P O M limit rise more None less h = tt
+vain_more A P O M limit rise more (Some (stops.Waited idles)) less h = (h.0, (let few = h.1 in omega (arith, few, less)), h.2)
+vain_more A P O M limit rise more (Some stops.Halt) less h = h
 
-abbrev waiting_more : (P : Plan) (O : Options) (limit rise more : ℕ) (all : List Record) (check : Check) → rise ≤ more → EndsWaiting P O limit rise all check → EndsWaiting P O limit more all check
-waiting_more P O limit rise more all check less e = record {
+abbrev waiting_more : (A : Admitting) (P : Plan) (O : Options) (limit rise more : ℕ) (all : List Record) (check : Check) → rise ≤ more → EndsWaiting A P O limit rise all check → EndsWaiting A P O limit more all check
+waiting_more A P O limit rise more all check less e = record {
   moves = e.moves;
   logged = e.logged;
   stop = e.stop;
-  vain = vain_more P O e.moves limit rise more e.stop less e.vain;
+  vain = vain_more A P O e.moves limit rise more e.stop less e.vain;
   answer = e.answer;
   over = e.over;
 }
 
-here_more : (P : Plan) (O : Options) (limit rise more : ℕ) (all : List Move) (check : Check) → rise ≤ more → EndsHere P O limit rise all check → EndsHere P O limit more all check
-here_more P O limit rise more all check less e = record {
-  ends = waiting_more P O limit rise more (records_of all) check less e.ends;
+here_more : (A : Admitting) (P : Plan) (O : Options) (limit rise more : ℕ) (all : List Move) (check : Check) → rise ≤ more → EndsHere A P O limit rise all check → EndsHere A P O limit more all check
+here_more A P O limit rise more all check less e = record {
+  ends = waiting_more A P O limit rise more (records_of all) check less e.ends;
   more = e.more;
   are = e.are;
   none = e.none;
@@ -82,13 +83,13 @@ here_more P O limit rise more all check less e = record {
 
 -- ---- what a stop for waiting sets
 
-pub stop_waited : (P : Plan) (O : Options) (M : List Move) (stop : Option Stop) (n : ℕ) → stop ≡ None → is_some (stop_of P O M stop (stops.Waited n)) ≡ true
-    → (stop_of P O M stop (stops.Waited n) ≡ Some (stops.Waited n)) × (is_in_vain P O M ≡ true)
-stop_waited P O M stop n unset set =
-    subst (λ (k : Option Stop). (stop_of P O M k (stops.Waited n) ≡ Some (stops.Waited n)) × (is_in_vain P O M ≡ true)) (sym unset)
-    (by_vain (is_in_vain P O M) refl (ap (λ (k : Option Stop). is_some (stop_of P O M k (stops.Waited n))) (sym unset) ∙ set))
+pub stop_waited : (A : Admitting) (P : Plan) (O : Options) (M : List Move) (stop : Option Stop) (n : ℕ) → stop ≡ None → is_some (stop_by A P O M stop (stops.Waited n)) ≡ true
+    → (stop_by A P O M stop (stops.Waited n) ≡ Some (stops.Waited n)) × (is_in_vain_by A P O M ≡ true)
+stop_waited A P O M stop n unset set =
+    subst (λ (k : Option Stop). (stop_by A P O M k (stops.Waited n) ≡ Some (stops.Waited n)) × (is_in_vain_by A P O M ≡ true)) (sym unset)
+    (by_vain (is_in_vain_by A P O M) refl (ap (λ (k : Option Stop). is_some (stop_by A P O M k (stops.Waited n))) (sym unset) ∙ set))
   where
-    by_vain : (b : Bool) → is_in_vain P O M ≡ b → is_some (stop_of P O M None (stops.Waited n)) ≡ true → (stop_of P O M None (stops.Waited n) ≡ Some (stops.Waited n)) × (is_in_vain P O M ≡ true)
+    by_vain : (b : Bool) → is_in_vain_by A P O M ≡ b → is_some (stop_by A P O M None (stops.Waited n)) ≡ true → (stop_by A P O M None (stops.Waited n) ≡ Some (stops.Waited n)) × (is_in_vain_by A P O M ≡ true)
     by_vain true is set = (ap (λ (b : Bool). let waits : Option Stop = Some (stops.Waited n) in cond b waits None) is, is)
     by_vain false is set = absurd (true≢false (sym set ∙ ap (λ (b : Bool). let waits : Option Stop = Some (stops.Waited n) in is_some (cond b waits None)) is))
 
@@ -100,20 +101,20 @@ none_set (Some stop) is = absurd (true≢false is)
 pub unstopped : {S : Type 0} (d : DeskState S) (k : Option Stop) → d.stop ≡ None → is_some k ≡ false → record d { stop = k } ≡ d
 unstopped d k unset is = ap (λ (s : Option Stop). record d { stop = s }) (none_set k is ∙ sym unset)
 
-module _ {S : Type 0} (trust : Type 0) (gives : Function) (may_fail : Job → Failure → Type 0) (sources : Contents) (tells kept : Type 0) (files : S → Files) (may_leave : S → Outcomes) (moment : S → ℕ)
+module _ {S : Type 0} (A : Admitting) (trust : Type 0) (gives : Function) (may_fail : Job → Failure → Type 0) (sources : Contents) (tells kept : Type 0) (files : S → Files) (may_leave : S → Outcomes) (moment : S → ℕ)
     (images_since : S → ℕ → Files → Type 0) where
   abbrev pub GoesBy : List Move → DeskState S → DeskState S → Type 0
   GoesBy links d after = GoesOn trust gives may_fail sources tells files may_leave moment images_since links d after
 
   abbrev pub RoundBy : Type 0 → ℕ → DeskState S → DeskState S → ℕ → ℕ → ℕ → ℕ → ℕ → ℕ → ℕ → ℕ → Result Turn Stopped → Type 0
   RoundBy sure limit d after count count_now failures failures_now hall hall_now idles idles_now result =
-      Rounds trust gives may_fail sources tells kept sure files may_leave moment images_since limit d after count count_now failures failures_now hall hall_now idles idles_now result
+      Rounds A trust gives may_fail sources tells kept sure files may_leave moment images_since limit d after count count_now failures failures_now hall hall_now idles idles_now result
 
   abbrev pub WorkBy : Type 0 → ℕ → DeskState S → DeskState S → ℕ → ℕ → ℕ → ℕ → ℕ → ℕ → ℕ → ℕ → Result Check Stopped → Type 0
   WorkBy sure limit d after count count_now failures failures_now hall hall_now idles idles_now result =
-      Works trust gives may_fail sources tells kept sure files may_leave moment images_since limit d after count count_now failures failures_now hall hall_now idles idles_now result
+      Works A trust gives may_fail sources tells kept sure files may_leave moment images_since limit d after count count_now failures failures_now hall hall_now idles idles_now result
 
-  abbrev pub OnBy : {A : Type 0} → Type 0 → DeskState S → DeskState S → ℕ → ℕ → ℕ → ℕ → Result A Halt → Type 0
+  abbrev pub OnBy : {B : Type 0} → Type 0 → DeskState S → DeskState S → ℕ → ℕ → ℕ → ℕ → Result B Halt → Type 0
   OnBy sure d after count count_now failures failures_now result = ComesOn trust gives may_fail sources tells kept sure files may_leave moment images_since d after count count_now failures failures_now result
 
   abbrev pub EndBy : DeskState S → DeskState S → Result (Option Check) Stopped → Type 0
@@ -137,9 +138,9 @@ module _ {S : Type 0} (trust : Type 0) (gives : Function) (may_fail : Job → Fa
   }
 
   ended_more : (sure more : Type 0) (limit : ℕ) (after : DeskState S) (count count_mid count_now hall hall_mid hall_now idles idles_mid idles_now : ℕ) (result : Result Check Stopped) → (more → sure) → count ≤ count_mid → hall ≤ hall_mid → idles ≤ idles_mid
-      → EndedBy tells kept sure files limit after count_mid count_now hall_mid hall_now idles_mid idles_now result → EndedBy tells kept more files limit after count count_now hall hall_now idles idles_now result
+      → EndedBy A tells kept sure files limit after count_mid count_now hall_mid hall_now idles_mid idles_now result → EndedBy A tells kept more files limit after count count_now hall hall_now idles idles_now result
   ended_more sure more limit after count count_mid count_now hall hall_mid hall_now idles idles_mid idles_now (Ok check) so c m i h =
-      (h.0, here_more after.plan after.options limit (idles_now - idles_mid) (idles_now - idles) after.moves check (omega (arith, i)) h.1)
+      (h.0, here_more A after.plan after.options limit (idles_now - idles_mid) (idles_now - idles) after.moves check (omega (arith, i)) h.1)
   ended_more sure more limit after count count_mid count_now hall hall_mid hall_now idles idles_mid idles_now (Err (stopped.Refused why)) so c m i h = h
   ended_more sure more limit after count count_mid count_now hall hall_mid hall_now idles idles_mid idles_now (Err (stopped.Halted why)) so c m i h = halted_later sure more after count count_mid count_now why so c h
   ended_more sure more limit after count count_mid count_now hall hall_mid hall_now idles idles_mid idles_now (Err stopped.Hall) so c m i h = (h.0, (let rose = h.1 in omega (arith, rose, m)))
@@ -147,7 +148,7 @@ module _ {S : Type 0} (trust : Type 0) (gives : Function) (may_fail : Job → Fa
   ended_more sure more limit after count count_mid count_now hall hall_mid hall_now idles idles_mid idles_now (Err (stopped.Unopened fault)) so c m i h = h
 
   turns_more : (sure more : Type 0) (limit : ℕ) (after : DeskState S) (count count_mid count_now hall hall_mid hall_now idles idles_mid idles_now : ℕ) (result : Result Turn Stopped) → (more → sure) → count ≤ count_mid → hall ≤ hall_mid → idles ≤ idles_mid
-      → TurnsTo tells kept sure files limit after count_mid count_now hall_mid hall_now idles_mid idles_now result → TurnsTo tells kept more files limit after count count_now hall hall_now idles idles_now result
+      → TurnsTo A tells kept sure files limit after count_mid count_now hall_mid hall_now idles_mid idles_now result → TurnsTo A tells kept more files limit after count count_now hall hall_now idles idles_now result
   turns_more sure more limit after count count_mid count_now hall hall_mid hall_now idles idles_mid idles_now (Ok turns.Again) so c m i h = h
   turns_more sure more limit after count count_mid count_now hall hall_mid hall_now idles idles_mid idles_now (Ok (turns.Vain n)) so c m i h = (h.0, h.1, (let few = h.2 in omega (arith, few, i)))
   turns_more sure more limit after count count_mid count_now hall hall_mid hall_now idles idles_mid idles_now (Ok (turns.Over check)) so c m i h =
@@ -167,7 +168,7 @@ module _ {S : Type 0} (trust : Type 0) (gives : Function) (may_fail : Job → Fa
 
   -- what was served, told as a round's
   pub round_by : (sure : Type 0) (limit : ℕ) (d after : DeskState S) (count count_now failures failures_now hall hall_now idles idles_now : ℕ) (came : Result (Unit {0}) Halt) (result : Result Turn Stopped)
-      → OnBy sure d after count count_now failures failures_now came → IsOn d → hall ≤ hall_now → idles ≤ idles_now → TurnsTo tells kept sure files limit after count count_now hall hall_now idles idles_now result
+      → OnBy sure d after count count_now failures failures_now came → IsOn d → hall ≤ hall_now → idles ≤ idles_now → TurnsTo A tells kept sure files limit after count count_now hall hall_now idles idles_now result
       → (Quietly (records_of d.moves) (records_of after.moves) → TurnAdds (records_of d.moves) (records_of after.moves) result)
       → RoundBy sure limit d after count count_now failures failures_now hall hall_now idles idles_now result
   round_by sure limit d after count count_now failures failures_now hall hall_now idles idles_now came result on begun met looks turn adds = record {
@@ -229,7 +230,7 @@ module _ {S : Type 0} (trust : Type 0) (gives : Function) (may_fail : Job → Fa
       }
 
   end_turns : (sure : Type 0) (limit : ℕ) (d after : DeskState S) (count count_now hall hall_now idles idles_now : ℕ) (why : Stopped) → count ≤ count_now → HasEnd tells kept files d after (Err why)
-      → EndedBy tells kept sure files limit after count count_now hall hall_now idles idles_now (Err why)
+      → EndedBy A tells kept sure files limit after count count_now hall hall_now idles idles_now (Err why)
   end_turns sure limit d after count count_now hall hall_now idles idles_now (stopped.Refused why) less h = h
   end_turns sure limit d after count count_now hall hall_now idles idles_now (stopped.Halted why) less h = halted_over sure after count count_now why less h
   end_turns sure limit d after count count_now hall hall_now idles idles_now stopped.Hall less h = absurd h
@@ -368,8 +369,8 @@ module _ {S : Type 0} (trust : Type 0) (gives : Function) (may_fail : Job → Fa
 
   -- waiting was in vain
   waits_by : (sure : Type 0) (limit n : ℕ) (d mid after : DeskState S) (count count_now hall hall_now idles idles_now : ℕ) (result : Result Check Stopped) → GoesBy [] (record mid { stop = Some (stops.Waited n) }) after
-      → HasEnd tells kept files (record mid { stop = Some (stops.Waited n) }) after (with_check result) → is_in_vain mid.plan mid.options mid.moves ≡ true → limit ≤ n → n ≤ idles_now - idles → count ≤ count_now
-      → EndedBy tells kept sure files limit after count count_now hall hall_now idles idles_now result
+      → HasEnd tells kept files (record mid { stop = Some (stops.Waited n) }) after (with_check result) → is_in_vain_by A mid.plan mid.options mid.moves ≡ true → limit ≤ n → n ≤ idles_now - idles → count ≤ count_now
+      → EndedBy A tells kept sure files limit after count count_now hall hall_now idles idles_now result
   waits_by sure limit n d mid after count count_now hall hall_now idles idles_now (Ok check) goes h vain most few less = (
     h.0,
     record {
@@ -377,7 +378,7 @@ module _ {S : Type 0} (trust : Type 0) (gives : Function) (may_fail : Job → Fa
         moves = mid.moves;
         logged = h.2.logged;
         stop = Some (stops.Waited n);
-        vain = (most, few, subst (λ (P : Plan). is_in_vain P after.options mid.moves ≡ true) (sym goes.plan) (subst (λ (O : Options). is_in_vain mid.plan O mid.moves ≡ true) (sym goes.options) vain));
+        vain = (most, few, subst (λ (P : Plan). is_in_vain_by A P after.options mid.moves ≡ true) (sym goes.plan) (subst (λ (O : Options). is_in_vain_by A mid.plan O mid.moves ≡ true) (sym goes.options) vain));
         answer = h.2.answer;
         over = h.2.over;
       };
@@ -399,7 +400,7 @@ module _ {S : Type 0} (trust : Type 0) (gives : Function) (may_fail : Job → Fa
 
   pub works_vain : (sure : Type 0) (limit n : ℕ) (d mid set after : DeskState S) (count count_now failures failures_now hall hall_now idles idles_mid idles_now : ℕ) (result : Result Check Stopped) → Stands d mid count count_now failures failures_now
       → hall ≤ hall_now → idles ≤ idles_mid → idles_mid ≤ idles_now → limit ≤ n → n ≤ idles_now - idles_mid → (tells → (image : Files) → images_since mid.site (moment mid.site) image → IsImage (may_leave mid.site) image)
-      → is_in_vain mid.plan mid.options mid.moves ≡ true → set ≡ record mid { stop = Some (stops.Waited n) } → EndBy set after (with_check result)
+      → is_in_vain_by A mid.plan mid.options mid.moves ≡ true → set ≡ record mid { stop = Some (stops.Waited n) } → EndBy set after (with_check result)
       → WorkBy sure limit d after count count_now failures failures_now hall hall_now idles idles_now result
   works_vain sure limit n d mid set after count count_now failures failures_now hall hall_now idles idles_mid idles_now result s met looks later most few only_now vain is ends =
       let h : EndBy (record mid { stop = Some (stops.Waited n) }) after (with_check result) = subst (λ (x : DeskState S). EndBy x after (with_check result)) is ends in
@@ -424,9 +425,9 @@ hall_rose n count count_now failed failed_now less before fails later is =
 
 -- ---- a whole run
 
-module _ {S : Type 0} (tells kept sure : Type 0) (files : S → Files) (limit : ℕ) (now : DeskState S) (count count_now hall hall_now idles idles_now : ℕ) where
+module _ {S : Type 0} (A : Admitting) (tells kept sure : Type 0) (files : S → Files) (limit : ℕ) (now : DeskState S) (count count_now hall hall_now idles idles_now : ℕ) where
   abbrev pub EndBySure : Result Check Stopped → Type 0
-  EndBySure result = EndedBy tells kept sure files limit now count count_now hall hall_now idles idles_now result
+  EndBySure result = EndedBy A tells kept sure files limit now count count_now hall hall_now idles idles_now result
 
   pub stops_by : (before last : ℕ) (result : Result Check Stopped) → before ≤ hall → hall_now ≤ last → EndBySure result → StopsBy now.trouble count count_now before last result
   stops_by before last (Ok check) less more h = h.0
@@ -469,8 +470,8 @@ module _ {S : Type 0} (tells kept sure : Type 0) (files : S → Files) (limit : 
   spared_by (Err (stopped.Unheard fault)) h is = tt
   spared_by (Err (stopped.Unopened fault)) h is = tt
 
-  pub ends_by_waiting : (first last : ℕ) (result : Result Check Stopped) → first ≤ idles → idles_now ≤ last → EndBySure result → IfOk result (EndsHere now.plan now.options limit (last - first) now.moves)
-  ends_by_waiting first last (Ok check) before later h = here_more now.plan now.options limit (idles_now - idles) (last - first) now.moves check (omega (arith, before, later)) h.1
+  pub ends_by_waiting : (first last : ℕ) (result : Result Check Stopped) → first ≤ idles → idles_now ≤ last → EndBySure result → IfOk result (EndsHere A now.plan now.options limit (last - first) now.moves)
+  ends_by_waiting first last (Ok check) before later h = here_more A now.plan now.options limit (idles_now - idles) (last - first) now.moves check (omega (arith, before, later)) h.1
   ends_by_waiting first last (Err why) before later h = tt
 
 -- all links were handed back

@@ -10,7 +10,8 @@ use Rattle.run_history.specs.declared.answers.Stop.{Stop}
 use Rattle.run_history.specs.declared.answers.Stop.TheVariants as stops
 use Rattle.run_history.specs.declared.moves.Move.{Move}
 use Rattle.run_history.specs.declared.options.Options.{Options}
-use Rattle.run_history.specs.Answers.{before_end, end_over, has_ended, is_in_vain}
+use Rattle.run_history.specs.Admissions.{Admitting, is_in_vain_by}
+use Rattle.run_history.specs.Answers.{before_end, end_over, has_ended}
 use Rattle.run_history.specs.History.{is_end}
 use Rattle.run_history.specs.Links.{records_of}
 use Rattle.desk.specs.declared.answers.Trouble.{Trouble}
@@ -43,11 +44,11 @@ pub record LosesOnLinks (H all : List Record) : Type 0 where
   pub are : all ≡ H ++ more
   pub each : All (LosesAway all) more
 
--- The stop is none; or it is for waiting in vain, by these moves, after so many looks for which nobody came: at least as many as the limit, and at most as many as this run made.
-abbrev pub IsVain : Plan → Options → List Move → ℕ → ℕ → Option Stop → Type 0
-IsVain P O M limit rise None = Unit {0}
-IsVain P O M limit rise (Some (stops.Waited idles)) = (limit ≤ idles) × (idles ≤ rise) × (is_in_vain P O M ≡ true)
-IsVain P O M limit rise (Some stops.Halt) = ⊥
+-- The stop is none; or it is for waiting in vain, by these moves and this admission, after so many looks for which nobody came: at least as many as the limit, and at most as many as this run made.
+abbrev pub IsVain : Admitting → Plan → Options → List Move → ℕ → ℕ → Option Stop → Type 0
+IsVain A P O M limit rise None = Unit {0}
+IsVain A P O M limit rise (Some (stops.Waited idles)) = (limit ≤ idles) × (idles ≤ rise) × (is_in_vain_by A P O M ≡ true)
+IsVain A P O M limit rise (Some stops.Halt) = ⊥
 
 -- the run has come to an end
 abbrev pub IsOver : Check → Type 0
@@ -56,17 +57,17 @@ IsOver checks.Halted = ⊥
 IsOver check = Unit {0}
 
 -- How a run with workers ends, by its records and a stop for waiting in vain, if one was set.
-pub record EndsWaiting (P : Plan) (O : Options) (limit rise : ℕ) (all : List Record) (check : Check) : Type 0 where
+pub record EndsWaiting (A : Admitting) (P : Plan) (O : Options) (limit rise : ℕ) (all : List Record) (check : Check) : Type 0 where
   pub moves : List Move
   pub logged : records_of moves ≡ before_end all
   pub stop : Option Stop
-  pub vain : IsVain P O moves limit rise stop
+  pub vain : IsVain A P O moves limit rise stop
   pub answer : check ≡ end_over P O (before_end all) stop
   pub over : IsOver check
 
 -- How a run with workers ends at a desk with all these moves: what it ends by, and waits in vain by, are the desk's own moves before its end. Until then the run hadn't ended, and behind them stands its end alone, or nothing, which begins no other.
-pub record EndsHere (P : Plan) (O : Options) (limit rise : ℕ) (all : List Move) (check : Check) : Type 0 where
-  pub ends : EndsWaiting P O limit rise (records_of all) check
+pub record EndsHere (A : Admitting) (P : Plan) (O : Options) (limit rise : ℕ) (all : List Move) (check : Check) : Type 0 where
+  pub ends : EndsWaiting A P O limit rise (records_of all) check
   pub more : List Move
   pub are : all ≡ ends.moves ++ more
   pub none : link_moves more ≡ []

@@ -12,8 +12,9 @@ use Rattle.flow_types.specs.Serial.{Function}
 use Rattle.run_history.specs.declared.answers.Check.{Check}
 use Rattle.run_history.specs.declared.answers.Check.TheVariants as checks
 use Rattle.run_history.specs.declared.options.Options.{Options}
+use Rattle.run_history.specs.Admissions.{Admitting, may_be_stored}
 use Rattle.run_history.specs.Links.{LinkRow, amounts_on, has_room, is_at_most, load_of, may_run_on, needs_of}
-use Rattle.run_history.specs.Storage.{fits_storage, ready_rules}
+use Rattle.run_history.specs.Storage.{ready_rules}
 use Rattle.links.specs.declared.passing.Passed.{Passed}
 use Rattle.links.specs.Honesty.{IsAtLeast}
 use Rattle.links.specs.Ill.{IsIll}
@@ -30,21 +31,21 @@ use Rattle.wq_run.specs.Seats.{SeatState}
 abbrev pub fits_empty : Plan → Options → List Record → ℕ → LinkRow → ℕ → Bool
 fits_empty P O H k row r = may_run_on P O r k && has_room k row [] (load_of P H r)
 
--- No ready rule that fits the storage and may run on a link beside the local place fits one that offers this, with nothing running there.
-abbrev pub TakesNone : Plan → Options → List Record → LinkRow → Type 0
-TakesNone P O H row = (k : ℕ) → 0 < k → list_all (λ r. not (fits_storage P H r) || not (fits_empty P O H k row r)) (ready_rules P H) ≡ true
+-- No ready rule that is admitted, fits the storage and may run on a link beside the local place fits one that offers this, with nothing running there.
+abbrev pub TakesNone : Admitting → Plan → Options → List Record → LinkRow → Type 0
+TakesNone A P O H row = (k : ℕ) → 0 < k → list_all (λ r. not (may_be_stored A P O H r) || not (fits_empty P O H k row r)) (ready_rules P H) ≡ true
 
 -- The link is ill among these, or a hello or totals came over it whose offer takes none of the rules.
-abbrev pub IsVainLink : {L : Type 0} → Function → (Job → Failure → Type 0) → (L → List Passed) → (L → ℕ) → (L → ℕ) → (L → Bool) → ℕ → Plan → Options → List Record → List (Option LinkNo × L) → Option LinkNo × L → Type 0
-IsVainLink gives may_fail history count idles closed limit P O H links link =
+abbrev pub IsVainLink : {L : Type 0} → Function → (Job → Failure → Type 0) → (L → List Passed) → (L → ℕ) → (L → ℕ) → (L → Bool) → ℕ → Admitting → Plan → Options → List Record → List (Option LinkNo × L) → Option LinkNo × L → Type 0
+IsVainLink gives may_fail history count idles closed limit A P O H links link =
     IsIll limit (WasHonest gives may_fail (history link.1)) (accounts_of history count idles closed links) (account_of history count idles closed link.0 link.1)
-    ⊎ ((row : LinkRow) × IsOffered (received_in (history link.1)) row × TakesNone P O H row)
+    ⊎ ((row : LinkRow) × IsOffered (received_in (history link.1)) row × TakesNone A P O H row)
 
 -- Each of the links that were handed back behind those is so, by these records.
-pub record AreVain {L : Type 0} (gives : Function) (may_fail : Job → Failure → Type 0) (history : L → List Passed) (count idles : L → ℕ) (closed : L → Bool) (limit : ℕ) (P : Plan) (O : Options) (H : List Record) (got got_now : List (Option LinkNo × L)) : Type 0 where
+pub record AreVain {L : Type 0} (gives : Function) (may_fail : Job → Failure → Type 0) (history : L → List Passed) (count idles : L → ℕ) (closed : L → Bool) (limit : ℕ) (A : Admitting) (P : Plan) (O : Options) (H : List Record) (got got_now : List (Option LinkNo × L)) : Type 0 where
   pub links : List (Option LinkNo × L)
   pub back : got_now ≡ got ++ links
-  pub each : All (IsVainLink gives may_fail history count idles closed limit P O H links) links
+  pub each : All (IsVainLink gives may_fail history count idles closed limit A P O H links) links
 
 -- It is so if the run waited in vain.
 abbrev pub IfWaited : Check → Type 0 → Type 0

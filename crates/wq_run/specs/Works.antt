@@ -8,6 +8,7 @@ use Rattle.flow_types.specs.Serial.{Contents, Function}
 use Rattle.run_history.specs.declared.answers.Check.{Check}
 use Rattle.run_history.specs.declared.answers.Stop.{Stop}
 use Rattle.run_history.specs.declared.moves.Move.{Move}
+use Rattle.run_history.specs.Admissions.{Admitting}
 use Rattle.run_history.specs.Answers.{before_end, end_of, end_over, has_ended}
 use Rattle.run_history.specs.History.{is_end}
 use Rattle.run_history.specs.Links.{records_of}
@@ -42,24 +43,24 @@ pub record HaltedBy {S : Type 0} (tells kept sure : Type 0) (files : S → Files
   pub never : sure → IsSureHalt why
 
 -- How a run ended, or why it stopped.
-abbrev pub EndedBy : {S : Type 0} → Type 0 → Type 0 → Type 0 → (S → Files) → ℕ → DeskState S → ℕ → ℕ → ℕ → ℕ → ℕ → ℕ → Result Check Stopped → Type 0
-EndedBy tells kept sure files limit now count count_now hall hall_now idles idles_now (Ok check) =
-    IsFine now.trouble × EndsHere now.plan now.options limit (idles_now - idles) now.moves check
-EndedBy tells kept sure files limit now count count_now hall hall_now idles idles_now (Err (stopped.Refused why)) = ⊥
-EndedBy tells kept sure files limit now count count_now hall hall_now idles idles_now (Err (stopped.Halted halt)) =
+abbrev pub EndedBy : {S : Type 0} → Admitting → Type 0 → Type 0 → Type 0 → (S → Files) → ℕ → DeskState S → ℕ → ℕ → ℕ → ℕ → ℕ → ℕ → Result Check Stopped → Type 0
+EndedBy A tells kept sure files limit now count count_now hall hall_now idles idles_now (Ok check) =
+    IsFine now.trouble × EndsHere A now.plan now.options limit (idles_now - idles) now.moves check
+EndedBy A tells kept sure files limit now count count_now hall hall_now idles idles_now (Err (stopped.Refused why)) = ⊥
+EndedBy A tells kept sure files limit now count count_now hall hall_now idles idles_now (Err (stopped.Halted halt)) =
     HaltedBy tells kept sure files now count count_now halt
-EndedBy tells kept sure files limit now count count_now hall hall_now idles idles_now (Err stopped.Hall) = IsFine now.trouble × (hall < hall_now)
-EndedBy tells kept sure files limit now count count_now hall hall_now idles idles_now (Err (stopped.Unheard fault)) = ⊥
-EndedBy tells kept sure files limit now count count_now hall hall_now idles idles_now (Err (stopped.Unopened fault)) = ⊥
+EndedBy A tells kept sure files limit now count count_now hall hall_now idles idles_now (Err stopped.Hall) = IsFine now.trouble × (hall < hall_now)
+EndedBy A tells kept sure files limit now count count_now hall hall_now idles idles_now (Err (stopped.Unheard fault)) = ⊥
+EndedBy A tells kept sure files limit now count count_now hall hall_now idles idles_now (Err (stopped.Unopened fault)) = ⊥
 
 -- What a round of a run tells: it goes on; nobody came so often while nothing could be done; or it ended, with no stop, or stopped.
-abbrev pub TurnsTo : {S : Type 0} → Type 0 → Type 0 → Type 0 → (S → Files) → ℕ → DeskState S → ℕ → ℕ → ℕ → ℕ → ℕ → ℕ → Result Turn Stopped → Type 0
-TurnsTo tells kept sure files limit now count count_now hall hall_now idles idles_now (Ok turns.Again) = IsOn now
-TurnsTo tells kept sure files limit now count count_now hall hall_now idles idles_now (Ok (turns.Vain n)) = IsOn now × (limit ≤ n) × (n ≤ idles_now - idles)
-TurnsTo {S} tells kept sure files limit now count count_now hall hall_now idles idles_now (Ok (turns.Over check)) =
-    (now.stop ≡ None) × EndedBy tells kept sure files limit now count count_now hall hall_now idles idles_now (Ok check)
-TurnsTo tells kept sure files limit now count count_now hall hall_now idles idles_now (Err why) =
-    EndedBy tells kept sure files limit now count count_now hall hall_now idles idles_now (Err why)
+abbrev pub TurnsTo : {S : Type 0} → Admitting → Type 0 → Type 0 → Type 0 → (S → Files) → ℕ → DeskState S → ℕ → ℕ → ℕ → ℕ → ℕ → ℕ → Result Turn Stopped → Type 0
+TurnsTo A tells kept sure files limit now count count_now hall hall_now idles idles_now (Ok turns.Again) = IsOn now
+TurnsTo A tells kept sure files limit now count count_now hall hall_now idles idles_now (Ok (turns.Vain n)) = IsOn now × (limit ≤ n) × (n ≤ idles_now - idles)
+TurnsTo {S} A tells kept sure files limit now count count_now hall hall_now idles idles_now (Ok (turns.Over check)) =
+    (now.stop ≡ None) × EndedBy A tells kept sure files limit now count count_now hall hall_now idles idles_now (Ok check)
+TurnsTo A tells kept sure files limit now count count_now hall hall_now idles idles_now (Err why) =
+    EndedBy A tells kept sure files limit now count count_now hall hall_now idles idles_now (Err why)
 
 -- it tells that no round follows, or none but where the run can't be stopped
 abbrev pub IsLast : Turn → Type 0
@@ -75,7 +76,7 @@ TurnAdds H all (Ok (turns.Over check)) = RunAdds H all (Ok check)
 TurnAdds H all (Err why) = RunAdds H all (Err why)
 
 -- What a round of a run comes to, whose runners' and hall's counts rise so.
-pub record Rounds {S : Type 0} (trust : Type 0) (gives : Function) (may_fail : Job → Failure → Type 0) (sources : Contents) (tells kept sure : Type 0) (files : S → Files) (may_leave : S → Outcomes) (moment : S → ℕ)
+pub record Rounds {S : Type 0} (A : Admitting) (trust : Type 0) (gives : Function) (may_fail : Job → Failure → Type 0) (sources : Contents) (tells kept sure : Type 0) (files : S → Files) (may_leave : S → Outcomes) (moment : S → ℕ)
     (images_since : S → ℕ → Files → Type 0) (limit : ℕ) (d after : DeskState S) (count count_now failures failures_now hall hall_now idles idles_now : ℕ) (result : Result Turn Stopped) : Type 0 where
   pub links : List Move
   pub goes : GoesOn trust gives may_fail sources tells files may_leave moment images_since links d after
@@ -84,11 +85,11 @@ pub record Rounds {S : Type 0} (trust : Type 0) (gives : Function) (may_fail : J
   pub risen : failures ≤ failures_now
   pub met : hall ≤ hall_now
   pub looks : idles ≤ idles_now
-  pub turn : TurnsTo tells kept sure files limit after count count_now hall hall_now idles idles_now result
+  pub turn : TurnsTo A tells kept sure files limit after count count_now hall hall_now idles idles_now result
   pub adds : TurnAdds (records_of d.moves) (records_of after.moves) result
 
 -- What a whole run comes to.
-pub record Works {S : Type 0} (trust : Type 0) (gives : Function) (may_fail : Job → Failure → Type 0) (sources : Contents) (tells kept sure : Type 0) (files : S → Files) (may_leave : S → Outcomes) (moment : S → ℕ)
+pub record Works {S : Type 0} (A : Admitting) (trust : Type 0) (gives : Function) (may_fail : Job → Failure → Type 0) (sources : Contents) (tells kept sure : Type 0) (files : S → Files) (may_leave : S → Outcomes) (moment : S → ℕ)
     (images_since : S → ℕ → Files → Type 0) (limit : ℕ) (d after : DeskState S) (count count_now failures failures_now hall hall_now idles idles_now : ℕ) (result : Result Check Stopped) : Type 0 where
   pub links : List Move
   pub goes : GoesOn trust gives may_fail sources tells files may_leave moment images_since links d after
@@ -97,7 +98,7 @@ pub record Works {S : Type 0} (trust : Type 0) (gives : Function) (may_fail : Jo
   pub risen : failures ≤ failures_now
   pub met : hall ≤ hall_now
   pub looks : idles ≤ idles_now
-  pub ended : EndedBy tells kept sure files limit after count count_now hall hall_now idles idles_now result
+  pub ended : EndedBy A tells kept sure files limit after count count_now hall hall_now idles idles_now result
   pub lost : OnOk result (LosesOnLinks (records_of d.moves) (records_of after.moves))
   pub adds : RunAdds (records_of d.moves) (records_of after.moves) result
 

@@ -1,6 +1,7 @@
 //! A run with workers, from its first claim to its end.
 ghost use Rattle.std.specs.Prelude.{◌≡◌, ◌≤◌, ◌<◌, ◌-◌, ℕ, List, length, sum_by, IfOk, OnOk, None, false};
 ghost use Rattle.flow_types.specs.declared.numbers.Amounts.{Amounts as AmountsValue};
+ghost use Rattle.flow_types.specs.declared.plan.Plan.{Plan as PlanValue};
 ghost use Rattle.flow_types.specs.Plans.{IsValid};
 ghost use Rattle.run_history.specs.declared.moves.Move.{Move};
 ghost use Rattle.run_history.specs.Answers.{before_end, has_ended, passes_inputs};
@@ -33,7 +34,7 @@ use run_history::Check;
 use std::alloc::Global;
 use std::sync::Wait;
 use std::thread::Threads;
-use task_core::AdmitAll;
+use task_core::Admission;
 use worker_pool::Gate;
 
 /// Runs the rules that the desk hands out, here and at the workers that come, and ends the run. What
@@ -47,10 +48,12 @@ pub fn work<
     R: Runner<F>,
     C: Clock,
     T: Terms + Trust,
+    A: Admission,
 >(
     rt: &W,
     alloc: Global,
-    desk: &mut Desk<F, S, T, AdmitAll>,
+    desk: &mut Desk<F, S, T, A>,
+    admission: &mut A,
     hall: &mut H,
     workers: Workers,
     runners: &mut [R],
@@ -59,6 +62,7 @@ pub fn work<
 ) -> Result<Check, Stopped>
     requires some { 0 < length runners.old }
     requires valid { IsValid desk.old.plan }
+    requires stands { A.stands_for admission.old desk.old.plan }
     requires fine { IsFine desk.old.trouble }
     requires unset { desk.old.stop ≡ None }
     requires unended { has_ended (records_of desk.old.moves) ≡ false }
@@ -86,7 +90,7 @@ pub fn work<
     ensures never { AllSure R.sure runners.old → IsSparedRunners result }
     ensures lost { OnOk result
         (LosesOnLinks (records_of desk.old.moves) (records_of desk.new.moves)) }
-    ensures ends { IfOk result (EndsHere desk.new.plan desk.new.options workers.limit
+    ensures ends { IfOk result (EndsHere A.admitted desk.new.plan desk.new.options workers.limit
         (H.idle_count hall.new - H.idle_count hall.old) desk.new.moves) }
     ensures back { (IsCutRun result → ⊥)
         → AreBack (H.got hall.old) (H.got hall.new) (H.given hall.old) (H.given hall.new) }
@@ -98,7 +102,7 @@ pub fn work<
         (H.got hall.new) (records_of desk.old.moves) (records_of desk.new.moves)) }
     ensures vain { H.Way.tells → joins_and_changes desk.old.moves ≡ 0
         → IfOk result (λ check. IfWaited check (AreVain F.gives F.may_fail H.Way.history
-        H.Way.count H.Way.idle_count H.Way.is_closed workers.limit desk.new.plan desk.new.options
+        H.Way.count H.Way.idle_count H.Way.is_closed workers.limit A.admitted desk.new.plan desk.new.options
         (before_end (records_of desk.new.moves)) (H.got hall.old) (H.got hall.new))) }
     ensures manned { (least : AmountsValue) → H.Way.tells → joins_and_changes desk.old.moves ≡ 0
         → H.sure hall.old → H.manned hall.old least → AllSure R.sure runners.old
@@ -111,6 +115,8 @@ pub fn work<
         → AllSure R.sure runners.old → ComeFew H.Way.history H.Way.count H.Way.idle_count
         H.Way.is_closed (H.got hall.old) (H.got hall.new)
         → OnOk result (GoesWell (records_of desk.old.moves) (records_of desk.new.moves)) }
+    ensures stays { (P : PlanValue) → A.stands_for admission.old P
+        → A.stands_for admission.new P }
 {
     offers_were_stated::<F, H::Way>();
     manned_halls_are_staffed::<F, H>();
@@ -119,6 +125,7 @@ pub fn work<
         rt,
         alloc,
         desk,
+        admission,
         &mut company,
         hall,
         workers.limit,

@@ -1,6 +1,7 @@
 //! The end of a service: nothing is held any more.
 ghost use Rattle.std.specs.Prelude.{◌≡◌, ◌<◌, ℕ, List, None, Option, Some};
 ghost use Rattle.flow_types.specs.declared.job.Start.{Start as StartValue};
+ghost use Rattle.flow_types.specs.declared.plan.Plan.{Plan as PlanValue};
 ghost use Rattle.flow_types.specs.Plans.{IsValid};
 ghost use Rattle.worker_pool.specs.declared.hand.Tally.{Tally};
 ghost use Rattle.desk.specs.State.{DeskState};
@@ -21,7 +22,7 @@ use links::Hall;
 use local_run::{Halt, Held, settle};
 use outside::{Clock, Commands, Site};
 use std::alloc::Global;
-use task_core::AdmitAll;
+use task_core::Admission;
 use worker_pool::Terms as PoolTerms;
 
 /// Stops the run for want of memory, where nothing has stopped it.
@@ -37,15 +38,25 @@ fn stop_wanting(held: &mut Held)
 
 /// Gives up what is still held, here or at a worker, which is something only where memory was
 /// wanting, and tells why the run stopped.
-pub(crate) fn finish<B: PoolTerms, F: Commands, S: Site, H: Hall<F>, T: Terms + Trust, C: Clock>(
+pub(crate) fn finish<
+    B: PoolTerms,
+    F: Commands,
+    S: Site,
+    H: Hall<F>,
+    T: Terms + Trust,
+    A: Admission,
+    C: Clock,
+>(
     alloc: Global,
-    desk: &mut Desk<F, S, T, AdmitAll>,
+    desk: &mut Desk<F, S, T, A>,
+    admission: &mut A,
     held: Held,
     company: &mut Company<F, H::Way, T>,
     hall: &mut H,
     clock: &C,
 ) -> Result<(), Halt>
     requires valid { IsValid desk.old.plan }
+    requires stands { A.stands_for admission.old desk.old.plan }
     requires keen { (k : ℕ) → 0 < k → T.keen k → ⊥ }
     requires manned { IsManned T.trust F.gives F.may_fail T.sources S.tells T.kept (IsSurePool B.fits)
         S.files S.may_leave S.moment S.images_since desk.old held company.old.seats }
@@ -74,12 +85,14 @@ pub(crate) fn finish<B: PoolTerms, F: Commands, S: Site, H: Hall<F>, T: Terms + 
         (H.got hall.new) (H.given hall.old) (H.given hall.new) (H.idle_count hall.old)
         (H.idle_count hall.new) (inside_of company.old) (inside_of company.new)
         company.old.failed company.new.failed company.old.lost company.new.lost }
+    ensures stays { (P : PlanValue) → A.stands_for admission.old P
+        → A.stands_for admission.new P }
 {
     let mut held = held;
     if company.is_idle() {
-        return settle::<B, F, S, T, C>(desk, held, clock);
+        return settle::<B, F, S, T, A, C>(desk, admission, held, clock);
     }
     stop_wanting(&mut held);
-    dismiss::<B, F, S, H, T, C>(company, alloc, desk, &mut held, hall, clock);
-    settle::<B, F, S, T, C>(desk, held, clock)
+    dismiss::<B, F, S, H, T, A, C>(company, alloc, desk, &mut held, hall, clock);
+    settle::<B, F, S, T, A, C>(desk, admission, held, clock)
 }

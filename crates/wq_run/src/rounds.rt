@@ -2,9 +2,11 @@
 ghost use Rattle.std.specs.Prelude.{◌≡◌, ◌≤◌, ◌<◌, [], ℕ, length, sum_by, IfOk, None, OnOk};
 ghost use Rattle.std.specs.Prelude.{Option, Some, false, true};
 ghost use Rattle.flow_types.specs.declared.job.Job.{Job};
+ghost use Rattle.flow_types.specs.declared.plan.Plan.{Plan as PlanValue};
 ghost use Rattle.flow_types.specs.Plans.{IsValid};
 ghost use Rattle.run_history.specs.declared.answers.Stop.TheVariants as stops;
-ghost use Rattle.run_history.specs.Answers.{has_ended, is_in_vain};
+ghost use Rattle.run_history.specs.Admissions.{is_in_vain_by};
+ghost use Rattle.run_history.specs.Answers.{has_ended};
 ghost use Rattle.run_history.specs.Links.{records_of};
 ghost use Rattle.run_history.specs.Storage.{running_rules};
 ghost use Rattle.worker_pool.specs.Crews.{AllSure, AllTell};
@@ -32,7 +34,7 @@ use std::alloc::Global;
 use std::marker::Brand;
 use std::sync::Wait;
 use std::thread::Threads;
-use task_core::AdmitAll;
+use task_core::Admission;
 use worker_pool::Gate;
 
 /// What a round of a run tells.
@@ -63,8 +65,8 @@ fn is_over(check: Check) -> bool
 }
 
 /// Ends the run, if it doesn't go on.
-fn end<F: Commands, S: Site, T: Terms, C: Clock>(
-    desk: &mut Desk<F, S, T, AdmitAll>,
+fn end<F: Commands, S: Site, T: Terms, A: Admission, C: Clock>(
+    desk: &mut Desk<F, S, T, A>,
     clock: &C,
 ) -> Result<Option<Check>, Stopped>
     requires fine { IsFine desk.old.trouble }
@@ -88,16 +90,18 @@ fn end<F: Commands, S: Site, T: Terms, C: Clock>(
 
 /// Waits for workers, and tells how often nobody came if that was too often and nobody who came is
 /// still to join.
-fn wait_round<W: Wait, F: Commands, S: Site, H: Hall<F>, C: Clock, T: Terms + Trust>(
+fn wait_round<W: Wait, F: Commands, S: Site, H: Hall<F>, C: Clock, T: Terms + Trust, A: Admission>(
     rt: &W,
     alloc: Global,
-    desk: &mut Desk<F, S, T, AdmitAll>,
+    desk: &mut Desk<F, S, T, A>,
+    admission: &mut A,
     company: &mut Company<F, H::Way, T>,
     hall: &mut H,
     limit: u32,
     clock: &C,
 ) -> Result<Turn, Stopped>
     requires valid { IsValid desk.old.plan }
+    requires stands { A.stands_for admission.old desk.old.plan }
     requires on { IsOn desk.old }
     requires idle { length (running_rules desk.old.plan (records_of desk.old.moves)) ≤ 0 }
     requires of { IsOf T.trust F.gives T.sources S.tells T.kept T.holds T.plan T.options T.run T.due
@@ -106,7 +110,7 @@ fn wait_round<W: Wait, F: Commands, S: Site, H: Hall<F>, C: Clock, T: Terms + Tr
     requires listens { IsOpen T.holds (H.listens hall.old) (H.honest hall.old) }
     requires seats { AreSeats desk.old.plan desk.old.options desk.old.moves company.old.seats }
     requires none { gathered company.old.seats ≡ [] }
-    ensures rounds { (n m : ℕ) → Rounds T.trust F.gives F.may_fail T.sources
+    ensures rounds { (n m : ℕ) → Rounds A.admitted T.trust F.gives F.may_fail T.sources
         S.tells T.kept (Unit {0}) S.files S.may_leave S.moment S.images_since limit desk.old desk.new
         n n m m (H.count hall.old) (H.count hall.new) (H.idle_count hall.old)
         (H.idle_count hall.new) result }
@@ -132,9 +136,13 @@ fn wait_round<W: Wait, F: Commands, S: Site, H: Hall<F>, C: Clock, T: Terms + Tr
     ensures sound { IfOk result (λ turn. IsLast turn
         → (company.new.failed ≡ false) × (company.new.lost ≡ false)) }
     ensures alone { IfOk result (IsAlone company.new.guests) }
+    ensures stays { (P : PlanValue) → A.stands_for admission.old P
+        → A.stands_for admission.new P }
 {
     let before = hall.idles();
-    match wait::<Brand, W, F, S, H, T, C>(rt, alloc, desk, company, hall, limit, clock) {
+    match wait::<Brand, W, F, S, H, T, A, C>(
+        rt, alloc, desk, admission, company, hall, limit, clock,
+    ) {
         Ok(()) => {}
         Err(halt) => return Err(Stopped::Halted(halt)),
     }
@@ -155,10 +163,12 @@ fn go_round<
     R: Runner<F>,
     C: Clock,
     T: Terms + Trust,
+    A: Admission,
 >(
     rt: &W,
     alloc: Global,
-    desk: &mut Desk<F, S, T, AdmitAll>,
+    desk: &mut Desk<F, S, T, A>,
+    admission: &mut A,
     company: &mut Company<F, H::Way, T>,
     hall: &mut H,
     limit: u32,
@@ -168,6 +178,7 @@ fn go_round<
 ) -> Result<Turn, Stopped>
     requires some { 0 < length runners.old }
     requires valid { IsValid desk.old.plan }
+    requires stands { A.stands_for admission.old desk.old.plan }
     requires on { IsOn desk.old }
     requires idle { length (running_rules desk.old.plan (records_of desk.old.moves)) ≤ 0 }
     requires of { IsOf T.trust F.gives T.sources S.tells T.kept T.holds T.plan T.options T.run T.due
@@ -178,7 +189,7 @@ fn go_round<
     requires seats { AreSeats desk.old.plan desk.old.options desk.old.moves company.old.seats }
     requires none { gathered company.old.seats ≡ [] }
     ensures rounds { (n : ℕ) → n ≤ H.count hall.old → (company.old.failed ≡ true
-        → n < H.count hall.old) → Rounds T.trust F.gives F.may_fail T.sources S.tells T.kept
+        → n < H.count hall.old) → Rounds A.admitted T.trust F.gives F.may_fail T.sources S.tells T.kept
         (AllSure R.sure runners.old) S.files S.may_leave S.moment S.images_since limit desk.old
         desk.new (sum_by R.count runners.old) (sum_by R.count runners.new)
         (sum_by R.failures runners.old) (sum_by R.failures runners.new)
@@ -207,8 +218,12 @@ fn go_round<
     ensures sound { IfOk result (λ turn. IsLast turn
         → (company.new.failed ≡ false) × (company.new.lost ≡ false)) }
     ensures alone { IfOk result (IsAlone company.new.guests) }
+    ensures stays { (P : PlanValue) → A.stands_for admission.old P
+        → A.stands_for admission.new P }
 {
-    match serve_all(rt, alloc, desk, company, hall, limit, runners, gate, clock) {
+    match serve_all(
+        rt, alloc, desk, admission, company, hall, limit, runners, gate, clock,
+    ) {
         Ok(()) => {}
         Err(halt) => return Err(Stopped::Halted(halt)),
     }
@@ -223,19 +238,19 @@ fn go_round<
         Ok(None) => {}
         Err(why) => return Err(why),
     }
-    wait_round::<W, F, S, H, C, T>(rt, alloc, desk, company, hall, limit, clock)
+    wait_round::<W, F, S, H, C, T, A>(rt, alloc, desk, admission, company, hall, limit, clock)
 }
 
 /// The last end of a run in which waiting was in vain.
-fn end_waiting<F: Commands, S: Site, T: Terms, C: Clock>(
-    desk: &mut Desk<F, S, T, AdmitAll>,
+fn end_waiting<F: Commands, S: Site, T: Terms, A: Admission, C: Clock>(
+    desk: &mut Desk<F, S, T, A>,
     clock: &C,
 ) -> Result<Check, Stopped>
     requires fine { IsFine desk.old.trouble }
     requires unended { has_ended (records_of desk.old.moves) ≡ false }
     requires idle { length (running_rules desk.old.plan (records_of desk.old.moves)) ≤ 0 }
     requires vain { (n : ℕ) × (desk.old.stop ≡ Some (stops.Waited n))
-        × (is_in_vain desk.old.plan desk.old.options desk.old.moves ≡ true) }
+        × (is_in_vain_by A.admitted desk.old.plan desk.old.options desk.old.moves ≡ true) }
     ensures ended { EndsNow T.trust F.gives F.may_fail T.sources S.tells T.kept S.files
         S.may_leave S.moment S.images_since desk.old desk.new (with_check result) }
 {
@@ -256,10 +271,12 @@ pub(crate) fn run_all<
     R: Runner<F>,
     C: Clock,
     T: Terms + Trust,
+    A: Admission,
 >(
     rt: &W,
     alloc: Global,
-    desk: &mut Desk<F, S, T, AdmitAll>,
+    desk: &mut Desk<F, S, T, A>,
+    admission: &mut A,
     company: &mut Company<F, H::Way, T>,
     hall: &mut H,
     limit: u32,
@@ -269,6 +286,7 @@ pub(crate) fn run_all<
 ) -> Result<Check, Stopped>
     requires some { 0 < length runners.old }
     requires valid { IsValid desk.old.plan }
+    requires stands { A.stands_for admission.old desk.old.plan }
     requires on { IsOn desk.old }
     requires idle { length (running_rules desk.old.plan (records_of desk.old.moves)) ≤ 0 }
     requires of { IsOf T.trust F.gives T.sources S.tells T.kept T.holds T.plan T.options T.run T.due
@@ -280,7 +298,7 @@ pub(crate) fn run_all<
     requires none { gathered company.old.seats ≡ [] }
     requires going { company.old.failed ≡ false }
     ensures works { (n : ℕ) → n ≤ H.count hall.old → (company.old.failed ≡ true
-        → n < H.count hall.old) → Works T.trust F.gives F.may_fail T.sources S.tells T.kept
+        → n < H.count hall.old) → Works A.admitted T.trust F.gives F.may_fail T.sources S.tells T.kept
         (AllSure R.sure runners.old) S.files S.may_leave S.moment S.images_since limit desk.old
         desk.new (sum_by R.count runners.old) (sum_by R.count runners.new)
         (sum_by R.failures runners.old) (sum_by R.failures runners.new)
@@ -307,12 +325,16 @@ pub(crate) fn run_all<
     ensures sound { OnOk result
         ((company.new.failed ≡ false) × (company.new.lost ≡ false)) }
     ensures alone { IfOk result (λ check. IfWaited check (company.new.guests ≡ [])) }
+    ensures stays { (P : PlanValue) → A.stands_for admission.old P
+        → A.stands_for admission.new P }
 {
     for _ in rt.forever() {
-        match go_round(rt, alloc, desk, company, hall, limit, runners, gate, clock) {
+        match go_round(
+            rt, alloc, desk, admission, company, hall, limit, runners, gate, clock,
+        ) {
             Ok(Turn::Over(check)) => return Ok(check),
             Ok(Turn::Vain(idles)) => {
-                if desk.stop(Stop::Waited { idles }) {
+                if desk.stop_by(admission, Stop::Waited { idles }) {
                     return end_waiting(desk, clock);
                 }
             }

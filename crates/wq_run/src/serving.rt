@@ -3,6 +3,7 @@ ghost use Rattle.std.specs.Prelude.{◌≡◌, ◌≤◌, ◌<◌, ◌⊎◌, []
 ghost use Rattle.std.specs.Prelude.{false, length, sum_by, true};
 ghost use Rattle.crossbeam_queue.specs.Passes.{view, IsPassOf, IsSamePass};
 ghost use Rattle.flow_types.specs.declared.job.Job.{Job};
+ghost use Rattle.flow_types.specs.declared.plan.Plan.{Plan as PlanValue};
 ghost use Rattle.flow_types.specs.Plans.{IsValid};
 ghost use Rattle.run_history.specs.Links.{records_of};
 ghost use Rattle.run_history.specs.Storage.{running_rules};
@@ -20,7 +21,7 @@ ghost use Rattle.wq_run.specs.Keeping.{KeepsOn};
 ghost use Rattle.wq_run.specs.Calm.{Asked, IsComing, IsSureOf, IsSureCompany, IsUnmet, KeepsCalm};
 ghost use Rattle.wq_run.specs.Seats.{AreSeats, IsServed, KeepsServed, Meets, gathered, inside_of};
 ghost use Rattle.wq_run.specs.Trusted.{IsOf, IsOpen};
-ghost use Rattle.wq_run.specs.Turns.{MayServe, ServedOn};
+ghost use Rattle.wq_run.specs.Turns.{AsOne, MayServe, ServedOn};
 
 use crate::beside::call_with_beside;
 use crate::company::{Company, ask_all, dismiss, round};
@@ -35,15 +36,25 @@ use std::marker::Brand;
 use std::mem::replace;
 use std::sync::Wait;
 use std::thread::Threads;
-use task_core::AdmitAll;
+use task_core::Admission;
 use worker_pool::{Gate, Line, Pool, Terms as PoolTerms, Ticket, Tickets, Token, new_tickets};
 
 /// Starts what claims give, one rule here and one at each worker, if the desk has news since none
 /// did. It answers whether it did anything.
-fn start_more<B: PoolTerms, W: Wait, F: Commands, S: Site, H: Hall<F>, T: Terms + Trust, C: Clock>(
+fn start_more<
+    B: PoolTerms,
+    W: Wait,
+    F: Commands,
+    S: Site,
+    H: Hall<F>,
+    T: Terms + Trust,
+    A: Admission,
+    C: Clock,
+>(
     rt: &W,
     alloc: Global,
-    desk: &mut Desk<F, S, T, AdmitAll>,
+    desk: &mut Desk<F, S, T, A>,
+    admission: &mut A,
     held: &mut Held,
     pool: &mut Pool<B>,
     company: &mut Company<F, H::Way, T>,
@@ -52,6 +63,7 @@ fn start_more<B: PoolTerms, W: Wait, F: Commands, S: Site, H: Hall<F>, T: Terms 
     clock: &C,
 ) -> bool
     requires valid { IsValid desk.old.plan }
+    requires stands { A.stands_for admission.old desk.old.plan }
     requires of { IsOf T.trust F.gives T.sources S.tells T.kept T.holds T.plan T.options T.run T.due
         desk.old.plan desk.old.options (records_of desk.old.moves) }
     requires keen { (k : ℕ) → 0 < k → T.keen k → ⊥ }
@@ -83,12 +95,14 @@ fn start_more<B: PoolTerms, W: Wait, F: Commands, S: Site, H: Hall<F>, T: Terms 
         (H.got hall.new) (H.given hall.old) (H.given hall.new) (H.idle_count hall.old)
         (H.idle_count hall.new) (inside_of company.old) (inside_of company.new)
         company.old.failed company.new.failed company.old.lost company.new.lost }
+    ensures stays { (P : PlanValue) → A.stands_for admission.old P
+        → A.stands_for admission.new P }
 {
     if !company.has_news(desk.moves_made()) {
         return false;
     }
-    let here = go_on(rt, alloc, desk, held, pool, most, clock);
-    let there = ask_all::<B, F, S, H, T, C>(company, alloc, desk, held, hall, clock);
+    let here = go_on(rt, alloc, desk, admission, held, pool, most, clock);
+    let there = ask_all::<B, F, S, H, T, A, C>(company, alloc, desk, admission, held, hall, clock);
     if any(here, there, false) {
         return true;
     }
@@ -99,10 +113,20 @@ fn start_more<B: PoolTerms, W: Wait, F: Commands, S: Site, H: Hall<F>, T: Terms 
 /// Starts one rule here and one at each worker, where that can be, hears one that ended here and one
 /// at each worker, and lets in who has come. It answers whether there was anything to do. Where there
 /// is nothing, nor was in the turn before, it waits for news.
-fn turn<B: PoolTerms, W: Wait, F: Commands, S: Site, H: Hall<F>, T: Terms + Trust, C: Clock>(
+fn turn<
+    B: PoolTerms,
+    W: Wait,
+    F: Commands,
+    S: Site,
+    H: Hall<F>,
+    T: Terms + Trust,
+    A: Admission,
+    C: Clock,
+>(
     rt: &W,
     alloc: Global,
-    desk: &mut Desk<F, S, T, AdmitAll>,
+    desk: &mut Desk<F, S, T, A>,
+    admission: &mut A,
     held: &mut Held,
     pool: &mut Pool<B>,
     company: &mut Company<F, H::Way, T>,
@@ -113,6 +137,7 @@ fn turn<B: PoolTerms, W: Wait, F: Commands, S: Site, H: Hall<F>, T: Terms + Trus
     clock: &C,
 ) -> bool
     requires valid { IsValid desk.old.plan }
+    requires stands { A.stands_for admission.old desk.old.plan }
     requires of { IsOf T.trust F.gives T.sources S.tells T.kept T.holds T.plan T.options T.run T.due
         desk.old.plan desk.old.options (records_of desk.old.moves) }
     requires told { T.trust → TellsJobs T.plan T.options (ToldOf F.gives F.may_fail B.fits) T.due }
@@ -145,13 +170,17 @@ fn turn<B: PoolTerms, W: Wait, F: Commands, S: Site, H: Hall<F>, T: Terms + Trus
         (H.got hall.new) (H.given hall.old) (H.given hall.new) (H.idle_count hall.old)
         (H.idle_count hall.new) (inside_of company.old) (inside_of company.new)
         company.old.failed company.new.failed company.old.lost company.new.lost }
+    ensures stays { (P : PlanValue) → A.stands_for admission.old P
+        → A.stands_for admission.new P }
 {
-    let started = start_more::<B, W, F, S, H, T, C>(
-        rt, alloc, desk, held, pool, company, hall, most, clock,
+    let started = start_more::<B, W, F, S, H, T, A, C>(
+        rt, alloc, desk, admission, held, pool, company, hall, most, clock,
     );
-    let ended = hear(desk, held, pool, clock);
+    let ended = hear(desk, admission, held, pool, clock);
     let is_busy = any(is_busy, started, ended);
-    let told = round::<B, F, S, H, T, C>(company, alloc, desk, held, hall, limit, is_busy, clock);
+    let told = round::<B, F, S, H, T, A, C>(
+        company, alloc, desk, held, hall, limit, is_busy, clock,
+    );
     any(started, ended, told)
 }
 
@@ -162,10 +191,20 @@ fn any(first: bool, second: bool, third: bool) -> bool {
 
 /// Once the run has stopped, lets the workers go and hears what runs here. It answers whether
 /// nothing does.
-fn wind_down<B: PoolTerms, W: Wait, F: Commands, S: Site, H: Hall<F>, T: Terms + Trust, C: Clock>(
+fn wind_down<
+    B: PoolTerms,
+    W: Wait,
+    F: Commands,
+    S: Site,
+    H: Hall<F>,
+    T: Terms + Trust,
+    A: Admission,
+    C: Clock,
+>(
     rt: &W,
     alloc: Global,
-    desk: &mut Desk<F, S, T, AdmitAll>,
+    desk: &mut Desk<F, S, T, A>,
+    admission: &mut A,
     held: &mut Held,
     pool: &mut Pool<B>,
     company: &mut Company<F, H::Way, T>,
@@ -175,6 +214,7 @@ fn wind_down<B: PoolTerms, W: Wait, F: Commands, S: Site, H: Hall<F>, T: Terms +
     clock: &C,
 ) -> bool
     requires valid { IsValid desk.old.plan }
+    requires stands { A.stands_for admission.old desk.old.plan }
     requires of { IsOf T.trust F.gives T.sources S.tells T.kept T.holds T.plan T.options T.run T.due
         desk.old.plan desk.old.options (records_of desk.old.moves) }
     requires told { T.trust → TellsJobs T.plan T.options (ToldOf F.gives F.may_fail B.fits) T.due }
@@ -202,12 +242,14 @@ fn wind_down<B: PoolTerms, W: Wait, F: Commands, S: Site, H: Hall<F>, T: Terms +
         (H.idle_count hall.new) (inside_of company.old) (inside_of company.new)
         company.old.failed company.new.failed company.old.lost company.new.lost }
     ensures over { result ≡ true → pool.new.waiting ≡ [] }
+    ensures stays { (P : PlanValue) → A.stands_for admission.old P
+        → A.stands_for admission.new P }
 {
-    dismiss::<B, F, S, H, T, C>(company, alloc, desk, held, hall, clock);
+    dismiss::<B, F, S, H, T, A, C>(company, alloc, desk, held, hall, clock);
     if pool.out() == 0 {
         return true;
     }
-    if !hear(desk, held, pool, clock) {
+    if !hear(desk, admission, held, pool, clock) {
         pool.rest(rt, seen);
     }
     false
@@ -216,10 +258,20 @@ fn wind_down<B: PoolTerms, W: Wait, F: Commands, S: Site, H: Hall<F>, T: Terms +
 /// Starts rules here and at workers, and hears how they ended, until nothing runs and a claim gives
 /// no rule. Once the run stopped nothing more is started, what runs at workers is given up, and
 /// what runs here is heard out.
-fn serve<B: PoolTerms, W: Wait, F: Commands, S: Site, H: Hall<F>, T: Terms + Trust, C: Clock>(
+fn serve<
+    B: PoolTerms,
+    W: Wait,
+    F: Commands,
+    S: Site,
+    H: Hall<F>,
+    T: Terms + Trust,
+    A: Admission,
+    C: Clock,
+>(
     rt: &W,
     alloc: Global,
-    desk: &mut Desk<F, S, T, AdmitAll>,
+    desk: &mut Desk<F, S, T, A>,
+    admission: &mut A,
     held: &mut Held,
     pool: &mut Pool<B>,
     company: &mut Company<F, H::Way, T>,
@@ -229,6 +281,7 @@ fn serve<B: PoolTerms, W: Wait, F: Commands, S: Site, H: Hall<F>, T: Terms + Tru
     clock: &C,
 )
     requires valid { IsValid desk.old.plan }
+    requires stands { A.stands_for admission.old desk.old.plan }
     requires of { IsOf T.trust F.gives T.sources S.tells T.kept T.holds T.plan T.options T.run T.due
         desk.old.plan desk.old.options (records_of desk.old.moves) }
     requires told { T.trust → TellsJobs T.plan T.options (ToldOf F.gives F.may_fail B.fits) T.due }
@@ -262,6 +315,8 @@ fn serve<B: PoolTerms, W: Wait, F: Commands, S: Site, H: Hall<F>, T: Terms + Tru
         (H.idle_count hall.new) (inside_of company.old) (inside_of company.new)
         company.old.failed company.new.failed company.old.lost company.new.lost }
     ensures heard { (IsWantHalt held.new.halt → ⊥) → pool.new.waiting ≡ [] }
+    ensures stays { (P : PlanValue) → A.stands_for admission.old P
+        → A.stands_for admission.new P }
 {
     let mut is_busy = true;
     for _ in rt.forever() {
@@ -270,15 +325,15 @@ fn serve<B: PoolTerms, W: Wait, F: Commands, S: Site, H: Hall<F>, T: Terms + Tru
             return;
         };
         if !held.is_going() || !company.is_going() {
-            if wind_down::<B, W, F, S, H, T, C>(
-                rt, alloc, desk, held, pool, company, hall, most, seen, clock,
+            if wind_down::<B, W, F, S, H, T, A, C>(
+                rt, alloc, desk, admission, held, pool, company, hall, most, seen, clock,
             ) {
                 return;
             }
             continue;
         }
-        is_busy = turn::<B, W, F, S, H, T, C>(
-            rt, alloc, desk, held, pool, company, hall, most, limit, is_busy, clock,
+        is_busy = turn::<B, W, F, S, H, T, A, C>(
+            rt, alloc, desk, admission, held, pool, company, hall, most, limit, is_busy, clock,
         );
         if !is_busy && pool.out() == 0 && company.is_idle() {
             return;
@@ -295,11 +350,13 @@ fn serve_and_close<
     S: Site,
     H: Hall<F>,
     T: Terms + Trust,
+    A: Admission,
     C: Clock,
 >(
     rt: &W,
     alloc: Global,
-    desk: &mut Desk<F, S, T, AdmitAll>,
+    desk: &mut Desk<F, S, T, A>,
+    admission: &mut A,
     held: &mut Held,
     pool: &mut Pool<B>,
     mut company: Company<F, H::Way, T>,
@@ -308,10 +365,12 @@ fn serve_and_close<
     limit: u32,
     clock: &C,
 ) -> Company<F, H::Way, T>
-    requires may { MayServe T.trust F.gives F.may_fail T.sources S.tells T.kept S.files S.may_leave
-        S.moment S.images_since B.fits T.keen T.holds T.plan T.options T.run T.due (H.listens hall.old)
-        (H.honest hall.old) most desk.old held.old pool.old company.seats }
-    ensures served { ServedOn T.trust F.gives F.may_fail T.sources S.tells T.kept S.files
+    requires may { AsOne (MayServe (A.stands_for admission.old desk.old.plan) T.trust F.gives
+        F.may_fail T.sources S.tells T.kept S.files S.may_leave S.moment S.images_since B.fits T.keen
+        T.holds T.plan T.options T.run T.due (H.listens hall.old) (H.honest hall.old) most desk.old
+        held.old pool.old company.seats) }
+    ensures served { ServedOn ((P : PlanValue) → A.stands_for admission.old P
+        → A.stands_for admission.new P) T.trust F.gives F.may_fail T.sources S.tells T.kept S.files
         S.may_leave S.moment S.images_since B.fits (IsIllLink F.gives F.may_fail H.Way.history
         H.Way.count H.Way.idle_count H.Way.is_closed limit) H.Way.tells H.Way.history (λ
         (asked : Option Asked). IsSureCompany F.gives F.may_fail H.Way.history H.Way.idle_count
@@ -325,10 +384,11 @@ fn serve_and_close<
         (H.idle_count hall.old) (H.idle_count hall.new) desk.old desk.new held.old held.new pool.old
         pool.new company result }
 {
-    serve::<B, W, F, S, H, T, C>(
+    serve::<B, W, F, S, H, T, A, C>(
         rt,
         alloc,
         desk,
+        admission,
         held,
         pool,
         &mut company,
@@ -355,13 +415,15 @@ fn serve_beside<
     R: Runner<F>,
     C: Clock,
     T: Terms + Trust,
+    A: Admission,
 >(
     rt: &W,
     waits: &V,
     alloc: Global,
     line: &Line<N>,
     token: &mut Token,
-    desk: &mut Desk<F, S, T, AdmitAll>,
+    desk: &mut Desk<F, S, T, A>,
+    admission: &mut A,
     held: &mut Held,
     pool: &mut Pool<B>,
     company: &mut Company<F, H::Way, T>,
@@ -376,6 +438,7 @@ fn serve_beside<
         × (length runners.old ≤ (view token.old).parts) }
     requires runners { Crew (MayReport F.gives F.may_fail R.tells R.sure N.fits) runners.old }
     requires valid { IsValid desk.old.plan }
+    requires stands { A.stands_for admission.old desk.old.plan }
     requires of { IsOf T.trust F.gives T.sources S.tells T.kept T.holds T.plan T.options T.run T.due
         desk.old.plan desk.old.options (records_of desk.old.moves) }
     requires told { T.trust → TellsJobs T.plan T.options (ToldOf F.gives F.may_fail B.fits) T.due }
@@ -416,10 +479,12 @@ fn serve_beside<
         (H.idle_count hall.new) (inside_of company.old) (inside_of company.new)
         company.old.failed company.new.failed company.old.lost company.new.lost }
     ensures heard { (IsWantHalt held.new.halt → ⊥) → pool.new.waiting ≡ [] }
+    ensures stays { (P : PlanValue) → A.stands_for admission.old P
+        → A.stands_for admission.new P }
 {
     let most = runners.len().min(64);
     let taken = replace(company, Company::new(alloc));
-    let back = call_with_beside::<N, W, G, F, R, Desk<F, S, T, AdmitAll>, Company<F, H::Way, T>, _>(
+    let back = call_with_beside::<N, W, G, F, R, Desk<F, S, T, A>, Company<F, H::Way, T>, _>(
         rt,
         line,
         token,
@@ -427,14 +492,16 @@ fn serve_beside<
         gate,
         desk,
         taken,
-        &mut |company: Company<F, H::Way, T>, desk: &mut Desk<F, S, T, AdmitAll>|
-            requires may { MayServe T.trust F.gives F.may_fail T.sources S.tells T.kept S.files
-                S.may_leave S.moment S.images_since B.fits T.keen T.holds T.plan T.options T.run T.due
+        &mut |company: Company<F, H::Way, T>, desk: &mut Desk<F, S, T, A>|
+            requires may { AsOne (MayServe (A.stands_for admission.now desk.old.plan) T.trust
+                F.gives F.may_fail T.sources S.tells T.kept S.files S.may_leave S.moment
+                S.images_since B.fits T.keen T.holds T.plan T.options T.run T.due
                 (H.listens hall.now) (H.honest hall.now) most desk.old held.now pool.now
-                company.seats }
-            ensures served { ServedOn T.trust F.gives F.may_fail T.sources S.tells T.kept S.files
-                S.may_leave S.moment S.images_since B.fits (IsIllLink F.gives F.may_fail
-                H.Way.history H.Way.count H.Way.idle_count H.Way.is_closed limit) H.Way.tells
+                company.seats) }
+            ensures served { ServedOn ((P : PlanValue) → A.stands_for admission.entry.now P
+                → A.stands_for admission.exit.now P) T.trust F.gives F.may_fail T.sources S.tells
+                T.kept S.files S.may_leave S.moment S.images_since B.fits (IsIllLink F.gives
+                F.may_fail H.Way.history H.Way.count H.Way.idle_count H.Way.is_closed limit) H.Way.tells
                 H.Way.history (λ (asked : Option Asked). IsSureCompany F.gives F.may_fail
                 H.Way.history H.Way.idle_count (IsSureOf H.Way.sure H.Way.offers asked)
                 (IsComing H.sure H.staffed asked hall.entry.now)
@@ -449,8 +516,8 @@ fn serve_beside<
                 (H.idle_count hall.exit.now) desk.old desk.new held.entry.now held.exit.now
                 pool.entry.now pool.exit.now company result }
         {
-            serve_and_close::<B, V, F, S, H, T, C>(
-                waits, alloc, desk, held, pool, company, hall, most, limit, clock,
+            serve_and_close::<B, V, F, S, H, T, A, C>(
+                waits, alloc, desk, admission, held, pool, company, hall, most, limit, clock,
             )
         },
     );
@@ -468,12 +535,14 @@ fn serve_in<
     R: Runner<F>,
     C: Clock,
     T: Terms + Trust,
+    A: Admission,
 >(
     rt: &W,
     alloc: Global,
     tickets: Tickets,
     pass: Ticket,
-    desk: &mut Desk<F, S, T, AdmitAll>,
+    desk: &mut Desk<F, S, T, A>,
+    admission: &mut A,
     company: &mut Company<F, H::Way, T>,
     hall: &mut H,
     limit: u32,
@@ -485,6 +554,7 @@ fn serve_in<
     requires some { 0 < length runners.old }
     requires runners { Crew (MayReport F.gives F.may_fail R.tells R.sure B.fits) runners.old }
     requires valid { IsValid desk.old.plan }
+    requires stands { A.stands_for admission.old desk.old.plan }
     requires fine { IsFine desk.old.trouble }
     requires idle { length (running_rules desk.old.plan (records_of desk.old.moves)) ≤ 0 }
     requires of { IsOf T.trust F.gives T.sources S.tells T.kept T.holds T.plan T.options T.run T.due
@@ -520,18 +590,20 @@ fn serve_in<
         (H.got hall.new) (H.given hall.old) (H.given hall.new) (H.idle_count hall.old)
         (H.idle_count hall.new) (inside_of company.old) (inside_of company.new)
         company.old.failed company.new.failed company.old.lost company.new.lost }
+    ensures stays { (P : PlanValue) → A.stands_for admission.old P
+        → A.stands_for admission.new P }
 {
     let Ok((line, token)) = Line::<B>::new(alloc) else {
         return Err(Halt::Memory);
     };
     let (mut pool, mut other) = Pool::new(&line, tickets, pass, token);
     let mut held = Held::new(alloc);
-    serve_beside::<B, B, W, W, G, F, S, H, R, C, T>(
-        rt, rt, alloc, &line, &mut other, desk, &mut held, &mut pool, company, hall, limit,
-        runners, gate, clock,
+    serve_beside::<B, B, W, W, G, F, S, H, R, C, T, A>(
+        rt, rt, alloc, &line, &mut other, desk, admission, &mut held, &mut pool, company, hall,
+        limit, runners, gate, clock,
     );
     pool.end(rt, other);
-    finish::<B, F, S, H, T, C>(alloc, desk, held, company, hall, clock)
+    finish::<B, F, S, H, T, A, C>(alloc, desk, admission, held, company, hall, clock)
 }
 
 /// Runs rules by all runners and workers, and drops files, until nothing runs, a claim gives no rule
@@ -545,10 +617,12 @@ pub(crate) fn serve_all<
     R: Runner<F>,
     C: Clock,
     T: Terms + Trust,
+    A: Admission,
 >(
     rt: &W,
     alloc: Global,
-    desk: &mut Desk<F, S, T, AdmitAll>,
+    desk: &mut Desk<F, S, T, A>,
+    admission: &mut A,
     company: &mut Company<F, H::Way, T>,
     hall: &mut H,
     limit: u32,
@@ -558,6 +632,7 @@ pub(crate) fn serve_all<
 ) -> Result<(), Halt>
     requires some { 0 < length runners.old }
     requires valid { IsValid desk.old.plan }
+    requires stands { A.stands_for admission.old desk.old.plan }
     requires fine { IsFine desk.old.trouble }
     requires idle { length (running_rules desk.old.plan (records_of desk.old.moves)) ≤ 0 }
     requires of { IsOf T.trust F.gives T.sources S.tells T.kept T.holds T.plan T.options T.run T.due
@@ -592,11 +667,13 @@ pub(crate) fn serve_all<
         (H.got hall.new) (H.given hall.old) (H.given hall.new) (H.idle_count hall.old)
         (H.idle_count hall.new) (inside_of company.old) (inside_of company.new)
         company.old.failed company.new.failed company.old.lost company.new.lost }
+    ensures stays { (P : PlanValue) → A.stands_for admission.old P
+        → A.stands_for admission.new P }
 {
     let Ok((tickets, pass)) = new_tickets(alloc) else {
         return Err(Halt::Memory);
     };
-    serve_in::<Brand, W, G, F, S, H, R, C, T>(
-        rt, alloc, tickets, pass, desk, company, hall, limit, runners, gate, clock,
+    serve_in::<Brand, W, G, F, S, H, R, C, T, A>(
+        rt, alloc, tickets, pass, desk, admission, company, hall, limit, runners, gate, clock,
     )
 }

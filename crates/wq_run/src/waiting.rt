@@ -1,5 +1,6 @@
 //! Waiting for workers, while nothing runs.
 ghost use Rattle.std.specs.Prelude.{◌≡◌, ◌≤◌, ◌<◌, [], ℕ, None, Option, length};
+ghost use Rattle.flow_types.specs.declared.plan.Plan.{Plan as PlanValue};
 ghost use Rattle.flow_types.specs.Plans.{IsValid};
 ghost use Rattle.run_history.specs.Links.{records_of};
 ghost use Rattle.run_history.specs.Storage.{running_rules};
@@ -21,15 +22,24 @@ use local_run::{Halt, Held};
 use outside::{Clock, Commands, Site};
 use std::alloc::Global;
 use std::sync::Wait;
-use task_core::AdmitAll;
+use task_core::Admission;
 use worker_pool::Terms as PoolTerms;
 
 /// Looks for workers until one joins, states other amounts or may be asked again, or nobody came so
 /// often.
-fn look<B: PoolTerms, W: Wait, F: Commands, S: Site, H: Hall<F>, T: Terms + Trust, C: Clock>(
+fn look<
+    B: PoolTerms,
+    W: Wait,
+    F: Commands,
+    S: Site,
+    H: Hall<F>,
+    T: Terms + Trust,
+    A: Admission,
+    C: Clock,
+>(
     rt: &W,
     alloc: Global,
-    desk: &mut Desk<F, S, T, AdmitAll>,
+    desk: &mut Desk<F, S, T, A>,
     held: &mut Held,
     company: &mut Company<F, H::Way, T>,
     hall: &mut H,
@@ -68,7 +78,7 @@ fn look<B: PoolTerms, W: Wait, F: Commands, S: Site, H: Hall<F>, T: Terms + Trus
     let moves = desk.moves_made();
     let mut is_busy = true;
     for _ in rt.forever() {
-        is_busy = round::<B, F, S, H, T, C>(
+        is_busy = round::<B, F, S, H, T, A, C>(
             company, alloc, desk, held, hall, limit, is_busy, clock,
         );
         if !held.is_going() || !company.is_going() {
@@ -92,17 +102,20 @@ pub(crate) fn wait<
     S: Site,
     H: Hall<F>,
     T: Terms + Trust,
+    A: Admission,
     C: Clock,
 >(
     rt: &W,
     alloc: Global,
-    desk: &mut Desk<F, S, T, AdmitAll>,
+    desk: &mut Desk<F, S, T, A>,
+    admission: &mut A,
     company: &mut Company<F, H::Way, T>,
     hall: &mut H,
     limit: u32,
     clock: &C,
 ) -> Result<(), Halt>
     requires valid { IsValid desk.old.plan }
+    requires stands { A.stands_for admission.old desk.old.plan }
     requires fine { IsFine desk.old.trouble }
     requires idle { length (running_rules desk.old.plan (records_of desk.old.moves)) ≤ 0 }
     requires of { IsOf T.trust F.gives T.sources S.tells T.kept T.holds T.plan T.options T.run T.due
@@ -132,8 +145,10 @@ pub(crate) fn wait<
         (H.got hall.new) (H.given hall.old) (H.given hall.new) (H.idle_count hall.old)
         (H.idle_count hall.new) (inside_of company.old) (inside_of company.new)
         company.old.failed company.new.failed company.old.lost company.new.lost }
+    ensures stays { (P : PlanValue) → A.stands_for admission.old P
+        → A.stands_for admission.new P }
 {
     let mut held = Held::new(alloc);
-    look::<B, W, F, S, H, T, C>(rt, alloc, desk, &mut held, company, hall, limit, clock);
-    finish::<B, F, S, H, T, C>(alloc, desk, held, company, hall, clock)
+    look::<B, W, F, S, H, T, A, C>(rt, alloc, desk, &mut held, company, hall, limit, clock);
+    finish::<B, F, S, H, T, A, C>(alloc, desk, admission, held, company, hall, clock)
 }

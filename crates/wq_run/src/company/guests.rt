@@ -27,7 +27,7 @@ use local_run::join;
 use outside::{Commands, Site};
 use peers::{Leave, Listened, Peer, Told, sure_links_are_orderly, tasks_come_behind_their_inputs};
 use std::alloc::Global;
-use task_core::AdmitAll;
+use task_core::Admission;
 use worker_pool::Terms as PoolTerms;
 
 /// How often a peer may be idle before its hello has come.
@@ -235,10 +235,10 @@ fn take_seat<F: Commands, H: Hall<F>, T: Trust>(
 
 /// A guest joins with what it offers. Where the desk refuses it its link is handed back, and where
 /// that is for want of memory the run can't go on.
-fn seat_guest<B: PoolTerms, F: Commands, S: Site, H: Hall<F>, T: Terms + Trust>(
+fn seat_guest<B: PoolTerms, F: Commands, S: Site, H: Hall<F>, T: Terms + Trust, A: Admission>(
     company: &mut Company<F, H::Way, T>,
     alloc: Global,
-    desk: &mut Desk<F, S, T, AdmitAll>,
+    desk: &mut Desk<F, S, T, A>,
     hall: &mut H,
     peer: Peer<F, H::Way>,
     offer: Offer,
@@ -271,7 +271,7 @@ fn seat_guest<B: PoolTerms, F: Commands, S: Site, H: Hall<F>, T: Terms + Trust>(
         (inside_of company.new)
         company.old.failed company.new.failed company.old.lost company.new.lost }
 {
-    match join::<B, F, S, T>(desk, offer.total, offer.largest, offer.cache) {
+    match join::<B, F, S, T, A>(desk, offer.total, offer.largest, offer.cache) {
         Ok(link) => {
             take_seat::<F, H, T>(company, alloc, hall, Seat::new(alloc, peer, link, offer));
         }
@@ -284,10 +284,10 @@ fn seat_guest<B: PoolTerms, F: Commands, S: Site, H: Hall<F>, T: Terms + Trust>(
 
 /// Hears the guest that has waited longest, if there is one, and answers whether it is one no
 /// longer.
-fn greet_next<B: PoolTerms, F: Commands, S: Site, H: Hall<F>, T: Terms + Trust>(
+fn greet_next<B: PoolTerms, F: Commands, S: Site, H: Hall<F>, T: Terms + Trust, A: Admission>(
     company: &mut Company<F, H::Way, T>,
     alloc: Global,
-    desk: &mut Desk<F, S, T, AdmitAll>,
+    desk: &mut Desk<F, S, T, A>,
     hall: &mut H,
     is_turn: bool,
 ) -> bool
@@ -323,7 +323,7 @@ fn greet_next<B: PoolTerms, F: Commands, S: Site, H: Hall<F>, T: Terms + Trust>(
             false
         }
         Ok(Some(offer)) => {
-            seat_guest::<B, F, S, H, T>(company, alloc, desk, hall, peer, offer);
+            seat_guest::<B, F, S, H, T, A>(company, alloc, desk, hall, peer, offer);
             true
         }
         Err(leave) => {
@@ -335,10 +335,17 @@ fn greet_next<B: PoolTerms, F: Commands, S: Site, H: Hall<F>, T: Terms + Trust>(
 }
 
 /// Hears each guest, and answers whether any is one no longer.
-pub(super) fn greet_all<B: PoolTerms, F: Commands, S: Site, H: Hall<F>, T: Terms + Trust>(
+pub(super) fn greet_all<
+    B: PoolTerms,
+    F: Commands,
+    S: Site,
+    H: Hall<F>,
+    T: Terms + Trust,
+    A: Admission,
+>(
     company: &mut Company<F, H::Way, T>,
     alloc: Global,
-    desk: &mut Desk<F, S, T, AdmitAll>,
+    desk: &mut Desk<F, S, T, A>,
     hall: &mut H,
     is_turn: bool,
 ) -> bool
@@ -366,7 +373,7 @@ pub(super) fn greet_all<B: PoolTerms, F: Commands, S: Site, H: Hall<F>, T: Terms
 {
     let mut did = false;
     for _ in 0..company.guests.len() {
-        if greet_next::<B, F, S, H, T>(company, alloc, desk, hall, is_turn) {
+        if greet_next::<B, F, S, H, T, A>(company, alloc, desk, hall, is_turn) {
             did = true;
         }
     }

@@ -21,14 +21,22 @@ use links::Hall;
 use local_run::{Held, leave};
 use outside::{Clock, Commands, Site};
 use std::alloc::Global;
-use task_core::AdmitAll;
+use task_core::Admission;
 use worker_pool::Terms as PoolTerms;
 
 /// Leaves a seat that was taken out: what runs there is given up, and the link is handed back.
-pub(super) fn part<B: PoolTerms, F: Commands, S: Site, H: Hall<F>, T: Terms + Trust, C: Clock>(
+pub(super) fn part<
+    B: PoolTerms,
+    F: Commands,
+    S: Site,
+    H: Hall<F>,
+    T: Terms + Trust,
+    A: Admission,
+    C: Clock,
+>(
     company: &mut Company<F, H::Way, T>,
     alloc: Global,
-    desk: &mut Desk<F, S, T, AdmitAll>,
+    desk: &mut Desk<F, S, T, A>,
     held: &mut Held,
     hall: &mut H,
     seat: Seat<F, H::Way, T>,
@@ -70,20 +78,28 @@ pub(super) fn part<B: PoolTerms, F: Commands, S: Site, H: Hall<F>, T: Terms + Tr
         company.old.failed company.new.failed company.old.lost company.new.lost }
 {
     let mut seat = seat;
-    seat.abandon::<B, S, C>(desk, held, clock);
+    seat.abandon::<B, S, A, C>(desk, held, clock);
     let link = seat.link();
     if desk.works() {
-        leave::<B, F, S, T>(desk, link);
+        leave::<B, F, S, T, A>(desk, link);
     }
     let way = seat.into_peer().into_way();
     hand_back::<F, H, T>(company, alloc, hall, Some(link), way);
 }
 
 /// Leaves the seat at this place, if there is one.
-pub(super) fn part_at<B: PoolTerms, F: Commands, S: Site, H: Hall<F>, T: Terms + Trust, C: Clock>(
+pub(super) fn part_at<
+    B: PoolTerms,
+    F: Commands,
+    S: Site,
+    H: Hall<F>,
+    T: Terms + Trust,
+    A: Admission,
+    C: Clock,
+>(
     company: &mut Company<F, H::Way, T>,
     alloc: Global,
-    desk: &mut Desk<F, S, T, AdmitAll>,
+    desk: &mut Desk<F, S, T, A>,
     held: &mut Held,
     hall: &mut H,
     at: usize,
@@ -119,5 +135,5 @@ pub(super) fn part_at<B: PoolTerms, F: Commands, S: Site, H: Hall<F>, T: Terms +
         company.old.failed company.new.failed company.old.lost company.new.lost }
 {
     let seat = company.seats.remove(at);
-    part::<B, F, S, H, T, C>(company, alloc, desk, held, hall, seat, clock);
+    part::<B, F, S, H, T, A, C>(company, alloc, desk, held, hall, seat, clock);
 }

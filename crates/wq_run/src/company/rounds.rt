@@ -23,7 +23,7 @@ use links::Hall;
 use local_run::Held;
 use outside::{Clock, Commands, Site};
 use std::alloc::Global;
-use task_core::AdmitAll;
+use task_core::Admission;
 use worker_pool::Terms as PoolTerms;
 
 // Whether one of these did something.
@@ -33,10 +33,18 @@ fn any(told: bool, joined: bool, came: bool) -> bool {
 
 /// Hears what workers and guests tell, of each one piece at most, and lets in who has come, one at
 /// most. It answers whether there was anything. Unless there is something to do it waits first.
-pub(crate) fn round<B: PoolTerms, F: Commands, S: Site, H: Hall<F>, T: Terms + Trust, C: Clock>(
+pub(crate) fn round<
+    B: PoolTerms,
+    F: Commands,
+    S: Site,
+    H: Hall<F>,
+    T: Terms + Trust,
+    A: Admission,
+    C: Clock,
+>(
     company: &mut Company<F, H::Way, T>,
     alloc: Global,
-    desk: &mut Desk<F, S, T, AdmitAll>,
+    desk: &mut Desk<F, S, T, A>,
     held: &mut Held,
     hall: &mut H,
     limit: u32,
@@ -72,19 +80,27 @@ pub(crate) fn round<B: PoolTerms, F: Commands, S: Site, H: Hall<F>, T: Terms + T
         company.old.failed company.new.failed company.old.lost company.new.lost }
 {
     let is_turn = has_turn::<F, H, T>(company, hall, is_busy);
-    let told = visit_all::<B, F, S, H, T, C>(
+    let told = visit_all::<B, F, S, H, T, A, C>(
         company, alloc, desk, held, hall, is_turn, limit, clock,
     );
-    let joined = greet_all::<B, F, S, H, T>(company, alloc, desk, hall, is_turn);
+    let joined = greet_all::<B, F, S, H, T, A>(company, alloc, desk, hall, is_turn);
     let came = meet::<F, H, T>(company, alloc, hall, is_turn);
     any(told, joined, came)
 }
 
 /// Leaves the last seat, if there is one, and answers whether there was.
-fn dismiss_last<B: PoolTerms, F: Commands, S: Site, H: Hall<F>, T: Terms + Trust, C: Clock>(
+fn dismiss_last<
+    B: PoolTerms,
+    F: Commands,
+    S: Site,
+    H: Hall<F>,
+    T: Terms + Trust,
+    A: Admission,
+    C: Clock,
+>(
     company: &mut Company<F, H::Way, T>,
     alloc: Global,
-    desk: &mut Desk<F, S, T, AdmitAll>,
+    desk: &mut Desk<F, S, T, A>,
     held: &mut Held,
     hall: &mut H,
     clock: &C,
@@ -115,7 +131,7 @@ fn dismiss_last<B: PoolTerms, F: Commands, S: Site, H: Hall<F>, T: Terms + Trust
     match company.seats.pop() {
         Some(mut seat) => {
             seat.farewell(alloc);
-            part::<B, F, S, H, T, C>(company, alloc, desk, held, hall, seat, clock);
+            part::<B, F, S, H, T, A, C>(company, alloc, desk, held, hall, seat, clock);
             true
         }
         None => false,
@@ -123,10 +139,18 @@ fn dismiss_last<B: PoolTerms, F: Commands, S: Site, H: Hall<F>, T: Terms + Trust
 }
 
 /// Lets all workers and guests go. What runs at a worker is cancelled and given up.
-pub(crate) fn dismiss<B: PoolTerms, F: Commands, S: Site, H: Hall<F>, T: Terms + Trust, C: Clock>(
+pub(crate) fn dismiss<
+    B: PoolTerms,
+    F: Commands,
+    S: Site,
+    H: Hall<F>,
+    T: Terms + Trust,
+    A: Admission,
+    C: Clock,
+>(
     company: &mut Company<F, H::Way, T>,
     alloc: Global,
-    desk: &mut Desk<F, S, T, AdmitAll>,
+    desk: &mut Desk<F, S, T, A>,
     held: &mut Held,
     hall: &mut H,
     clock: &C,
@@ -153,7 +177,7 @@ pub(crate) fn dismiss<B: PoolTerms, F: Commands, S: Site, H: Hall<F>, T: Terms +
         (H.idle_count hall.new) (inside_of company.old) (inside_of company.new)
         company.old.failed company.new.failed company.old.lost company.new.lost }
 {
-    while dismiss_last::<B, F, S, H, T, C>(company, alloc, desk, held, hall, clock) {}
+    while dismiss_last::<B, F, S, H, T, A, C>(company, alloc, desk, held, hall, clock) {}
     while let Some(peer) = company.guests.pop() {
         hand_back::<F, H, T>(company, alloc, hall, None, peer.into_way());
     }

@@ -1,6 +1,7 @@
 //! What is heard of the workers, and what they are asked.
 ghost use Rattle.std.specs.Prelude.{◌≡◌, ◌<◌, ℕ, Option, length};
 ghost use Rattle.std.specs.List.{AllByRecursion};
+ghost use Rattle.flow_types.specs.declared.plan.Plan.{Plan as PlanValue};
 ghost use Rattle.flow_types.specs.Plans.{IsValid};
 ghost use Rattle.run_history.specs.Links.{records_of};
 ghost use Rattle.local_run.specs.Underway.{IsSurePool};
@@ -20,14 +21,22 @@ use local_run::Held;
 use outside::{Clock, Commands, Site};
 use peers::Leave;
 use std::alloc::Global;
-use task_core::AdmitAll;
+use task_core::Admission;
 use worker_pool::Terms as PoolTerms;
 
 /// Hears what the worker at this place tells, and answers whether it told anything.
-fn hear_at<B: PoolTerms, F: Commands, S: Site, H: Hall<F>, T: Terms + Trust, C: Clock>(
+fn hear_at<
+    B: PoolTerms,
+    F: Commands,
+    S: Site,
+    H: Hall<F>,
+    T: Terms + Trust,
+    A: Admission,
+    C: Clock,
+>(
     company: &mut Company<F, H::Way, T>,
     alloc: Global,
-    desk: &mut Desk<F, S, T, AdmitAll>,
+    desk: &mut Desk<F, S, T, A>,
     held: &mut Held,
     at: usize,
     is_turn: bool,
@@ -63,20 +72,30 @@ fn hear_at<B: PoolTerms, F: Commands, S: Site, H: Hall<F>, T: Terms + Trust, C: 
     let Some(seat) = company.seats.get_mut(at) else {
         return Ok(false);
     };
-    seat.serve::<B, S, C>(alloc, desk, held, is_turn, limit, clock)
+    seat.serve::<B, S, A, C>(alloc, desk, held, is_turn, limit, clock)
 }
 
 /// Starts a rule at the worker at this place, if it may be asked and a claim gives one, and answers
 /// whether it did anything.
-fn claim_at<B: PoolTerms, F: Commands, S: Site, H: Hall<F>, T: Terms + Trust, C: Clock>(
+fn claim_at<
+    B: PoolTerms,
+    F: Commands,
+    S: Site,
+    H: Hall<F>,
+    T: Terms + Trust,
+    A: Admission,
+    C: Clock,
+>(
     company: &mut Company<F, H::Way, T>,
     alloc: Global,
-    desk: &mut Desk<F, S, T, AdmitAll>,
+    desk: &mut Desk<F, S, T, A>,
+    admission: &mut A,
     held: &mut Held,
     at: usize,
     clock: &C,
 ) -> Result<bool, Leave>
     requires valid { IsValid desk.old.plan }
+    requires stands { A.stands_for admission.old desk.old.plan }
     requires of { IsOf T.trust F.gives T.sources S.tells T.kept T.holds T.plan T.options T.run T.due
         desk.old.plan desk.old.options (records_of desk.old.moves) }
     requires keen { (k : ℕ) → 0 < k → T.keen k → ⊥ }
@@ -101,6 +120,8 @@ fn claim_at<B: PoolTerms, F: Commands, S: Site, H: Hall<F>, T: Terms + Trust, C:
     ensures guests { company.new.guests ≡ company.old.guests }
     ensures failed { company.new.failed ≡ company.old.failed }
     ensures lost { company.new.lost ≡ company.old.lost }
+    ensures stays { (P : PlanValue) → A.stands_for admission.old P
+        → A.stands_for admission.new P }
 {
     if company.is_barred_at(at) {
         return Ok(false);
@@ -111,14 +132,14 @@ fn claim_at<B: PoolTerms, F: Commands, S: Site, H: Hall<F>, T: Terms + Trust, C:
     let Some(seat) = company.seats.get_mut(at) else {
         return Ok(false);
     };
-    seat.claim::<B, S, C>(alloc, desk, held, clock)
+    seat.claim::<B, S, A, C>(alloc, desk, admission, held, clock)
 }
 
 /// As `hear_at`; a link that is to be left is left.
-fn visit<B: PoolTerms, F: Commands, S: Site, H: Hall<F>, T: Terms + Trust, C: Clock>(
+fn visit<B: PoolTerms, F: Commands, S: Site, H: Hall<F>, T: Terms + Trust, A: Admission, C: Clock>(
     company: &mut Company<F, H::Way, T>,
     alloc: Global,
-    desk: &mut Desk<F, S, T, AdmitAll>,
+    desk: &mut Desk<F, S, T, A>,
     held: &mut Held,
     hall: &mut H,
     at: usize,
@@ -154,27 +175,29 @@ fn visit<B: PoolTerms, F: Commands, S: Site, H: Hall<F>, T: Terms + Trust, C: Cl
         (H.idle_count hall.new) (inside_of company.old) (inside_of company.new)
         company.old.failed company.new.failed company.old.lost company.new.lost }
 {
-    match hear_at::<B, F, S, H, T, C>(company, alloc, desk, held, at, is_turn, limit, clock) {
+    match hear_at::<B, F, S, H, T, A, C>(company, alloc, desk, held, at, is_turn, limit, clock) {
         Ok(did) => did,
         Err(leave) => {
             company.leaves(leave);
-            part_at::<B, F, S, H, T, C>(company, alloc, desk, held, hall, at, clock);
+            part_at::<B, F, S, H, T, A, C>(company, alloc, desk, held, hall, at, clock);
             true
         }
     }
 }
 
 /// As `claim_at`; a link that is to be left is left.
-fn ask<B: PoolTerms, F: Commands, S: Site, H: Hall<F>, T: Terms + Trust, C: Clock>(
+fn ask<B: PoolTerms, F: Commands, S: Site, H: Hall<F>, T: Terms + Trust, A: Admission, C: Clock>(
     company: &mut Company<F, H::Way, T>,
     alloc: Global,
-    desk: &mut Desk<F, S, T, AdmitAll>,
+    desk: &mut Desk<F, S, T, A>,
+    admission: &mut A,
     held: &mut Held,
     hall: &mut H,
     at: usize,
     clock: &C,
 ) -> bool
     requires valid { IsValid desk.old.plan }
+    requires stands { A.stands_for admission.old desk.old.plan }
     requires of { IsOf T.trust F.gives T.sources S.tells T.kept T.holds T.plan T.options T.run T.due
         desk.old.plan desk.old.options (records_of desk.old.moves) }
     requires keen { (k : ℕ) → 0 < k → T.keen k → ⊥ }
@@ -201,22 +224,32 @@ fn ask<B: PoolTerms, F: Commands, S: Site, H: Hall<F>, T: Terms + Trust, C: Cloc
         (H.got hall.new) (H.given hall.old) (H.given hall.new) (H.idle_count hall.old)
         (H.idle_count hall.new) (inside_of company.old) (inside_of company.new)
         company.old.failed company.new.failed company.old.lost company.new.lost }
+    ensures stays { (P : PlanValue) → A.stands_for admission.old P
+        → A.stands_for admission.new P }
 {
-    match claim_at::<B, F, S, H, T, C>(company, alloc, desk, held, at, clock) {
+    match claim_at::<B, F, S, H, T, A, C>(company, alloc, desk, admission, held, at, clock) {
         Ok(did) => did,
         Err(leave) => {
             company.leaves(leave);
-            part_at::<B, F, S, H, T, C>(company, alloc, desk, held, hall, at, clock);
+            part_at::<B, F, S, H, T, A, C>(company, alloc, desk, held, hall, at, clock);
             true
         }
     }
 }
 
 /// Hears what each worker tells, and answers whether any told something.
-pub(super) fn visit_all<B: PoolTerms, F: Commands, S: Site, H: Hall<F>, T: Terms + Trust, C: Clock>(
+pub(super) fn visit_all<
+    B: PoolTerms,
+    F: Commands,
+    S: Site,
+    H: Hall<F>,
+    T: Terms + Trust,
+    A: Admission,
+    C: Clock,
+>(
     company: &mut Company<F, H::Way, T>,
     alloc: Global,
-    desk: &mut Desk<F, S, T, AdmitAll>,
+    desk: &mut Desk<F, S, T, A>,
     held: &mut Held,
     hall: &mut H,
     is_turn: bool,
@@ -253,7 +286,9 @@ pub(super) fn visit_all<B: PoolTerms, F: Commands, S: Site, H: Hall<F>, T: Terms
 {
     let mut did = false;
     for at in 0..company.seats.len() {
-        if visit::<B, F, S, H, T, C>(company, alloc, desk, held, hall, at, is_turn, limit, clock) {
+        if visit::<B, F, S, H, T, A, C>(
+            company, alloc, desk, held, hall, at, is_turn, limit, clock,
+        ) {
             did = true;
         }
     }
@@ -261,15 +296,25 @@ pub(super) fn visit_all<B: PoolTerms, F: Commands, S: Site, H: Hall<F>, T: Terms
 }
 
 /// Starts a rule at each worker for which a claim gives one, and answers whether it did anything.
-pub(crate) fn ask_all<B: PoolTerms, F: Commands, S: Site, H: Hall<F>, T: Terms + Trust, C: Clock>(
+pub(crate) fn ask_all<
+    B: PoolTerms,
+    F: Commands,
+    S: Site,
+    H: Hall<F>,
+    T: Terms + Trust,
+    A: Admission,
+    C: Clock,
+>(
     company: &mut Company<F, H::Way, T>,
     alloc: Global,
-    desk: &mut Desk<F, S, T, AdmitAll>,
+    desk: &mut Desk<F, S, T, A>,
+    admission: &mut A,
     held: &mut Held,
     hall: &mut H,
     clock: &C,
 ) -> bool
     requires valid { IsValid desk.old.plan }
+    requires stands { A.stands_for admission.old desk.old.plan }
     requires of { IsOf T.trust F.gives T.sources S.tells T.kept T.holds T.plan T.options T.run T.due
         desk.old.plan desk.old.options (records_of desk.old.moves) }
     requires keen { (k : ℕ) → 0 < k → T.keen k → ⊥ }
@@ -296,10 +341,12 @@ pub(crate) fn ask_all<B: PoolTerms, F: Commands, S: Site, H: Hall<F>, T: Terms +
         (H.got hall.new) (H.given hall.old) (H.given hall.new) (H.idle_count hall.old)
         (H.idle_count hall.new) (inside_of company.old) (inside_of company.new)
         company.old.failed company.new.failed company.old.lost company.new.lost }
+    ensures stays { (P : PlanValue) → A.stands_for admission.old P
+        → A.stands_for admission.new P }
 {
     let mut did = false;
     for at in 0..company.seats.len() {
-        if ask::<B, F, S, H, T, C>(company, alloc, desk, held, hall, at, clock) {
+        if ask::<B, F, S, H, T, A, C>(company, alloc, desk, admission, held, hall, at, clock) {
             did = true;
         }
     }

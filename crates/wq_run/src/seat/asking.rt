@@ -6,6 +6,7 @@ ghost use Rattle.flow_types.specs.declared.job.Task.{Task as TaskValue};
 ghost use Rattle.flow_types.specs.declared.messages.Key.{Key as KeyValue};
 ghost use Rattle.flow_types.specs.declared.messages.Message.TheVariants as messages;
 ghost use Rattle.flow_types.specs.declared.numbers.AttemptNo.{AttemptNo as AttemptNoValue};
+ghost use Rattle.flow_types.specs.declared.plan.Plan.{Plan as PlanValue};
 ghost use Rattle.flow_types.specs.Plans.{IsValid, most_bytes};
 ghost use Rattle.run_history.specs.Links.{records_of};
 ghost use Rattle.wq_messages.specs.Spelling.{HasCounts, most_body, spelling};
@@ -31,16 +32,16 @@ use local_run::{Halt, Held, claim_away, lose_away, read_away};
 use outside::{Clock, Commands, Site};
 use peers::{Leave, tasks_come_behind_their_inputs, what_is_due_stays_due};
 use std::alloc::Global;
-use task_core::AdmitAll;
+use task_core::Admission;
 use worker_pool::Terms as PoolTerms;
 
 /// The most bytes of a file.
 const MOST_BYTES: usize = 67_108_864;
 
 // The task of an attempt among these, where memory suffices.
-fn task_at<F: Commands, S: Site, T: Terms>(
+fn task_at<F: Commands, S: Site, T: Terms, A: Admission>(
     alloc: Global,
-    desk: &Desk<F, S, T, AdmitAll>,
+    desk: &Desk<F, S, T, A>,
     attempts: &[Attempt],
     number: AttemptNo,
 ) -> Option<Task>
@@ -61,10 +62,10 @@ fn task_at<F: Commands, S: Site, T: Terms>(
 
 impl<F: Commands, L: Link<F>, T: Terms + Trust> Seat<F, L, T> {
     // The task of an attempt that runs there, where memory suffices.
-    fn task<S: Site>(
+    fn task<S: Site, A: Admission>(
         &self,
         alloc: Global,
-        desk: &Desk<F, S, T, AdmitAll>,
+        desk: &Desk<F, S, T, A>,
         number: AttemptNo,
     ) -> Option<Task>
         requires valid { IsValid desk.now.plan }
@@ -179,10 +180,10 @@ impl<F: Commands, L: Link<F>, T: Terms + Trust> Seat<F, L, T> {
 
     // Puts a file at the peer, as it was logged. Where it can't be read the run stops, and so it does
     // where it isn't present or is too large, which no input is.
-    fn put<B: PoolTerms, S: Site>(
+    fn put<B: PoolTerms, S: Site, A: Admission>(
         &mut self,
         alloc: Global,
-        desk: &mut Desk<F, S, T, AdmitAll>,
+        desk: &mut Desk<F, S, T, A>,
         held: &mut Held,
         run: u64,
         file: FileNo,
@@ -219,7 +220,7 @@ impl<F: Commands, L: Link<F>, T: Terms + Trust> Seat<F, L, T> {
             held.stop(Halt::Memory);
             return Ok(());
         }
-        match read_away::<B, F, S, T>(alloc, desk, file) {
+        match read_away::<B, F, S, T, A>(alloc, desk, file) {
             Ok(content) => {
                 if content.as_slice().len() > MOST_BYTES {
                     held.stop(Halt::Memory);
@@ -235,10 +236,10 @@ impl<F: Commands, L: Link<F>, T: Terms + Trust> Seat<F, L, T> {
     }
 
     // Puts these files at the peer, and then asks it for the task.
-    fn provide<B: PoolTerms, S: Site>(
+    fn provide<B: PoolTerms, S: Site, A: Admission>(
         &mut self,
         alloc: Global,
-        desk: &mut Desk<F, S, T, AdmitAll>,
+        desk: &mut Desk<F, S, T, A>,
         held: &mut Held,
         task: Task,
         files: &[FileNo],
@@ -267,7 +268,7 @@ impl<F: Commands, L: Link<F>, T: Terms + Trust> Seat<F, L, T> {
             (IsSureSeat F.gives F.may_fail L.history (IsSureOf L.sure L.offers asked) self.new) }
     {
         for file in files {
-            match self.put::<B, S>(alloc, desk, held, task.run, *file) {
+            match self.put::<B, S, A>(alloc, desk, held, task.run, *file) {
                 Ok(()) => {}
                 Err(leave) => return Err(leave),
             }
@@ -279,10 +280,10 @@ impl<F: Commands, L: Link<F>, T: Terms + Trust> Seat<F, L, T> {
     }
 
     // Puts inputs of an attempt once more, and asks for its task once more.
-    pub(super) fn put_again<B: PoolTerms, S: Site>(
+    pub(super) fn put_again<B: PoolTerms, S: Site, A: Admission>(
         &mut self,
         alloc: Global,
-        desk: &mut Desk<F, S, T, AdmitAll>,
+        desk: &mut Desk<F, S, T, A>,
         held: &mut Held,
         number: AttemptNo,
         files: &[FileNo],
@@ -304,7 +305,7 @@ impl<F: Commands, L: Link<F>, T: Terms + Trust> Seat<F, L, T> {
             L.history desk.old.moves desk.new.moves held.old.halt held.new.halt self.old self.new result }
     {
         match self.task(alloc, desk, number) {
-            Some(task) => self.provide::<B, S>(alloc, desk, held, task, files),
+            Some(task) => self.provide::<B, S, A>(alloc, desk, held, task, files),
             None => {
                 held.stop(Halt::Memory);
                 Ok(())
@@ -313,10 +314,10 @@ impl<F: Commands, L: Link<F>, T: Terms + Trust> Seat<F, L, T> {
     }
 
     // Opens the attempt of this number, which has just begun there, and asks for its task.
-    fn start<B: PoolTerms, S: Site>(
+    fn start<B: PoolTerms, S: Site, A: Admission>(
         &mut self,
         alloc: Global,
-        desk: &mut Desk<F, S, T, AdmitAll>,
+        desk: &mut Desk<F, S, T, A>,
         held: &mut Held,
         number: AttemptNo,
     ) -> Result<(), Leave>
@@ -347,7 +348,7 @@ impl<F: Commands, L: Link<F>, T: Terms + Trust> Seat<F, L, T> {
             return Ok(());
         };
         match self.open(&task) {
-            Ok(files) => self.provide::<B, S>(alloc, desk, held, task, files.as_slice()),
+            Ok(files) => self.provide::<B, S, A>(alloc, desk, held, task, files.as_slice()),
             Err(_) => {
                 held.stop(Halt::Memory);
                 Ok(())
@@ -357,10 +358,10 @@ impl<F: Commands, L: Link<F>, T: Terms + Trust> Seat<F, L, T> {
 
     // Hands an attempt out that has just begun there. Numbers of attempts only grow: with one that
     // isn't new nothing is asked, since its task could be taken for another's, and the run stops.
-    fn hand_out<B: PoolTerms, S: Site, C: Clock>(
+    fn hand_out<B: PoolTerms, S: Site, A: Admission, C: Clock>(
         &mut self,
         alloc: Global,
-        desk: &mut Desk<F, S, T, AdmitAll>,
+        desk: &mut Desk<F, S, T, A>,
         held: &mut Held,
         attempt: Attempt,
         clock: &C,
@@ -393,10 +394,10 @@ impl<F: Commands, L: Link<F>, T: Terms + Trust> Seat<F, L, T> {
                     held.stop(Halt::Memory);
                     return Ok(());
                 }
-                self.start::<B, S>(alloc, desk, held, number)
+                self.start::<B, S, A>(alloc, desk, held, number)
             }
             Err(back) => {
-                let _ = lose_away::<B, F, S, T>(desk, back, clock.now());
+                let _ = lose_away::<B, F, S, T, A>(desk, back, clock.now());
                 held.stop(Halt::Memory);
                 Ok(())
             }
@@ -404,14 +405,16 @@ impl<F: Commands, L: Link<F>, T: Terms + Trust> Seat<F, L, T> {
     }
 
     /// Starts a rule there, if a claim for its link gives one; it answers whether it did anything.
-    pub fn claim<B: PoolTerms, S: Site, C: Clock>(
+    pub fn claim<B: PoolTerms, S: Site, A: Admission, C: Clock>(
         &mut self,
         alloc: Global,
-        desk: &mut Desk<F, S, T, AdmitAll>,
+        desk: &mut Desk<F, S, T, A>,
+        admission: &mut A,
         held: &mut Held,
         clock: &C,
     ) -> Result<bool, Leave>
         requires valid { IsValid desk.old.plan }
+        requires stands { A.stands_for admission.old desk.old.plan }
         requires of { IsOf T.trust F.gives T.sources S.tells T.kept T.holds T.plan T.options T.run T.due
             desk.old.plan desk.old.options (records_of desk.old.moves) }
         requires keen { (k : ℕ) → 0 < k → T.keen k → ⊥ }
@@ -430,10 +433,12 @@ impl<F: Commands, L: Link<F>, T: Terms + Trust> Seat<F, L, T> {
             → IsSureSeat F.gives F.may_fail L.history (IsSureOf L.sure L.offers asked) self.old
             → FaresWell desk.old.moves desk.new.moves held.new.halt result
             (IsSureSeat F.gives F.may_fail L.history (IsSureOf L.sure L.offers asked) self.new) }
+        ensures stays { (P : PlanValue) → A.stands_for admission.old P
+            → A.stands_for admission.new P }
     {
-        match claim_away::<B, F, S, T>(desk, self.link(), clock.now()) {
+        match claim_away::<B, F, S, T, A>(desk, admission, self.link(), clock.now()) {
             Ok(Claim::Taken(attempt)) => {
-                match self.hand_out::<B, S, C>(alloc, desk, held, attempt, clock) {
+                match self.hand_out::<B, S, A, C>(alloc, desk, held, attempt, clock) {
                     Ok(()) => Ok(true),
                     Err(leave) => Err(leave),
                 }

@@ -32,12 +32,12 @@ use links::Link;
 use local_run::{Halt, Held, fail_away, finish_away, lose_away};
 use outside::{Clock, Commands, Site};
 use std::alloc::Global;
-use task_core::AdmitAll;
+use task_core::Admission;
 use worker_pool::Terms as PoolTerms;
 
 // Closes an attempt at a worker by how it ended there.
-fn end_away<B: PoolTerms, F: Commands, S: Site, T: Terms>(
-    desk: &mut Desk<F, S, T, AdmitAll>,
+fn end_away<B: PoolTerms, F: Commands, S: Site, T: Terms, A: Admission>(
+    desk: &mut Desk<F, S, T, A>,
     attempt: Attempt,
     outcome: Outcome,
     moment: u64,
@@ -74,17 +74,17 @@ fn end_away<B: PoolTerms, F: Commands, S: Site, T: Terms>(
         → OnOk result (AddsWell desk.old.moves desk.new.moves) }
 {
     match outcome {
-        Outcome::Success(outs) => finish_away::<B, F, S, T>(desk, attempt, &outs, moment),
-        Outcome::Failed(why) => fail_away::<B, F, S, T>(desk, attempt, why, moment),
-        Outcome::NotRun => lose_away::<B, F, S, T>(desk, attempt, moment),
+        Outcome::Success(outs) => finish_away::<B, F, S, T, A>(desk, attempt, &outs, moment),
+        Outcome::Failed(why) => fail_away::<B, F, S, T, A>(desk, attempt, why, moment),
+        Outcome::NotRun => lose_away::<B, F, S, T, A>(desk, attempt, moment),
     }
 }
 
 impl<F: Commands, L: Link<F>, T: Terms + Trust> Seat<F, L, T> {
     // Closes the attempt of this number, which is no longer open at the peer.
-    pub(super) fn close<B: PoolTerms, S: Site, C: Clock>(
+    pub(super) fn close<B: PoolTerms, S: Site, A: Admission, C: Clock>(
         &mut self,
-        desk: &mut Desk<F, S, T, AdmitAll>,
+        desk: &mut Desk<F, S, T, A>,
         held: &mut Held,
         number: AttemptNo,
         outcome: Outcome,
@@ -118,15 +118,15 @@ impl<F: Commands, L: Link<F>, T: Terms + Trust> Seat<F, L, T> {
             (IsSureSeat F.gives F.may_fail L.history (IsSureOf L.sure L.offers asked) self.new) }
     {
         let attempt = self.take(number);
-        if let Err(why) = end_away::<B, F, S, T>(desk, attempt, outcome, clock.now()) {
+        if let Err(why) = end_away::<B, F, S, T, A>(desk, attempt, outcome, clock.now()) {
             held.stop(why);
         }
     }
 
     /// Gives up all that runs there. The peer isn't told.
-    pub fn abandon<B: PoolTerms, S: Site, C: Clock>(
+    pub fn abandon<B: PoolTerms, S: Site, A: Admission, C: Clock>(
         &mut self,
-        desk: &mut Desk<F, S, T, AdmitAll>,
+        desk: &mut Desk<F, S, T, A>,
         held: &mut Held,
         clock: &C,
     )
@@ -150,7 +150,7 @@ impl<F: Commands, L: Link<F>, T: Terms + Trust> Seat<F, L, T> {
             held.new.halt }
     {
         while let Some(attempt) = self.pop() {
-            if let Err(why) = lose_away::<B, F, S, T>(desk, attempt, clock.now()) {
+            if let Err(why) = lose_away::<B, F, S, T, A>(desk, attempt, clock.now()) {
                 held.stop(why);
             }
         }

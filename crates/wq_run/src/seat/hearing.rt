@@ -33,7 +33,7 @@ use peers::{
 };
 use run_history::JoinRefused;
 use std::alloc::Global;
-use task_core::AdmitAll;
+use task_core::Admission;
 use worker_pool::Terms as PoolTerms;
 
 /// The most messages that are taken from one worker before the next has its turn. No more than one
@@ -306,9 +306,9 @@ impl<F: Commands, L: Link<F>, T: Terms + Trust> Seat<F, L, T> {
 
     // It offers this from now on. It is to be left where it is something else and the desk takes no
     // more changes.
-    fn change<B: PoolTerms, S: Site>(
+    fn change<B: PoolTerms, S: Site, A: Admission>(
         &mut self,
-        desk: &mut Desk<F, S, T, AdmitAll>,
+        desk: &mut Desk<F, S, T, A>,
         total: Amounts,
         largest: Amounts,
         cache: u64,
@@ -333,7 +333,7 @@ impl<F: Commands, L: Link<F>, T: Terms + Trust> Seat<F, L, T> {
         if !self.pulse.has_news() {
             return Ok(true);
         }
-        match change::<B, F, S, T>(desk, self.link(), total, largest, cache) {
+        match change::<B, F, S, T, A>(desk, self.link(), total, largest, cache) {
             Ok(()) => Ok(true),
             Err(JoinRefused::Memory) => Err(Leave::Memory),
             Err(_) => Err(Leave::Unexpected),
@@ -343,10 +343,10 @@ impl<F: Commands, L: Link<F>, T: Terms + Trust> Seat<F, L, T> {
     // Does what the next whole message tells, and answers whether one was there. Where an
     // attempt still waits to be asked for nothing is heard and the run stops, and so it does where
     // the peer joins again.
-    fn hear<B: PoolTerms, S: Site, C: Clock>(
+    fn hear<B: PoolTerms, S: Site, A: Admission, C: Clock>(
         &mut self,
         alloc: Global,
-        desk: &mut Desk<F, S, T, AdmitAll>,
+        desk: &mut Desk<F, S, T, A>,
         held: &mut Held,
         clock: &C,
     ) -> Result<bool, Leave>
@@ -390,22 +390,22 @@ impl<F: Commands, L: Link<F>, T: Terms + Trust> Seat<F, L, T> {
                     largest,
                     cache,
                 },
-            ) => self.change::<B, S>(desk, total, largest, cache),
+            ) => self.change::<B, S, A>(desk, total, largest, cache),
             Ok(Told::Finish { attempt, outs }) => {
                 let outcome = Outcome::Success(outs);
-                self.close::<B, S, C>(desk, held, attempt, outcome, clock);
+                self.close::<B, S, A, C>(desk, held, attempt, outcome, clock);
                 Ok(true)
             }
             Ok(Told::Fail { attempt, why }) => {
-                self.close::<B, S, C>(desk, held, attempt, Outcome::Failed(why), clock);
+                self.close::<B, S, A, C>(desk, held, attempt, Outcome::Failed(why), clock);
                 Ok(true)
             }
             Ok(Told::Lose(attempt)) => {
-                self.close::<B, S, C>(desk, held, attempt, Outcome::NotRun, clock);
+                self.close::<B, S, A, C>(desk, held, attempt, Outcome::NotRun, clock);
                 Ok(true)
             }
             Ok(Told::PutAgain { attempt, files }) => {
-                match self.put_again::<B, S>(alloc, desk, held, attempt, files.as_slice()) {
+                match self.put_again::<B, S, A>(alloc, desk, held, attempt, files.as_slice()) {
                     Ok(()) => Ok(true),
                     Err(leave) => Err(leave),
                 }
@@ -418,10 +418,10 @@ impl<F: Commands, L: Link<F>, T: Terms + Trust> Seat<F, L, T> {
     /// Hears what is there, and answers whether anything was. After an error the link is to be left,
     /// as where it was idle for too long while something runs there. Where an attempt still waits to
     /// be asked for the run stops.
-    pub fn serve<B: PoolTerms, S: Site, C: Clock>(
+    pub fn serve<B: PoolTerms, S: Site, A: Admission, C: Clock>(
         &mut self,
         alloc: Global,
-        desk: &mut Desk<F, S, T, AdmitAll>,
+        desk: &mut Desk<F, S, T, A>,
         held: &mut Held,
         is_turn: bool,
         limit: u32,
@@ -457,7 +457,7 @@ impl<F: Commands, L: Link<F>, T: Terms + Trust> Seat<F, L, T> {
         let mut did = came;
         for _ in 0..MOST_MESSAGES {
             let attempts = self.attempts.len();
-            match self.hear::<B, S, C>(alloc, desk, held, clock) {
+            match self.hear::<B, S, A, C>(alloc, desk, held, clock) {
                 Ok(true) => {
                     if self.attempts.len() < attempts {
                         return Ok(true);

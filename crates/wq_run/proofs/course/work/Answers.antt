@@ -60,6 +60,7 @@ returns-then-has_lost g c =
       back = λ uncut. absurd (uncut tt);
       manned = λ least tells first sure manned all few limited most. tt;
       calm = λ tells first sure all few. tt;
+      stays = c.run_all-done.ensures.stays;
     }
 
 pub returns : goal.returns
@@ -72,15 +73,15 @@ returns g c =
     record {
       goes = (w.links, w.goes);
       idle = w.idle;
-      stops = stops_by g.S.Site.tells g.T.Terms.kept (AllSure g.R.Runner.sure c.args.runners.now) g.S.Site.files c.args.workers.limit c.run_all-done.new.desk (sum_by g.R.Runner.count c.args.runners.now) (sum_by g.R.Runner.count c.run_all-done.new.runners) (g.H.Hall.count c.args.hall.now) (g.H.Hall.count c.run_all-done.new.hall) (g.H.Hall.idle_count c.args.hall.now) (g.H.Hall.idle_count c.run_all-done.new.hall) (g.H.Hall.count c.args.hall.now) (g.H.Hall.count c.disband.new.hall) c.run_all-done.result (omega arith) (omega (arith, last)) w.ended;
+      stops = stops_by g.A.Admission.admitted g.S.Site.tells g.T.Terms.kept (AllSure g.R.Runner.sure c.args.runners.now) g.S.Site.files c.args.workers.limit c.run_all-done.new.desk (sum_by g.R.Runner.count c.args.runners.now) (sum_by g.R.Runner.count c.run_all-done.new.runners) (g.H.Hall.count c.args.hall.now) (g.H.Hall.count c.run_all-done.new.hall) (g.H.Hall.idle_count c.args.hall.now) (g.H.Hall.idle_count c.run_all-done.new.hall) (g.H.Hall.count c.args.hall.now) (g.H.Hall.count c.disband.new.hall) c.run_all-done.result (omega arith) (omega (arith, last)) w.ended;
       added = w.adds;
       later = w.later;
       risen = w.risen;
       met = omega (arith, met, last);
       listens = (c.disband.ensures.listens c.run_all-done.ensures.listens).coming;
-      damage = damage_by g.S.Site.tells g.T.Terms.kept (AllSure g.R.Runner.sure c.args.runners.now) g.S.Site.files c.args.workers.limit c.run_all-done.new.desk (sum_by g.R.Runner.count c.args.runners.now) (sum_by g.R.Runner.count c.run_all-done.new.runners) (g.H.Hall.count c.args.hall.now) (g.H.Hall.count c.run_all-done.new.hall) (g.H.Hall.idle_count c.args.hall.now) (g.H.Hall.idle_count c.run_all-done.new.hall) c.run_all-done.result w.ended;
-      whole = whole_by g.S.Site.tells g.T.Terms.kept (AllSure g.R.Runner.sure c.args.runners.now) g.S.Site.files c.args.workers.limit c.run_all-done.new.desk (sum_by g.R.Runner.count c.args.runners.now) (sum_by g.R.Runner.count c.run_all-done.new.runners) (g.H.Hall.count c.args.hall.now) (g.H.Hall.count c.run_all-done.new.hall) (g.H.Hall.idle_count c.args.hall.now) (g.H.Hall.idle_count c.run_all-done.new.hall) c.run_all-done.result w.ended;
-      never = spared_by g.S.Site.tells g.T.Terms.kept (AllSure g.R.Runner.sure c.args.runners.now) g.S.Site.files c.args.workers.limit c.run_all-done.new.desk (sum_by g.R.Runner.count c.args.runners.now) (sum_by g.R.Runner.count c.run_all-done.new.runners) (g.H.Hall.count c.args.hall.now) (g.H.Hall.count c.run_all-done.new.hall) (g.H.Hall.idle_count c.args.hall.now) (g.H.Hall.idle_count c.run_all-done.new.hall) c.run_all-done.result w.ended;
+      damage = damage_by g.A.Admission.admitted g.S.Site.tells g.T.Terms.kept (AllSure g.R.Runner.sure c.args.runners.now) g.S.Site.files c.args.workers.limit c.run_all-done.new.desk (sum_by g.R.Runner.count c.args.runners.now) (sum_by g.R.Runner.count c.run_all-done.new.runners) (g.H.Hall.count c.args.hall.now) (g.H.Hall.count c.run_all-done.new.hall) (g.H.Hall.idle_count c.args.hall.now) (g.H.Hall.idle_count c.run_all-done.new.hall) c.run_all-done.result w.ended;
+      whole = whole_by g.A.Admission.admitted g.S.Site.tells g.T.Terms.kept (AllSure g.R.Runner.sure c.args.runners.now) g.S.Site.files c.args.workers.limit c.run_all-done.new.desk (sum_by g.R.Runner.count c.args.runners.now) (sum_by g.R.Runner.count c.run_all-done.new.runners) (g.H.Hall.count c.args.hall.now) (g.H.Hall.count c.run_all-done.new.hall) (g.H.Hall.idle_count c.args.hall.now) (g.H.Hall.idle_count c.run_all-done.new.hall) c.run_all-done.result w.ended;
+      never = spared_by g.A.Admission.admitted g.S.Site.tells g.T.Terms.kept (AllSure g.R.Runner.sure c.args.runners.now) g.S.Site.files c.args.workers.limit c.run_all-done.new.desk (sum_by g.R.Runner.count c.args.runners.now) (sum_by g.R.Runner.count c.run_all-done.new.runners) (g.H.Hall.count c.args.hall.now) (g.H.Hall.count c.run_all-done.new.hall) (g.H.Hall.idle_count c.args.hall.now) (g.H.Hall.idle_count c.run_all-done.new.hall) c.run_all-done.result w.ended;
       lost = w.lost;
       due_losses = λ tells first.
           let company : CompanyState g.row.H-Way.Denot = c.new-company.result in
@@ -96,10 +97,10 @@ returns g c =
           let company : CompanyState g.row.H-Way.Denot = c.new-company.result in
           let none : company.seats ≡ [] = ap (λ (x : CompanyState g.row.H-Way.Denot). x.seats) c.new-company.ensures in
           let kept : c.disband.new.company.lost ≡ false = search rules in
-          vain_whole g.F.Commands.gives g.F.Commands.may_fail g.H.Way.Link.history g.H.Way.Link.count g.H.Way.Link.idle_count g.H.Way.Link.is_closed c.args.workers.limit c.run_all-done.new.desk.plan c.run_all-done.new.desk.options c.args.workers.limit (g.H.Hall.idle_count c.disband.new.hall - g.H.Hall.idle_count c.args.hall.now) c.args.desk.now.moves c.run_all-done.new.desk.moves company c.run_all-done.new.company c.disband.new.company (g.H.Hall.got c.args.hall.now) (g.H.Hall.got c.run_all-done.new.hall) (g.H.Hall.got c.disband.new.hall) first none c.run_all-done.result
-          (c.run_all-done.ensures.due tells) c.run_all-done.ensures.sound c.run_all-done.ensures.alone (ends_by_waiting g.S.Site.tells g.T.Terms.kept (AllSure g.R.Runner.sure c.args.runners.now) g.S.Site.files c.args.workers.limit c.run_all-done.new.desk (sum_by g.R.Runner.count c.args.runners.now) (sum_by g.R.Runner.count c.run_all-done.new.runners) (g.H.Hall.count c.args.hall.now) (g.H.Hall.count c.run_all-done.new.hall) (g.H.Hall.idle_count c.args.hall.now) (g.H.Hall.idle_count c.run_all-done.new.hall) (g.H.Hall.idle_count c.args.hall.now) (g.H.Hall.idle_count c.disband.new.hall) c.run_all-done.result (omega arith) (omega (arith, looked)) w.ended) c.run_all-done.ensures.seats (c.disband.ensures.due c.args.workers.limit c.run_all-done.new.desk.moves tells) c.disband.ensures.failed kept c.disband.ensures.seats
+          vain_whole g.F.Commands.gives g.F.Commands.may_fail g.H.Way.Link.history g.H.Way.Link.count g.H.Way.Link.idle_count g.H.Way.Link.is_closed c.args.workers.limit g.A.Admission.admitted c.run_all-done.new.desk.plan c.run_all-done.new.desk.options c.args.workers.limit (g.H.Hall.idle_count c.disband.new.hall - g.H.Hall.idle_count c.args.hall.now) c.args.desk.now.moves c.run_all-done.new.desk.moves company c.run_all-done.new.company c.disband.new.company (g.H.Hall.got c.args.hall.now) (g.H.Hall.got c.run_all-done.new.hall) (g.H.Hall.got c.disband.new.hall) first none c.run_all-done.result
+          (c.run_all-done.ensures.due tells) c.run_all-done.ensures.sound c.run_all-done.ensures.alone (ends_by_waiting g.A.Admission.admitted g.S.Site.tells g.T.Terms.kept (AllSure g.R.Runner.sure c.args.runners.now) g.S.Site.files c.args.workers.limit c.run_all-done.new.desk (sum_by g.R.Runner.count c.args.runners.now) (sum_by g.R.Runner.count c.run_all-done.new.runners) (g.H.Hall.count c.args.hall.now) (g.H.Hall.count c.run_all-done.new.hall) (g.H.Hall.idle_count c.args.hall.now) (g.H.Hall.idle_count c.run_all-done.new.hall) (g.H.Hall.idle_count c.args.hall.now) (g.H.Hall.idle_count c.disband.new.hall) c.run_all-done.result (omega arith) (omega (arith, looked)) w.ended) c.run_all-done.ensures.seats (c.disband.ensures.due c.args.workers.limit c.run_all-done.new.desk.moves tells) c.disband.ensures.failed kept c.disband.ensures.seats
           (λ alone lost. c.disband.ensures.hands tells alone lost);
-      ends = ends_by_waiting g.S.Site.tells g.T.Terms.kept (AllSure g.R.Runner.sure c.args.runners.now) g.S.Site.files c.args.workers.limit c.run_all-done.new.desk (sum_by g.R.Runner.count c.args.runners.now) (sum_by g.R.Runner.count c.run_all-done.new.runners) (g.H.Hall.count c.args.hall.now) (g.H.Hall.count c.run_all-done.new.hall) (g.H.Hall.idle_count c.args.hall.now) (g.H.Hall.idle_count c.run_all-done.new.hall) (g.H.Hall.idle_count c.args.hall.now) (g.H.Hall.idle_count c.disband.new.hall) c.run_all-done.result (omega arith) (omega (arith, looked)) w.ended;
+      ends = ends_by_waiting g.A.Admission.admitted g.S.Site.tells g.T.Terms.kept (AllSure g.R.Runner.sure c.args.runners.now) g.S.Site.files c.args.workers.limit c.run_all-done.new.desk (sum_by g.R.Runner.count c.args.runners.now) (sum_by g.R.Runner.count c.run_all-done.new.runners) (g.H.Hall.count c.args.hall.now) (g.H.Hall.count c.run_all-done.new.hall) (g.H.Hall.idle_count c.args.hall.now) (g.H.Hall.idle_count c.run_all-done.new.hall) (g.H.Hall.idle_count c.args.hall.now) (g.H.Hall.idle_count c.disband.new.hall) c.run_all-done.result (omega arith) (omega (arith, looked)) w.ended;
       back = λ uncut.
           let company : CompanyState g.row.H-Way.Denot = c.new-company.result in
           let met = met_then c.run_all-done.ensures.met c.disband.ensures.met in
@@ -134,10 +135,11 @@ returns g c =
           let ended = calm_ended (IsSureCompany g.F.Commands.gives g.F.Commands.may_fail g.H.Way.Link.history g.H.Way.Link.idle_count (IsSureOf g.H.Way.Link.sure g.H.Way.Link.offers (Some asked)) (IsComing g.H.Hall.sure g.H.Hall.staffed (Some asked) c.run_all-done.new.hall) (IsUnmet g.H.Hall.manned g.H.Hall.idle_count (Some asked) c.run_all-done.new.hall) c.run_all-done.new.desk.moves c.run_all-done.new.company) c.args.desk.now.moves c.run_all-done.new.desk.moves company c.run_all-done.new.company c.run_all-done.result (c.run_all-done.ensures.calm (Some asked) tells all) c.run_all-done.ensures.sound began room in
           let stated = stated_ended g.F.Commands.gives g.F.Commands.may_fail g.H.Way.Link.history g.H.Way.Link.count g.H.Way.Link.idle_count g.H.Way.Link.is_closed c.args.workers.limit (IsIllLink g.F.Commands.gives g.F.Commands.may_fail g.H.Way.Link.history g.H.Way.Link.count g.H.Way.Link.idle_count g.H.Way.Link.is_closed c.args.workers.limit) c.args.desk.now.moves c.run_all-done.new.desk.moves company c.run_all-done.new.company (g.H.Hall.got c.args.hall.now) (g.H.Hall.got c.run_all-done.new.hall) c.run_all-done.result none (c.run_all-done.ensures.due tells) c.run_all-done.ensures.sound in
           let needs = subst (λ (P : Plan). NeedsAtMost P c.run_all-done.new.desk.options least) (sym w.goes.plan) (subst (λ (O : Options). NeedsAtMost c.args.desk.now.plan O least) (sym w.goes.options) most) in
-          manned_whole g.F.Commands.gives g.F.Commands.may_fail g.H.Way.Link.history g.H.Way.Link.count g.H.Way.Link.idle_count g.H.Way.Link.is_closed c.args.workers.limit g.H.Way.Link.sure g.H.Way.Link.offers asked (λ way. c.offers_were_stated.ensures way least) c.run_all-done.new.desk.plan c.run_all-done.new.desk.options needs (g.H.Hall.idle_count c.run_all-done.new.hall - g.H.Hall.idle_count c.args.hall.now) c.run_all-done.new.desk.moves c.run_all-done.new.company
+          manned_whole g.F.Commands.gives g.F.Commands.may_fail g.H.Way.Link.history g.H.Way.Link.count g.H.Way.Link.idle_count g.H.Way.Link.is_closed c.args.workers.limit g.H.Way.Link.sure g.H.Way.Link.offers asked (λ way. c.offers_were_stated.ensures way least) g.A.Admission.admitted c.run_all-done.new.desk.plan c.run_all-done.new.desk.options needs (g.H.Hall.idle_count c.run_all-done.new.hall - g.H.Hall.idle_count c.args.hall.now) c.run_all-done.new.desk.moves c.run_all-done.new.company
           (IsComing g.H.Hall.sure g.H.Hall.staffed (Some asked) c.run_all-done.new.hall) (IsUnmet g.H.Hall.manned g.H.Hall.idle_count (Some asked) c.run_all-done.new.hall) limited
           (λ unmet. let same : g.H.Hall.idle_count c.run_all-done.new.hall ≡ g.H.Hall.idle_count c.args.hall.now = (unmet.still asked refl).1 in omega (arith, same)) c.run_all-done.ensures.seats c.run_all-done.result ended stated c.run_all-done.ensures.alone
-          (ends_by_waiting g.S.Site.tells g.T.Terms.kept (AllSure g.R.Runner.sure c.args.runners.now) g.S.Site.files c.args.workers.limit c.run_all-done.new.desk (sum_by g.R.Runner.count c.args.runners.now) (sum_by g.R.Runner.count c.run_all-done.new.runners) (g.H.Hall.count c.args.hall.now) (g.H.Hall.count c.run_all-done.new.hall) (g.H.Hall.idle_count c.args.hall.now) (g.H.Hall.idle_count c.run_all-done.new.hall) (g.H.Hall.idle_count c.args.hall.now) (g.H.Hall.idle_count c.run_all-done.new.hall) c.run_all-done.result (omega arith) (omega arith) w.ended);
+          (ends_by_waiting g.A.Admission.admitted g.S.Site.tells g.T.Terms.kept (AllSure g.R.Runner.sure c.args.runners.now) g.S.Site.files c.args.workers.limit c.run_all-done.new.desk (sum_by g.R.Runner.count c.args.runners.now) (sum_by g.R.Runner.count c.run_all-done.new.runners) (g.H.Hall.count c.args.hall.now) (g.H.Hall.count c.run_all-done.new.hall) (g.H.Hall.idle_count c.args.hall.now) (g.H.Hall.idle_count c.run_all-done.new.hall) (g.H.Hall.idle_count c.args.hall.now) (g.H.Hall.idle_count c.run_all-done.new.hall) c.run_all-done.result (omega arith) (omega arith) w.ended);
+      stays = c.run_all-done.ensures.stays;
     }
 
 pub run_all-done-requires-clause-going : goal.run_all-done-requires-clause-going

@@ -30,6 +30,12 @@ settle-requires-2-clause-valid g c κs within =
     let n = c.dismiss.ensures.manned c.requires.manned.first c.requires.manned.waiting c.requires.manned.heard (manned_want g.T.Terms.trust g.F.Commands.gives g.F.Commands.may_fail g.T.Terms.sources g.S.Site.tells g.T.Terms.kept (IsSurePool g.B.Terms.fits) g.S.Site.files g.S.Site.may_leave g.S.Site.moment g.S.Site.images_since c.requires.manned.first c.args.desk.now c.args.held c.stop_wanting.new.held c.requires.manned.waiting c.requires.manned.heard c.args.company.now.seats c.stop_wanting.ensures.wants c.stop_wanting.ensures.stays m) in
     subst IsValid (sym (n.under.goes.plan ∙ sym m.under.goes.plan)) c.requires.valid
 
+pub settle-requires-2-clause-stands : goal.settle-requires-2-clause-stands
+settle-requires-2-clause-stands g c κs within =
+    let m = c.requires.manned.manned in
+    let n = c.dismiss.ensures.manned c.requires.manned.first c.requires.manned.waiting c.requires.manned.heard (manned_want g.T.Terms.trust g.F.Commands.gives g.F.Commands.may_fail g.T.Terms.sources g.S.Site.tells g.T.Terms.kept (IsSurePool g.B.Terms.fits) g.S.Site.files g.S.Site.may_leave g.S.Site.moment g.S.Site.images_since c.requires.manned.first c.args.desk.now c.args.held c.stop_wanting.new.held c.requires.manned.waiting c.requires.manned.heard c.args.company.now.seats c.stop_wanting.ensures.wants c.stop_wanting.ensures.stays m) in
+    subst (g.A.Admission.stands_for c.args.admission.now) (sym (n.under.goes.plan ∙ sym m.under.goes.plan)) (c.requires.stands)
+
 pub settle-requires-2-clause-underway : goal.settle-requires-2-clause-underway
 settle-requires-2-clause-underway g c κs within =
     let m = c.requires.manned.manned in

@@ -7,7 +7,7 @@ use Rattle.wq_run.proofs.rounds.wait_round.Goals as goal
 
 pub returns-in-Err : goal.returns-in-Err
 returns-in-Err g c = record {
-  rounds = λ k l. round_halted g.T.Terms.trust g.F.Commands.gives g.F.Commands.may_fail g.T.Terms.sources g.S.Site.tells g.T.Terms.kept g.S.Site.files g.S.Site.may_leave g.S.Site.moment g.S.Site.images_since (Unit {0}) c.args.limit c.args.desk.now c.wait.new.desk k k l l (g.H.Hall.count c.args.hall.now) (g.H.Hall.count c.wait.new.hall) (g.H.Hall.idle_count c.args.hall.now) (g.H.Hall.idle_count c.wait.new.hall) c.in-Err.halt
+  rounds = λ k l. round_halted g.A.Admission.admitted g.T.Terms.trust g.F.Commands.gives g.F.Commands.may_fail g.T.Terms.sources g.S.Site.tells g.T.Terms.kept g.S.Site.files g.S.Site.may_leave g.S.Site.moment g.S.Site.images_since (Unit {0}) c.args.limit c.args.desk.now c.wait.new.desk k k l l (g.H.Hall.count c.args.hall.now) (g.H.Hall.count c.wait.new.hall) (g.H.Hall.idle_count c.args.hall.now) (g.H.Hall.idle_count c.wait.new.hall) c.in-Err.halt
       (on_less g.T.Terms.trust g.F.Commands.gives g.F.Commands.may_fail g.T.Terms.sources g.S.Site.tells g.T.Terms.kept (IsSurePool (λ job outcome. ⊥)) g.S.Site.files g.S.Site.may_leave g.S.Site.moment g.S.Site.images_since (Unit {0}) c.args.desk.now c.wait.new.desk k k l l (Err c.in-Err.halt) (λ is job outcome none. absurd none) (c.in-Err.ensures.came k l)) c.requires.on c.wait.ensures.met.later c.wait.ensures.met.idles_later;
   seats = c.wait.ensures.seats;
   none = c.wait.ensures.none;
@@ -17,24 +17,25 @@ returns-in-Err g c = record {
   sound = tt;
   alone = tt;
   calm = λ asked tells. tt;
+  stays = c.wait.ensures.stays;
 }
 
 pub returns-then-idles-from-clause-rounds : goal.returns-then-idles-from-clause-rounds
 returns-then-idles-from-clause-rounds g c k l =
     let came = (on_less g.T.Terms.trust g.F.Commands.gives g.F.Commands.may_fail g.T.Terms.sources g.S.Site.tells g.T.Terms.kept (IsSurePool (λ job outcome. ⊥)) g.S.Site.files g.S.Site.may_leave g.S.Site.moment g.S.Site.images_since (Unit {0}) c.args.desk.now c.wait.new.desk k k l l (Ok tt) (λ is job outcome none. absurd none) (c.in-Ok.ensures.came k l)) in
-    let on = is_on g.T.Terms.trust g.F.Commands.gives g.F.Commands.may_fail g.T.Terms.sources g.S.Site.tells g.T.Terms.kept g.S.Site.files g.S.Site.may_leave g.S.Site.moment g.S.Site.images_since (Unit {0}) c.args.desk.now c.wait.new.desk k k l l came c.requires.on in
+    let on = is_on g.A.Admission.admitted g.T.Terms.trust g.F.Commands.gives g.F.Commands.may_fail g.T.Terms.sources g.S.Site.tells g.T.Terms.kept g.S.Site.files g.S.Site.may_leave g.S.Site.moment g.S.Site.images_since (Unit {0}) c.args.desk.now c.wait.new.desk k k l l came c.requires.on in
     let many = c.if-idles-from.true in
     let same = c.from.ensures in
     let now = c.idles.ensures in
     let before = c.idles-before.ensures in
-    round_by g.T.Terms.trust g.F.Commands.gives g.F.Commands.may_fail g.T.Terms.sources g.S.Site.tells g.T.Terms.kept g.S.Site.files g.S.Site.may_leave g.S.Site.moment g.S.Site.images_since (Unit {0}) c.args.limit c.args.desk.now c.wait.new.desk k k l l (g.H.Hall.count c.args.hall.now) (g.H.Hall.count c.wait.new.hall) (g.H.Hall.idle_count c.args.hall.now) (g.H.Hall.idle_count c.wait.new.hall) (Ok tt) _ came c.requires.on c.wait.ensures.met.later c.wait.ensures.met.idles_later (on, omega (arith, many, same), omega (arith, now, before)) (λ adds. adds)
+    round_by g.A.Admission.admitted g.T.Terms.trust g.F.Commands.gives g.F.Commands.may_fail g.T.Terms.sources g.S.Site.tells g.T.Terms.kept g.S.Site.files g.S.Site.may_leave g.S.Site.moment g.S.Site.images_since (Unit {0}) c.args.limit c.args.desk.now c.wait.new.desk k k l l (g.H.Hall.count c.args.hall.now) (g.H.Hall.count c.wait.new.hall) (g.H.Hall.idle_count c.args.hall.now) (g.H.Hall.idle_count c.wait.new.hall) (Ok tt) _ came c.requires.on c.wait.ensures.met.later c.wait.ensures.met.idles_later (on, omega (arith, many, same), omega (arith, now, before)) (λ adds. adds)
 
 pub returns : goal.returns
 returns g c = record {
   rounds = λ k l.
       let came = (on_less g.T.Terms.trust g.F.Commands.gives g.F.Commands.may_fail g.T.Terms.sources g.S.Site.tells g.T.Terms.kept (IsSurePool (λ job outcome. ⊥)) g.S.Site.files g.S.Site.may_leave g.S.Site.moment g.S.Site.images_since (Unit {0}) c.args.desk.now c.wait.new.desk k k l l (Ok tt) (λ is job outcome none. absurd none) (c.in-Ok.ensures.came k l)) in
-      let on = is_on g.T.Terms.trust g.F.Commands.gives g.F.Commands.may_fail g.T.Terms.sources g.S.Site.tells g.T.Terms.kept g.S.Site.files g.S.Site.may_leave g.S.Site.moment g.S.Site.images_since (Unit {0}) c.args.desk.now c.wait.new.desk k k l l came c.requires.on in
-      round_by g.T.Terms.trust g.F.Commands.gives g.F.Commands.may_fail g.T.Terms.sources g.S.Site.tells g.T.Terms.kept g.S.Site.files g.S.Site.may_leave g.S.Site.moment g.S.Site.images_since (Unit {0}) c.args.limit c.args.desk.now c.wait.new.desk k k l l (g.H.Hall.count c.args.hall.now) (g.H.Hall.count c.wait.new.hall) (g.H.Hall.idle_count c.args.hall.now) (g.H.Hall.idle_count c.wait.new.hall) (Ok tt) (Ok turns.Again) came c.requires.on c.wait.ensures.met.later c.wait.ensures.met.idles_later on (λ adds. adds);
+      let on = is_on g.A.Admission.admitted g.T.Terms.trust g.F.Commands.gives g.F.Commands.may_fail g.T.Terms.sources g.S.Site.tells g.T.Terms.kept g.S.Site.files g.S.Site.may_leave g.S.Site.moment g.S.Site.images_since (Unit {0}) c.args.desk.now c.wait.new.desk k k l l came c.requires.on in
+      round_by g.A.Admission.admitted g.T.Terms.trust g.F.Commands.gives g.F.Commands.may_fail g.T.Terms.sources g.S.Site.tells g.T.Terms.kept g.S.Site.files g.S.Site.may_leave g.S.Site.moment g.S.Site.images_since (Unit {0}) c.args.limit c.args.desk.now c.wait.new.desk k k l l (g.H.Hall.count c.args.hall.now) (g.H.Hall.count c.wait.new.hall) (g.H.Hall.idle_count c.args.hall.now) (g.H.Hall.idle_count c.wait.new.hall) (Ok tt) (Ok turns.Again) came c.requires.on c.wait.ensures.met.later c.wait.ensures.met.idles_later on (λ adds. adds);
   seats = c.wait.ensures.seats;
   none = c.wait.ensures.none;
   listens = c.wait.ensures.listens;
@@ -43,6 +44,7 @@ returns g c = record {
   sound = λ last. absurd last;
   alone = tt;
   calm = c.in-Ok.ensures.calm;
+  stays = c.wait.ensures.stays;
 }
 
 pub returns-then-idles-from-clause-due : goal.returns-then-idles-from-clause-due

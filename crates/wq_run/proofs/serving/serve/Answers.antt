@@ -19,6 +19,7 @@ loop-init g c = record {
   met = met_none;
   due = λ tells. due_none _ _;
   calm = λ asked tells is. calm_none;
+  stays = λ P stands. stands;
 }
 
 pub returns-in_default-clause-served : goal.returns-in_default-clause-served
@@ -33,6 +34,12 @@ wind_down-requires-clause-valid g c κs within =
     let m = c.requires.served.manned in
     let n = c.loop.invariant.served c.requires.served.first m in
     subst IsValid (sym (n.under.goes.plan ∙ sym m.under.goes.plan)) c.requires.valid
+
+pub wind_down-requires-clause-stands : goal.wind_down-requires-clause-stands
+wind_down-requires-clause-stands g c κs within =
+    let m = c.requires.served.manned in
+    let n = c.loop.invariant.served c.requires.served.first m in
+    subst (g.A.Admission.stands_for c.loop.admission) (sym (n.under.goes.plan ∙ sym m.under.goes.plan)) (c.loop.invariant.stays c.args.desk.now.plan c.requires.stands)
 
 pub wind_down-requires-clause-of : goal.wind_down-requires-clause-of
 wind_down-requires-clause-of g c κs within =
@@ -51,6 +58,12 @@ turn-is_busy-requires-clause-valid g c κs within =
     let m = c.requires.served.manned in
     let n = c.loop.invariant.served c.requires.served.first m in
     subst IsValid (sym (n.under.goes.plan ∙ sym m.under.goes.plan)) c.requires.valid
+
+pub turn-is_busy-requires-clause-stands : goal.turn-is_busy-requires-clause-stands
+turn-is_busy-requires-clause-stands g c κs within =
+    let m = c.requires.served.manned in
+    let n = c.loop.invariant.served c.requires.served.first m in
+    subst (g.A.Admission.stands_for c.loop.admission) (sym (n.under.goes.plan ∙ sym m.under.goes.plan)) (c.loop.invariant.stays c.args.desk.now.plan c.requires.stands)
 
 pub turn-is_busy-requires-clause-of : goal.turn-is_busy-requires-clause-of
 turn-is_busy-requires-clause-of g c κs within =
@@ -82,6 +95,7 @@ loop-preserved-then-not-is_going g c = record {
         | then-not-is_going-via-else-not-is_going+then-not-is_going-2 w ↦ w.is_going-else-not-is_going.ensures.stands (search rules) fine kept
       ] in
       calm_then (c.loop.invariant.calm asked tells is) (calm_stopped _ _ (c.wind_down.ensures.due c.args.limit tells stops).due stops);
+  stays = λ P stands. c.wind_down.ensures.stays P (c.loop.invariant.stays P stands);
 }
 
 pub returns-then-wind_down : goal.returns-then-wind_down
@@ -103,6 +117,7 @@ returns-then-wind_down g c = record {
         | then-not-is_going-via-else-not-is_going+then-not-is_going-2 w ↦ w.is_going-else-not-is_going.ensures.stands (search rules) fine kept
       ] in
       calm_then (c.loop.invariant.calm asked tells is) (calm_stopped _ _ (c.wind_down.ensures.due c.args.limit tells stops).due stops);
+  stays = λ P stands. c.wind_down.ensures.stays P (c.loop.invariant.stays P stands);
 }
 
 pub loop-preserved : goal.loop-preserved
@@ -113,6 +128,7 @@ loop-preserved g c = record {
   met = met_then c.loop.invariant.met c.turn-is_busy.ensures.met;
   due = λ tells. due_then _ _ (c.loop.invariant.due tells) (c.turn-is_busy.ensures.due tells);
   calm = λ asked tells is. calm_then (c.loop.invariant.calm asked tells is) (c.turn-is_busy.ensures.calm asked tells is);
+  stays = λ P stands. c.turn-is_busy.ensures.stays P (c.loop.invariant.stays P stands);
 }
 
 pub returns-then-is_idle-clause-served : goal.returns-then-is_idle-clause-served

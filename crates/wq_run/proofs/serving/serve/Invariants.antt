@@ -1,4 +1,5 @@
 use Rattle.std.proofs.Common.{◌≡◌, Option}
+use Rattle.flow_types.specs.declared.plan.Plan.{Plan}
 use Rattle.local_run.specs.Underway.{IsSurePool}
 use Rattle.wq_run.specs.Dues.{IsIllLink}
 use Rattle.wq_run.specs.Keeping.{KeepsOn}
@@ -15,4 +16,5 @@ invariant-loop g l = record {
   due : g.H.Way.Link.tells → KeepsOn (IsIllLink g.F.Commands.gives g.F.Commands.may_fail g.H.Way.Link.history g.H.Way.Link.count g.H.Way.Link.idle_count g.H.Way.Link.is_closed l.fn.limit) g.H.Way.Link.history l.fn.desk.moves l.desk.moves l.fn.held.halt l.held.halt l.fn.company l.company (g.H.Hall.got l.fn.hall) (g.H.Hall.got l.hall);
   calm : (asked : Option Asked) → g.H.Way.Link.tells → IsSurePool g.B.Terms.fits → KeepsCalm (IsSureCompany g.F.Commands.gives g.F.Commands.may_fail g.H.Way.Link.history g.H.Way.Link.idle_count (IsSureOf g.H.Way.Link.sure g.H.Way.Link.offers asked) (IsComing g.H.Hall.sure g.H.Hall.staffed asked l.fn.hall) (IsUnmet g.H.Hall.manned g.H.Hall.idle_count asked l.fn.hall) l.fn.desk.moves l.fn.company) (IsSureCompany g.F.Commands.gives g.F.Commands.may_fail g.H.Way.Link.history g.H.Way.Link.idle_count (IsSureOf g.H.Way.Link.sure g.H.Way.Link.offers asked) (IsComing g.H.Hall.sure g.H.Hall.staffed asked l.hall) (IsUnmet g.H.Hall.manned g.H.Hall.idle_count asked l.hall) l.desk.moves l.company) l.fn.desk.moves l.desk.moves l.fn.held.halt l.held.halt l.fn.company l.company;
   met : Meets (g.H.Hall.count l.fn.hall) (g.H.Hall.count l.hall) (g.H.Hall.got l.fn.hall) (g.H.Hall.got l.hall) (g.H.Hall.given l.fn.hall) (g.H.Hall.given l.hall) (g.H.Hall.idle_count l.fn.hall) (g.H.Hall.idle_count l.hall) (inside_of l.fn.company) (inside_of l.company) l.fn.company.failed l.company.failed l.fn.company.lost l.company.lost;
+  stays : (P : Plan) → g.A.Admission.stands_for l.fn.admission P → g.A.Admission.stands_for l.admission P;
 }

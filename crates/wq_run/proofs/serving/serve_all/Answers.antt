@@ -31,6 +31,7 @@ returns-in_default g c = record {
   met = met_none;
   due = λ tells. due_halted _ _ halts.Memory refl;
   calm = λ asked tells is. calm_halted halts.Memory refl;
+  stays = λ P stands. stands;
 }
 
 pub returns : goal.returns
@@ -45,4 +46,5 @@ returns g c = record {
   met = c.serve_in.ensures.met;
   due = c.serve_in.ensures.due;
   calm = λ asked tells is. c.serve_in.ensures.calm asked tells (λ job outcome fits. fits.1 is);
+  stays = c.serve_in.ensures.stays;
 }

@@ -27,6 +27,7 @@ returns-in_default g c = record {
   met = met_none;
   due = λ tells. due_halted _ _ halts.Memory refl;
   calm = λ asked tells is. calm_halted halts.Memory refl;
+  stays = λ P stands. stands;
 }
 
 pub serve_beside-requires-clause-served : goal.serve_beside-requires-clause-served
@@ -38,6 +39,12 @@ finish-requires-clause-valid g c κs within =
     let m = begins_manned g.T.Terms.trust g.F.Commands.gives g.F.Commands.may_fail g.T.Terms.sources g.S.Site.tells g.T.Terms.kept (IsSurePool g.B.Terms.fits) g.S.Site.files g.S.Site.may_leave g.S.Site.moment g.S.Site.images_since c.args.desk.now c.new-held.result c.new-pool.result.0.waiting c.new-pool.result.0.heard c.args.company.now.seats c.new-held.ensures.attempts c.new-pool.ensures.pool.0 c.new-pool.ensures.pool.1 c.new-held.ensures.halt (λ told image. (g.met.S.Site g.world.𝓛 g.world.𝓜 g.world.𝓡 ((λ s x. x), (λ x. x), (λ x. x), λ x. x)).only_now told c.args.desk.now.site image) c.requires.fine c.requires.idle c.requires.seats c.requires.none in
     let n = c.serve_beside.ensures.served c.args.desk.now m in
     subst IsValid (sym (n.under.goes.plan ∙ sym m.under.goes.plan)) c.requires.valid
+
+pub finish-requires-clause-stands : goal.finish-requires-clause-stands
+finish-requires-clause-stands g c κs within =
+    let m = begins_manned g.T.Terms.trust g.F.Commands.gives g.F.Commands.may_fail g.T.Terms.sources g.S.Site.tells g.T.Terms.kept (IsSurePool g.B.Terms.fits) g.S.Site.files g.S.Site.may_leave g.S.Site.moment g.S.Site.images_since c.args.desk.now c.new-held.result c.new-pool.result.0.waiting c.new-pool.result.0.heard c.args.company.now.seats c.new-held.ensures.attempts c.new-pool.ensures.pool.0 c.new-pool.ensures.pool.1 c.new-held.ensures.halt (λ told image. (g.met.S.Site g.world.𝓛 g.world.𝓜 g.world.𝓡 ((λ s x. x), (λ x. x), (λ x. x), λ x. x)).only_now told c.args.desk.now.site image) c.requires.fine c.requires.idle c.requires.seats c.requires.none in
+    let n = c.serve_beside.ensures.served c.args.desk.now m in
+    subst (g.A.Admission.stands_for c.serve_beside.new.admission) (sym (n.under.goes.plan ∙ sym m.under.goes.plan)) (c.serve_beside.ensures.stays c.args.desk.now.plan c.requires.stands)
 
 pub finish-requires-clause-manned : goal.finish-requires-clause-manned
 finish-requires-clause-manned g c κs within =
@@ -63,4 +70,5 @@ returns g c =
       met = met_then c.serve_beside.ensures.met c.finish.ensures.met;
       due = λ tells. due_then _ _ (subst (λ (h : Option Halt). KeepsOn (IsIllLink g.F.Commands.gives g.F.Commands.may_fail g.H.Way.Link.history g.H.Way.Link.count g.H.Way.Link.idle_count g.H.Way.Link.is_closed c.args.limit) g.H.Way.Link.history c.args.desk.now.moves c.serve_beside.new.desk.moves h c.serve_beside.new.held.halt c.args.company.now c.serve_beside.new.company (g.H.Hall.got c.args.hall.now) (g.H.Hall.got c.serve_beside.new.hall)) c.new-held.ensures.halt (c.serve_beside.ensures.due tells)) (c.finish.ensures.due c.args.limit tells);
       calm = λ asked tells is. calm_then (subst (λ (h : Option Halt). KeepsCalm (IsSureCompany g.F.Commands.gives g.F.Commands.may_fail g.H.Way.Link.history g.H.Way.Link.idle_count (IsSureOf g.H.Way.Link.sure g.H.Way.Link.offers asked) (IsComing g.H.Hall.sure g.H.Hall.staffed asked c.args.hall.now) (IsUnmet g.H.Hall.manned g.H.Hall.idle_count asked c.args.hall.now) c.args.desk.now.moves c.args.company.now) (IsSureCompany g.F.Commands.gives g.F.Commands.may_fail g.H.Way.Link.history g.H.Way.Link.idle_count (IsSureOf g.H.Way.Link.sure g.H.Way.Link.offers asked) (IsComing g.H.Hall.sure g.H.Hall.staffed asked c.serve_beside.new.hall) (IsUnmet g.H.Hall.manned g.H.Hall.idle_count asked c.serve_beside.new.hall) c.serve_beside.new.desk.moves c.serve_beside.new.company) c.args.desk.now.moves c.serve_beside.new.desk.moves h c.serve_beside.new.held.halt c.args.company.now c.serve_beside.new.company) c.new-held.ensures.halt (c.serve_beside.ensures.calm asked tells is)) (c.finish.ensures.calm asked tells);
+      stays = λ P stands. c.finish.ensures.stays P (c.serve_beside.ensures.stays P stands);
     }

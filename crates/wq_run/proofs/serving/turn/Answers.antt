@@ -17,6 +17,12 @@ hear-ended-requires-clause-valid g c κs within =
     let n = c.start_more-started.ensures.served c.requires.served.first m in
     subst IsValid (sym (n.under.goes.plan ∙ sym m.under.goes.plan)) c.requires.valid
 
+pub hear-ended-requires-clause-stands : goal.hear-ended-requires-clause-stands
+hear-ended-requires-clause-stands g c κs within =
+    let m = c.requires.served.manned in
+    let n = c.start_more-started.ensures.served c.requires.served.first m in
+    subst (g.A.Admission.stands_for c.start_more-started.new.admission) (sym (n.under.goes.plan ∙ sym m.under.goes.plan)) (c.start_more-started.ensures.stays c.args.desk.now.plan c.requires.stands)
+
 pub hear-ended-requires-clause-told : goal.hear-ended-requires-clause-told
 hear-ended-requires-clause-told g c κs within =
     let m = c.requires.served.manned in
@@ -58,4 +64,5 @@ returns g c = record {
   met = met_then c.start_more-started.ensures.met c.round-told.ensures.met;
   due = λ tells. due_then _ _ (due_then _ _ (c.start_more-started.ensures.due c.args.limit tells) (due_spared _ _ c.hear-ended.ensures.spares (let s = c.start_more-started.ensures.served c.requires.served.first c.requires.served.manned in unlinked_by g.T.Terms.trust g.F.Commands.gives g.F.Commands.may_fail g.T.Terms.sources g.S.Site.tells g.S.Site.files g.S.Site.may_leave g.S.Site.moment g.S.Site.images_since s.away.links c.requires.served.first c.start_more-started.new.desk c.hear-ended.new.desk s.under.goes (c.hear-ended.ensures.underway s.away c.requires.served.first s.under).goes))) (c.round-told.ensures.due tells);
   calm = λ asked tells is. calm_then (calm_then (c.start_more-started.ensures.calm asked tells is) (let s = c.start_more-started.ensures.served c.requires.served.first c.requires.served.manned in calm_here c.hear-ended.new.held c.start_more-started.new.company is s (c.hear-ended.ensures.underway s.away c.requires.served.first s.under) c.hear-ended.ensures.spares (λ same was. company_moved g.F.Commands.gives g.F.Commands.may_fail g.H.Way.Link.history g.H.Way.Link.idle_count (IsSureOf g.H.Way.Link.sure g.H.Way.Link.offers asked) same was))) (c.round-told.ensures.calm asked tells);
+  stays = λ P stands. c.hear-ended.ensures.stays P (c.start_more-started.ensures.stays P stands);
 }

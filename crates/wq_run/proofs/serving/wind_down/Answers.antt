@@ -16,6 +16,12 @@ hear-requires-clause-valid g c κs within =
     let n = c.dismiss.ensures.manned c.requires.served.first c.args.pool.now.waiting c.args.pool.now.heard m in
     subst IsValid (sym (n.under.goes.plan ∙ sym m.under.goes.plan)) c.requires.valid
 
+pub hear-requires-clause-stands : goal.hear-requires-clause-stands
+hear-requires-clause-stands g c κs within =
+    let m = c.requires.served.manned in
+    let n = c.dismiss.ensures.manned c.requires.served.first c.args.pool.now.waiting c.args.pool.now.heard m in
+    subst (g.A.Admission.stands_for c.args.admission.now) (sym (n.under.goes.plan ∙ sym m.under.goes.plan)) (c.requires.stands)
+
 pub hear-requires-clause-told : goal.hear-requires-clause-told
 hear-requires-clause-told g c κs within =
     let m = c.requires.served.manned in
@@ -40,6 +46,7 @@ returns-then-not-hear g c = record {
   over = λ is. absurd (true≢false (sym is));
   due = λ limit tells stopped.
       due_then _ _ (c.dismiss.ensures.due limit tells stopped) (due_stopped _ _ (λ none fine kept. stopped_on _ _ (c.dismiss.ensures.due limit tells stopped) stopped (c.hear.ensures.spares none).0 fine kept));
+  stays = c.hear.ensures.stays;
 }
 
 pub returns-else-not-hear : goal.returns-else-not-hear
@@ -51,4 +58,5 @@ returns-else-not-hear g c = record {
   over = λ is. absurd (true≢false (sym is));
   due = λ limit tells stopped.
       due_then _ _ (c.dismiss.ensures.due limit tells stopped) (due_stopped _ _ (λ none fine kept. stopped_on _ _ (c.dismiss.ensures.due limit tells stopped) stopped (c.hear.ensures.spares none).0 fine kept));
+  stays = c.hear.ensures.stays;
 }
