@@ -8,6 +8,7 @@ use Rattle.flow_types.specs.declared.plan.Plan.{Plan}
 use Rattle.flow_types.specs.declared.records.Record.{Record}
 use Rattle.flow_types.specs.declared.records.Record.TheVariants as records
 use Rattle.flow_types.specs.Serial.{Contents, Function, serial}
+use Rattle.run_history.specs.Admissions.{all_admitted}
 use Rattle.run_history.specs.declared.options.Mode.{Mode}
 use Rattle.run_history.specs.declared.options.Options.{Options as RunOptions}
 use Rattle.outside.specs.Disk.{IsImage, Outcomes}
@@ -37,12 +38,12 @@ yields : (refusal : Option Cause) (rest : Type 0) → rest → Yields refusal ca
 yields (Some refusal) rest is = λ wrong. absurd (true≢false wrong)
 yields None rest is = is
 
-goes_on : (work : Work) (ask : Ask) (rise : ℕ) (H : List Record) (files : Files) → GoesOn work ask rise H files files [] causes.Memory
+goes_on : (work : Work) (ask : Ask) (rise : ℕ) (H : List Record) (files : Files) → GoesOn all_admitted work ask rise H files files [] causes.Memory
 goes_on works.Run ask rise H files = yields (run_refusal ask.plan ask.options H files) _ (inr tt)
 goes_on works.Clean ask rise H files = yields (clean_refusal ask.plan H) _ (λ wrong. absurd (true≢false wrong))
 goes_on works.PrintLog ask rise H files = yields (log_refusal ask.plan H) _ (λ wrong. absurd (true≢false wrong))
 
-call_ends : (asked : Result Ask Cause) (rise : ℕ) (files : Files) → CallEnds asked rise files files [] causes.Memory
+call_ends : (asked : Result Ask Cause) (rise : ℕ) (files : Files) → CallEnds all_admitted asked rise files files [] causes.Memory
 call_ends (Err refusal) rise files = ((λ wrong. absurd (true≢false wrong)), refl, refl)
 call_ends (Ok ask) rise files = record {
   damaged = λ at wrong. absurd (cc);
@@ -103,12 +104,13 @@ no_plan = record { rules = []; files = [] }
 
 -- a run that wasn't begun leaves what a run may
 run_leaves : {L : Type 0} (spells : List Record → Type 0) (told listens : Type 0) (gives : Function) (may_fail : Job → Failure → Type 0) (history : L → List Passed) (count idles : L → ℕ) (closed : L → Bool) (ask : Ask) (rise : ℕ) (got : List (Option LinkNo × L))
-    → RunLeaves spells told listens gives may_fail history count idles closed ask rise got got [] causes.Memory
+    → RunLeaves spells told listens gives may_fail history count idles closed all_admitted ask rise got got [] causes.Memory
 run_leaves spells told listens gives may_fail history count idles closed ask rise got = record {
   past = [];
   spelled = λ wrong. absurd (true≢false (sym wrong));
   added = inl (inl refl);
   places = places_none ask.plan ask.options [] ([], refl);
+  admitted = λ i moment rule attempt link from at. refl;
   modes = collects_none ask.plan ask.options.mode [] ([], refl);
   lost = λ alone keeps. absurd (true≢false keeps);
   lost_away = λ keeps. absurd (true≢false keeps);
@@ -124,7 +126,7 @@ module _ {A B L C D : Type 0} (F : CommandWords) (S : SiteWords A) (H : HallWord
   abbrev pub here : Stand A B C D
   here = stand site hall runners out
 
-  early_always : HoldsAlways F S H R O line env here here causes.Memory []
+  early_always : HoldsAlways F S H R O all_admitted line env here here causes.Memory []
   early_always = record {
     words = words_end (choice line);
     faults = tt;
@@ -149,7 +151,7 @@ module _ {A B L C D : Type 0} (F : CommandWords) (S : SiteWords A) (H : HallWord
     spare = λ options chosen. refl;
   }
 
-  early_files : S.tells → HoldsOfFiles F S H R O line env here here causes.Memory []
+  early_files : S.tells → HoldsOfFiles F S H R O all_admitted line env here here causes.Memory []
   early_files t = record {
     ends = call_ends (request line env (S.files site)) (H.idle_count hall - H.idle_count hall) (S.files site);
     untouched = λ wrong. refl;
@@ -166,7 +168,7 @@ module _ {A B L C D : Type 0} (F : CommandWords) (S : SiteWords A) (H : HallWord
     resumable = λ ask asked keeps image left. keeps image (only t image left);
   }
 
-  early_log : S.tells → (ask : Ask) (past : List Record) → HoldsOfRecords F S H R O line env here here causes.Memory [] ask past
+  early_log : S.tells → (ask : Ask) (past : List Record) → HoldsOfRecords F S H R O all_admitted line env here here causes.Memory [] ask past
   early_log t ask past = record {
     records = inr (refl, refl);
     unread = λ nothing. record {
@@ -189,13 +191,13 @@ module _ {A B L C D : Type 0} (F : CommandWords) (S : SiteWords A) (H : HallWord
     now = λ resumable uncut. absurd (uncut refl);
   }
 
-  early_links : (ask : Ask) (past : List Record) → HoldsOfLinks F S H R O line env here here causes.Memory [] ask past
+  early_links : (ask : Ask) (past : List Record) → HoldsOfLinks F S H R O all_admitted line env here here causes.Memory [] ask past
   early_links ask past = record {
     due_losses = λ options chosen keeps. absurd (true≢false keeps);
     results = λ away work keeps. absurd (true≢false keeps);
   }
 
-  early_trust : S.tells → (ask : Ask) (past : List Record) → HoldsByTrust F S H R O line env here here causes.Memory [] told ask past
+  early_trust : S.tells → (ask : Ask) (past : List Record) → HoldsByTrust F S H R O all_admitted line env here here causes.Memory [] told ask past
   early_trust t ask past = record {
     contents = λ trust image left. inl (entry_before ask.log (S.files site ask.log) (S.may_leave site) image (only t image left));
     honest = λ trust. adds_none F.gives F.may_fail (read_sources ask.plan (S.files site)) ask.plan past;

@@ -5,6 +5,7 @@ use Rattle.flow_types.specs.declared.job.Job.{Job}
 use Rattle.flow_types.specs.declared.plan.Plan.{Plan}
 use Rattle.flow_types.specs.declared.records.Record.{Record}
 use Rattle.flow_types.specs.Serial.{Contents, job_of, serial}
+use Rattle.run_history.specs.Admissions.{all_admitted}
 use Rattle.run_history.specs.declared.options.Options.{Options as RunOptions}
 use Rattle.local_run.specs.Course.{TellsJobs}
 use Rattle.local_run.specs.Runs.{read_sources}
@@ -24,11 +25,11 @@ module _ {A B L C D : Type 0} {F : CommandWords} {S : SiteWords A} {H : HallWord
     {line : List (String Global)} {env : List (String Global × String Global)} {old new : Stand A B C D} {cause : Cause} {written : List Record} where
   -- what rests on trust, where it is asked of more jobs
   trusted : (told wider : Job → Type 0) → ((job : Job) → wider job → told job) → (ask : Ask) (past : List Record)
-      → HoldsByTrust F S H R O line env old new cause written told ask past → HoldsByTrust F S H R O line env old new cause written wider ask past
+      → HoldsByTrust F S H R O all_admitted line env old new cause written told ask past → HoldsByTrust F S H R O all_admitted line env old new cause written wider ask past
   trusted told wider all ask past holds =
       let jobs : TellsJobs ask.plan ask.options wider (serial ask.plan F.gives (read_sources ask.plan (S.files old.site))) → TellsJobs ask.plan ask.options told (serial ask.plan F.gives (read_sources ask.plan (S.files old.site))) =
       more_told ask.plan ask.options told wider (serial ask.plan F.gives (read_sources ask.plan (S.files old.site))) all in
-      let trust : IsTrusted F S H R O line env old new cause written wider ask past → IsTrusted F S H R O line env old new cause written told ask past =
+      let trust : IsTrusted F S H R O all_admitted line env old new cause written wider ask past → IsTrusted F S H R O all_admitted line env old new cause written told ask past =
       λ is. record { linked = is.linked; resumable = is.resumable; jobs = jobs is.jobs } in
       record {
         contents = λ is. holds.contents (trust is);

@@ -1,7 +1,8 @@
 -- Where attempts of a run are started.
-use Rattle.std.proofs.Common.{◌≡◌, ◌∙◌, ℕ, true, ◌&&◌, List, [], ◌∷◌, ◌++◌, length, map, refl, sym, ap, subst, append_assoc}
-use Rattle.std.specs.Prelude.{All, drop, is_none, take}
+use Rattle.std.proofs.Common.{◌≡◌, ◌∙◌, ℕ, true, true≢false, ◌&&◌, List, [], ◌∷◌, ◌++◌, length, map, refl, sym, ap, subst, append_assoc}
+use Rattle.std.specs.Prelude.{All, drop, is_none, is_some, slice_get, take}
 use Rattle.std.proofs.lemmas.Bool.{and_parts}
+use Rattle.std.proofs.lemmas.Option.{slice_get_past}
 use Rattle.std.proofs.lemmas.List.{append-nil, map-append}
 use Rattle.std.proofs.lemmas.List.Elements.{All-nil, All-cons}
 use Rattle.std.proofs.Math.Seq.{take-append_seam}
@@ -14,6 +15,7 @@ use Rattle.flow_types.specs.Serial.{Contents, Function}
 use Rattle.run_history.specs.declared.options.Options.{Options}
 use Rattle.run_history.specs.declared.moves.Move.{Move}
 use Rattle.run_history.specs.declared.moves.Move.TheVariants as moves
+use Rattle.run_history.specs.Admissions.{Admitting}
 use Rattle.run_history.specs.Legal.{is_allowed, is_legal}
 use Rattle.run_history.specs.Links.{fits, is_live, may_run_on, records_of}
 use Rattle.run_history.specs.Moves.{all_follow, is_served, may_follow, serves}
@@ -21,6 +23,7 @@ use Rattle.run_history.specs.Storage.{wanted}
 use Rattle.rule_graph.specs.Spelling.{plan_digest}
 use Rattle.outside.specs.Disk.{Outcomes}
 use Rattle.outside.specs.Files.{Files}
+use Rattle.desk.specs.Admitted.{AreAdmitted}
 use Rattle.desk.specs.Asked.{first_records}
 use Rattle.desk.specs.State.{DeskState}
 use Rattle.local_run.specs.Course.{GoesOn}
@@ -100,3 +103,8 @@ placed_none P O H all same = record {
   are = same ∙ sym (append-nil H);
   each = All-nil (StartsWhere P O);
 }
+
+-- nor any start
+pub admitted_none : (A : Admitting) (P : Plan) (O : Options) (H all : List Record) → all ≡ H → AreAdmitted A P O all (length H)
+admitted_none A P O H all same i moment rule attempt link since is =
+    absurd (true≢false (ap is_some (sym is ∙ ap (λ (G : List Record). slice_get G i) same ∙ slice_get_past H i since)))

@@ -19,6 +19,7 @@ use Rattle.run_history.specs.declared.answers.Stop.TheVariants as stops
 use Rattle.run_history.specs.declared.moves.Move.{Move}
 use Rattle.run_history.specs.declared.options.Options.{Options}
 use Rattle.run_history.specs.declared.states.FileState.{FileState}
+use Rattle.run_history.specs.Admissions.{Admitting}
 use Rattle.run_history.specs.Answers.{before_end, end_over, has_ended, is_halt, or_else, passes_inputs, where_so}
 use Rattle.run_history.specs.History.{is_end, since_opening}
 use Rattle.run_history.specs.Legal.{most_records}
@@ -67,10 +68,10 @@ reached_by limit (checks.NoRoom rule need stored most) is over = is
 reached_by limit (checks.Waited wait) is over = tt
 reached_by limit checks.Halted is over = absurd over
 
-unstopped : (P : Plan) (O : Options) (M : List Move) (limit rise : ℕ) (stop : Option Stop) → IsVain P O M limit rise stop → option_map_or is_halt stop false ≡ false
-unstopped P O M limit rise None vain = refl
-unstopped P O M limit rise (Some (stops.Waited idles)) vain = refl
-unstopped P O M limit rise (Some stops.Halt) vain = absurd vain
+unstopped : (A : Admitting) (P : Plan) (O : Options) (M : List Move) (limit rise : ℕ) (stop : Option Stop) → IsVain A P O M limit rise stop → option_map_or is_halt stop false ≡ false
+unstopped A P O M limit rise None vain = refl
+unstopped A P O M limit rise (Some (stops.Waited idles)) vain = refl
+unstopped A P O M limit rise (Some stops.Halt) vain = absurd vain
 
 going_first : (b : Bool) (rest : Option Check) → b ≡ false → unwrap_or (or_else (where_so (not b) checks.Going) rest) checks.Going ≡ checks.Going
 going_first true rest is = absurd (true≢false is)
@@ -191,10 +192,10 @@ well_before P O a u H rest fresh anew legal split same unended well =
     }
 
 -- A run that began over these records, and in which no attempt failed and none was given up, ends well where the inputs are within their limit and the log has room.
-pub reached_so : (P : Plan) (O : Options) (limit rise : ℕ) (first all : List Move) (u : List Record) (check : Check) → records_of all ≡ records_of first ++ u → list_any begins_anew u ≡ false → IsFresh O.limit (records_of first) → IsLegal P (records_of all)
-    → EndsHere P O limit rise all check → GoesWell (records_of first) (records_of all) → ((r : ℕ) → passes_inputs P (records_of all) r ≡ false) → records_due P (records_of first) + 1 ≤ most_records
+pub reached_so : (A : Admitting) (P : Plan) (O : Options) (limit rise : ℕ) (first all : List Move) (u : List Record) (check : Check) → records_of all ≡ records_of first ++ u → list_any begins_anew u ≡ false → IsFresh O.limit (records_of first) → IsLegal P (records_of all)
+    → EndsHere A P O limit rise all check → GoesWell (records_of first) (records_of all) → ((r : ℕ) → passes_inputs P (records_of all) r ≡ false) → records_due P (records_of first) + 1 ≤ most_records
     → ((r : ℕ) → passes_inputs P (before_end (records_of all)) r ≡ false) × IsReached O.limit check
-reached_so P O limit rise first all u check grown anew fresh legal ends well fit few =
+reached_so A P O limit rise first all u check grown anew fresh legal ends well fit few =
     let a = records_of first in
     let H = records_of ends.ends.moves in
     let rest = records_of ends.more in
@@ -210,7 +211,7 @@ reached_so P O limit rise first all u check grown anew fresh legal ends well fit
       (λ r. ap (λ (G : List Record). passes_inputs P G r) (sym ends.ends.logged) ∙ small r),
       reached_by O.limit check
           (subst (Reaches O.limit) (sym answer)
-          (well_says (Reaches O.limit) P O H stop is.limited (unstopped P O ends.ends.moves limit rise stop ends.ends.vain) is.sound small (omega (arith, none)) (omega (arith, due, few)) tt tt (λ idles r waits. tt) (λ r most at. at))) ends.ends.over,
+          (well_says (Reaches O.limit) P O H stop is.limited (unstopped A P O ends.ends.moves limit rise stop ends.ends.vain) is.sound small (omega (arith, none)) (omega (arith, due, few)) tt tt (λ idles r waits. tt) (λ r most at. at))) ends.ends.over,
     )
 
 complete_by : (limit : Option ℕ) (check : Check) (small : Type 0) → small → IsReached limit check → IfWaited check (small → ⊥) → IsCompleteEnd limit check
@@ -224,14 +225,14 @@ complete_by limit (checks.Waited wait) small is reached never = absurd (never is
 complete_by limit checks.Halted small is reached never = absurd reached
 
 -- The same of how a run ended, which over a manned hall doesn't wait in vain.
-pub reached_whole : (P : Plan) (O : Options) (limit rise : ℕ) (first all : List Move) (u : List Record) (how : Result Check Stopped) → records_of all ≡ records_of first ++ u → list_any begins_anew u ≡ false → IsFresh O.limit (records_of first)
-    → IsLegal P (records_of all) → IfOk how (EndsHere P O limit rise all) → OnOk how (GoesWell (records_of first) (records_of all)) → ((IsCutRun how → ⊥) → (r : ℕ) → passes_inputs P (records_of all) r ≡ false)
+pub reached_whole : (A : Admitting) (P : Plan) (O : Options) (limit rise : ℕ) (first all : List Move) (u : List Record) (how : Result Check Stopped) → records_of all ≡ records_of first ++ u → list_any begins_anew u ≡ false → IsFresh O.limit (records_of first)
+    → IsLegal P (records_of all) → IfOk how (EndsHere A P O limit rise all) → OnOk how (GoesWell (records_of first) (records_of all)) → ((IsCutRun how → ⊥) → (r : ℕ) → passes_inputs P (records_of all) r ≡ false)
     → records_due P (records_of first) + 1 ≤ most_records
     → IfOk how (IsReached O.limit) × (IfOk how (λ check. IfWaited check (((r : ℕ) → passes_inputs P (before_end (records_of all)) r ≡ false) → ⊥)) → IfOk how (IsCompleteEnd O.limit))
-reached_whole P O limit rise first all u (Ok check) grown anew fresh legal ends well fit few =
-    let reached = reached_so P O limit rise first all u check grown anew fresh legal ends well (fit (λ cut. cut)) few in
+reached_whole A P O limit rise first all u (Ok check) grown anew fresh legal ends well fit few =
+    let reached = reached_so A P O limit rise first all u check grown anew fresh legal ends well (fit (λ cut. cut)) few in
     (reached.1, λ never. complete_by O.limit check ((r : ℕ) → passes_inputs P (before_end (records_of all)) r ≡ false) reached.0 reached.1 never)
-reached_whole P O limit rise first all u (Err why) grown anew fresh legal ends well fit few = (tt, λ never. tt)
+reached_whole A P O limit rise first all u (Err why) grown anew fresh legal ends well fit few = (tt, λ never. tt)
 
 spared_sure : (why : Stopped) → (let how : Result Check Stopped = Err why in IsSparedRunners how) → (let how : Result Check Stopped = Err why in IsSureEnd how)
 spared_sure (stopped.Refused why) spared = tt

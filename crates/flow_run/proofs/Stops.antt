@@ -13,6 +13,7 @@ use Rattle.flow_types.specs.Serial.{Contents, Function}
 use Rattle.run_history.specs.declared.answers.Check.{Check}
 use Rattle.run_history.specs.declared.moves.Move.{Move}
 use Rattle.run_history.specs.declared.options.Options.{Options}
+use Rattle.run_history.specs.Admissions.{Admitting}
 use Rattle.run_history.specs.Links.{records_of}
 use Rattle.outside.specs.Disk.{Outcomes}
 use Rattle.outside.specs.Files.{Files}
@@ -33,9 +34,9 @@ use Rattle.wq_run.specs.Ends.{AreBack, EndsHere, EndsWaiting, IsSparedRunners, S
 -- ---- of a run with workers
 
 -- an end at a desk, told by the records of its log
-pub waits_logged : (P : Plan) (O : Options) (limit rise : ℕ) (M : List Move) (how : Result Check Stopped) → IfOk how (EndsHere P O limit rise M) → IfOk how (EndsWaiting P O limit rise (records_of M))
-waits_logged P O limit rise M (Ok check) ends = ends.ends
-waits_logged P O limit rise M (Err why) ends = tt
+pub waits_logged : (A : Admitting) (P : Plan) (O : Options) (limit rise : ℕ) (M : List Move) (how : Result Check Stopped) → IfOk how (EndsHere A P O limit rise M) → IfOk how (EndsWaiting A P O limit rise (records_of M))
+waits_logged A P O limit rise M (Ok check) ends = ends.ends
+waits_logged A P O limit rise M (Err why) ends = tt
 
 -- ---- of a run without workers
 

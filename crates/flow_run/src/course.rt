@@ -35,7 +35,7 @@ use run_history::Check;
 use std::alloc::Global;
 use std::sync::Wait;
 use std::thread::Threads;
-use task_core::AdmitAll;
+use task_core::Admission;
 use worker_pool::Gate;
 use wq_run::{Trust, Workers};
 
@@ -59,11 +59,13 @@ pub fn work<
     R: Runner<F>,
     C: Clock,
     T: Terms + Trust,
+    A: Admission,
 >(
     rt: &W,
     alloc: Global,
     wq: bool,
-    desk: &mut Desk<F, S, T, AdmitAll>,
+    desk: &mut Desk<F, S, T, A>,
+    admission: &mut A,
     hall: &mut H,
     workers: Workers,
     runners: &mut [R],
@@ -73,6 +75,7 @@ pub fn work<
     requires some { 0 < length runners.old }
     requires asked { wq ≡ desk.old.options.wq }
     requires valid { IsValid desk.old.plan }
+    requires stands { A.stands_for admission.old desk.old.plan }
     requires fine { IsFine desk.old.trouble }
     requires unset { desk.old.stop ≡ None }
     requires fresh { IsFresh desk.old.options.limit (records_of desk.old.moves) }
@@ -126,13 +129,13 @@ pub fn work<
         → NeedsAtMost desk.old.plan desk.old.options least
         → IfOk result (λ check. IfWaited check (((r : ℕ) → passes_inputs desk.new.plan
         (before_end (records_of desk.new.moves)) r ≡ false) → ⊥)) }
-    ensures waited { desk.old.options.wq ≡ true → IfOk result (EndsHere desk.new.plan
+    ensures waited { desk.old.options.wq ≡ true → IfOk result (EndsHere A.admitted desk.new.plan
         desk.new.options workers.limit (H.idle_count hall.new - H.idle_count hall.old)
         desk.new.moves) }
     ensures vain { desk.old.options.wq ≡ true → H.Way.tells
         → joins_and_changes desk.old.moves ≡ 0 → IfOk result (λ check. IfWaited check (AreVain
         F.gives F.may_fail H.Way.history H.Way.count H.Way.idle_count H.Way.is_closed
-        workers.limit desk.new.plan desk.new.options (before_end (records_of desk.new.moves))
+        workers.limit A.admitted desk.new.plan desk.new.options (before_end (records_of desk.new.moves))
         (H.got hall.old) (H.got hall.new))) }
     ensures lost { desk.old.options.wq ≡ false
         → (began : List RecordValue) → BeganOver desk.old began
@@ -153,8 +156,10 @@ pub fn work<
         → IfOk result (IsCompleteEnd desk.old.options.limit) }
 {
     if wq {
-        wq_run::work(rt, alloc, desk, hall, workers, runners, gate, clock)
+        wq_run::work(
+            rt, alloc, desk, admission, hall, workers, runners, gate, clock,
+        )
     } else {
-        ended_by(local_run::work(rt, alloc, desk, runners, gate, clock))
+        ended_by(local_run::work(rt, alloc, desk, admission, runners, gate, clock))
     }
 }

@@ -23,7 +23,7 @@ use local_run::Stopped;
 use outside::{Commands, Fault, Site};
 use run_history::Options;
 use std::alloc::Global;
-use task_core::AdmitAll;
+use task_core::Admission;
 use txn_log::Log;
 
 /// Why a run wasn't opened.
@@ -65,7 +65,7 @@ fn opening_fault(why: StartFault) -> Fault
 
 /// The desk of a run over the records of a log, which is opened once the hall listens, where workers
 /// are asked for. Where the hall can't, nothing is logged.
-pub(crate) fn open<F: Commands, S: Site, H: Hall<F>, T: Terms>(
+pub(crate) fn open<F: Commands, S: Site, H: Hall<F>, T: Terms, A: Admission>(
     alloc: Global,
     plan: Plan,
     site: S,
@@ -75,7 +75,7 @@ pub(crate) fn open<F: Commands, S: Site, H: Hall<F>, T: Terms>(
     moment: u64,
     hall: &mut H,
     port: u16,
-) -> Result<Desk<F, S, T, AdmitAll>, Unopened<S>>
+) -> Result<Desk<F, S, T, A>, Unopened<S>>
     requires valid { IsValid plan }
     requires takes { Takes log history }
     requires gate { S.tells → IsAt history log.gate (S.may_leave site log.name) }
@@ -113,9 +113,7 @@ pub(crate) fn open<F: Commands, S: Site, H: Hall<F>, T: Terms>(
         → H.manned hall.old amounts → H.manned hall.new amounts }
     ensures met { H.count hall.old ≤ H.count hall.new }
 {
-    let ready = match Desk::<F, S, T, AdmitAll>::ready(
-        alloc, plan, site, log, history, options, moment,
-    ) {
+    let ready = match Desk::<F, S, T, A>::ready(alloc, plan, site, log, history, options, moment) {
         Ok(ready) => ready,
         Err(StartRefused { why, site, history }) => {
             return Err(Unopened {

@@ -13,6 +13,7 @@ ghost use Rattle.outside.specs.Files.{Files};
 ghost use Rattle.txn_log.specs.Spells.{Spells};
 ghost use Rattle.file_store.specs.Outputs.{file_name};
 ghost use Rattle.worker_pool.specs.Crews.{AllSure, AllTell};
+ghost use Rattle.desk.specs.Admitted.{AreAdmitted};
 ghost use Rattle.desk.specs.Kept.{IsLegal, Keeps, ReadsStay, StaysBeside};
 ghost use Rattle.log_recover.specs.declared.fault.RecoverFault.TheVariants as faults;
 ghost use Rattle.log_recover.specs.Recovery.{IsRecovering};
@@ -49,6 +50,7 @@ use run_history::Options;
 use std::alloc::Global;
 use std::sync::Wait;
 use std::thread::Threads;
+use task_core::Admission;
 use worker_pool::Gate;
 use wq_run::Workers;
 
@@ -64,11 +66,13 @@ pub fn resume<
     H: Hall<F>,
     R: Runner<F>,
     C: Clock,
+    A: Admission,
     B: Born,
 >(
     rt: &W,
     alloc: Global,
     plan: Plan,
+    admission: &mut A,
     site: S,
     name: Name,
     options: Options,
@@ -80,6 +84,7 @@ pub fn resume<
 ) -> Result<RunEnded<S>, ResumeRefused<S>>
     requires some { 0 < length runners.old }
     requires valid { IsValid plan }
+    requires stands { A.stands_for admission.old plan }
     requires apart { (f : ℕ) → file_name plan f ≢ «name» }
     requires later { S.tells → B.born ≤ S.moment site }
     ensures damaged { IfErr result (λ refused. S.tells
@@ -108,7 +113,7 @@ pub fn resume<
     ensures over { IfOk result (λ ended.
         RunsOver (λ past. S.tells → Spells past (S.files site «name»)) H.Way.tells F.gives
         F.may_fail H.Way.history H.Way.count H.Way.idle_count H.Way.is_closed workers.limit
-        (H.got hall.old) (H.got hall.new) plan options ended.records ended.how) }
+        (H.got hall.old) (H.got hall.new) A.admitted plan options ended.records ended.how) }
     ensures honest { IfOk result (λ ended. (options.wq ≡ true → H.honest hall.old)
         → S.tells → (H : List RecordValue)
         → Spells H (S.files site «name»)
@@ -148,11 +153,11 @@ pub fn resume<
     ensures ends { IfOk result (λ ended. options.wq ≡ false → IfOk ended.how (λ check. check
         ≡ end_over plan options (before_end ended.records) None)) }
     ensures waited { IfOk result (λ ended. options.wq ≡ true → IfOk ended.how
-        (EndsWaiting plan options workers.limit
+        (EndsWaiting A.admitted plan options workers.limit
         (H.idle_count hall.new - H.idle_count hall.old) ended.records)) }
     ensures vain { IfOk result (λ ended. options.wq ≡ true → H.Way.tells
         → IfOk ended.how (λ check. IfWaited check (AreVain F.gives F.may_fail H.Way.history
-        H.Way.count H.Way.idle_count H.Way.is_closed workers.limit plan options
+        H.Way.count H.Way.idle_count H.Way.is_closed workers.limit A.admitted plan options
         (before_end ended.records) (H.got hall.old) (H.got hall.new)))) }
     ensures others { IfOk result (λ ended. S.tells → StaysBeside S.may_leave S.moment
         S.images_since (IsUnmade plan «name») site ended.site) }
@@ -197,6 +202,9 @@ pub fn resume<
     ensures places { IfOk result (λ ended. S.tells → (H : List RecordValue)
         → Spells H (S.files site «name»)
         → PlacedBy plan options H ended.records) }
+    ensures admitted { IfOk result (λ ended. S.tells → (H : List RecordValue)
+        → Spells H (S.files site «name»)
+        → AreAdmitted A.admitted plan options ended.records (length H)) }
     ensures gone { IfOk result (λ ended. S.tells → (IsCutRun ended.how → ⊥)
         → (H : List RecordValue) → Spells H (S.files site «name»)
         → AreGone plan (S.files ended.site) H ended.records) }
@@ -271,8 +279,9 @@ pub fn resume<
     files_spell_one_list();
     let mut site = site;
     match recover(alloc, &mut site, name) {
-        Ok((log, history)) => Ok(run::<W, G, F, S, H, R, C, B>(
-            rt, alloc, plan, site, log, history, options, hall, workers, runners, gate, clock,
+        Ok((log, history)) => Ok(run::<W, G, F, S, H, R, C, A, B>(
+            rt, alloc, plan, admission, site, log, history, options, hall, workers, runners, gate,
+            clock,
         )),
         Err(why) => Err(ResumeRefused { why, site }),
     }

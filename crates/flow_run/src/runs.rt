@@ -18,6 +18,7 @@ ghost use Rattle.outside.specs.Files.{Files};
 ghost use Rattle.txn_log.specs.Logs.{IsAt};
 ghost use Rattle.file_store.specs.Outputs.{file_name};
 ghost use Rattle.worker_pool.specs.Crews.{AllSure, AllTell};
+ghost use Rattle.desk.specs.Admitted.{AreAdmitted};
 ghost use Rattle.desk.specs.Kept.{Fits, IsLegal, Keeps, ReadsStay, StaysBeside, WasKept};
 ghost use Rattle.desk.specs.State.{IsFine, Takes};
 ghost use Rattle.local_run.specs.Added.{AddsRun, RunAdds};
@@ -55,7 +56,7 @@ use std::alloc::Global;
 use std::marker::Brand;
 use std::sync::Wait;
 use std::thread::Threads;
-use task_core::AdmitAll;
+use task_core::Admission;
 use txn_log::Log;
 use worker_pool::Gate;
 use wq_run::{Trust, Workers};
@@ -70,11 +71,13 @@ fn run_desk<
     R: Runner<F>,
     C: Clock,
     T: Terms + Trust,
+    A: Admission,
 >(
     rt: &W,
     alloc: Global,
     wq: bool,
-    desk: Desk<F, S, T, AdmitAll>,
+    desk: Desk<F, S, T, A>,
+    admission: &mut A,
     hall: &mut H,
     workers: Workers,
     runners: &mut [R],
@@ -84,6 +87,7 @@ fn run_desk<
     requires some { 0 < length runners.old }
     requires asked { wq ≡ desk.options.wq }
     requires valid { IsValid desk.plan }
+    requires stands { A.stands_for admission.old desk.plan }
     requires fine { IsFine desk.trouble }
     requires unset { desk.stop ≡ None }
     requires fresh { IsFresh desk.options.limit (records_of desk.moves) }
@@ -125,11 +129,11 @@ fn run_desk<
     ensures ends { desk.options.wq ≡ false → IfOk result.how (λ check. check
         ≡ end_over desk.plan desk.options (before_end result.records) None) }
     ensures waited { desk.options.wq ≡ true → IfOk result.how
-        (EndsWaiting desk.plan desk.options workers.limit
+        (EndsWaiting A.admitted desk.plan desk.options workers.limit
         (H.idle_count hall.new - H.idle_count hall.old) result.records) }
     ensures vain { desk.options.wq ≡ true → H.Way.tells → joins_and_changes desk.moves ≡ 0
         → IfOk result.how (λ check. IfWaited check (AreVain F.gives F.may_fail H.Way.history
-        H.Way.count H.Way.idle_count H.Way.is_closed workers.limit desk.plan desk.options
+        H.Way.count H.Way.idle_count H.Way.is_closed workers.limit A.admitted desk.plan desk.options
         (before_end result.records) (H.got hall.old) (H.got hall.new))) }
     ensures others { S.tells → LeavesAlone S.files S.may_leave S.moment S.images_since
         (IsUnmade desk.plan desk.log) desk.site result.site }
@@ -148,6 +152,7 @@ fn run_desk<
         → RunCollects desk.plan desk.options.mode result.records }
     ensures places { (H : List RecordValue) → BeganOver desk H
         → PlacedBy desk.plan desk.options H result.records }
+    ensures admitted { AreAdmitted A.admitted desk.plan desk.options result.records desk.base }
     ensures gone { S.tells → (IsCutRun result.how → ⊥) → IsApart desk.plan desk.log
         → AreGone desk.plan (S.files result.site) (records_of desk.moves) result.records }
     ensures opened { (O : OptionsValue) → OpensBy O (records_of desk.moves)
@@ -195,7 +200,7 @@ fn run_desk<
 {
     let mut desk = desk;
     let how = work(
-        rt, alloc, wq, &mut desk, hall, workers, runners, gate, clock,
+        rt, alloc, wq, &mut desk, admission, hall, workers, runners, gate, clock,
     );
     let _works = desk.works();
     let (site, records) = desk.into_parts();
@@ -212,10 +217,12 @@ fn run_by<
     R: Runner<F>,
     C: Clock,
     T: Terms + Trust,
+    A: Admission,
 >(
     rt: &W,
     alloc: Global,
     plan: Plan,
+    admission: &mut A,
     site: S,
     log: Log,
     history: Rows<Record>,
@@ -228,6 +235,7 @@ fn run_by<
 ) -> RunEnded<S>
     requires some { 0 < length runners.old }
     requires valid { IsValid plan }
+    requires stands { A.stands_for admission.old plan }
     requires takes { Takes log history }
     requires gate { S.tells → IsAt history log.gate (S.may_leave site log.name) }
     requires apart { (f : ℕ) → file_name plan f ≢ log.name }
@@ -265,11 +273,11 @@ fn run_by<
         → OnOk result.how (GoesWell history result.records) }
     ensures ends { options.wq ≡ false → IfOk result.how (λ check. check
         ≡ end_over plan options (before_end result.records) None) }
-    ensures waited { options.wq ≡ true → IfOk result.how (EndsWaiting plan options workers.limit
+    ensures waited { options.wq ≡ true → IfOk result.how (EndsWaiting A.admitted plan options workers.limit
         (H.idle_count hall.new - H.idle_count hall.old) result.records) }
     ensures vain { options.wq ≡ true → H.Way.tells
         → IfOk result.how (λ check. IfWaited check (AreVain F.gives F.may_fail H.Way.history
-        H.Way.count H.Way.idle_count H.Way.is_closed workers.limit plan options
+        H.Way.count H.Way.idle_count H.Way.is_closed workers.limit A.admitted plan options
         (before_end result.records) (H.got hall.old) (H.got hall.new))) }
     ensures others { S.tells → StaysBeside S.may_leave S.moment S.images_since
         (IsUnmade plan log.name) site result.site }
@@ -290,6 +298,7 @@ fn run_by<
     ensures collects { (IsRefusedRun result.how → ⊥)
         → RunCollects plan options.mode result.records }
     ensures places { PlacedBy plan options history result.records }
+    ensures admitted { AreAdmitted A.admitted plan options result.records (length history) }
     ensures gone { S.tells → (IsCutRun result.how → ⊥)
         → AreGone plan (S.files result.site) history result.records }
     ensures unused { IsRefusedRun result.how → runners.new ≡ runners.old }
@@ -331,7 +340,7 @@ fn run_by<
         → SerialInputsFit plan F.gives T.sources → HasRecordRoom plan history
         → IfOk result.how (IsCompleteEnd options.limit) }
 {
-    match open::<F, S, H, T>(
+    match open::<F, S, H, T, A>(
         alloc,
         plan,
         site,
@@ -343,7 +352,7 @@ fn run_by<
         workers.port,
     ) {
         Ok(desk) => run_desk(
-            rt, alloc, options.wq, desk, hall, workers, runners, gate, clock,
+            rt, alloc, options.wq, desk, admission, hall, workers, runners, gate, clock,
         ),
         Err(unopened) => {
             let Unopened { site, records, why } = unopened;
@@ -372,11 +381,13 @@ pub fn run<
     H: Hall<F>,
     R: Runner<F>,
     C: Clock,
+    A: Admission,
     B: Born,
 >(
     rt: &W,
     alloc: Global,
     plan: Plan,
+    admission: &mut A,
     site: S,
     log: Log,
     history: Rows<Record>,
@@ -389,6 +400,7 @@ pub fn run<
 ) -> RunEnded<S>
     requires some { 0 < length runners.old }
     requires valid { IsValid plan }
+    requires stands { A.stands_for admission.old plan }
     requires takes { Takes log history }
     requires gate { S.tells → IsAt history log.gate (S.may_leave site log.name) }
     requires apart { (f : ℕ) → file_name plan f ≢ log.name }
@@ -415,11 +427,11 @@ pub fn run<
         → OnOk result.how (GoesWell history result.records) }
     ensures ends { options.wq ≡ false → IfOk result.how (λ check. check
         ≡ end_over plan options (before_end result.records) None) }
-    ensures waited { options.wq ≡ true → IfOk result.how (EndsWaiting plan options workers.limit
+    ensures waited { options.wq ≡ true → IfOk result.how (EndsWaiting A.admitted plan options workers.limit
         (H.idle_count hall.new - H.idle_count hall.old) result.records) }
     ensures vain { options.wq ≡ true → H.Way.tells
         → IfOk result.how (λ check. IfWaited check (AreVain F.gives F.may_fail H.Way.history
-        H.Way.count H.Way.idle_count H.Way.is_closed workers.limit plan options
+        H.Way.count H.Way.idle_count H.Way.is_closed workers.limit A.admitted plan options
         (before_end result.records) (H.got hall.old) (H.got hall.new))) }
     ensures others { S.tells → StaysBeside S.may_leave S.moment S.images_since
         (IsUnmade plan log.name) site result.site }
@@ -452,6 +464,7 @@ pub fn run<
     ensures collects { (IsRefusedRun result.how → ⊥)
         → RunCollects plan options.mode result.records }
     ensures places { PlacedBy plan options history result.records }
+    ensures admitted { AreAdmitted A.admitted plan options result.records (length history) }
     ensures gone { S.tells → (IsCutRun result.how → ⊥)
         → AreGone plan (S.files result.site) history result.records }
     ensures unused { IsRefusedRun result.how → runners.new ≡ runners.old }
@@ -510,7 +523,8 @@ pub fn run<
         → S.count result.site ≤ S.count site → H.count hall.new ≤ H.count hall.old
         → IsDone options.limit result.how }
 {
-    run_by::<W, G, F, S, H, R, C, Brand>(
-        rt, alloc, plan, site, log, history, options, hall, workers, runners, gate, clock,
+    run_by::<W, G, F, S, H, R, C, Brand, A>(
+        rt, alloc, plan, admission, site, log, history, options, hall, workers, runners, gate,
+        clock,
     )
 }

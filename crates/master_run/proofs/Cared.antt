@@ -8,6 +8,7 @@ use Rattle.flow_types.specs.declared.records.Record.{Record}
 use Rattle.flow_types.specs.Plans.{is_empty}
 use Rattle.flow_types.specs.Serial.{Contents, Function, serial}
 use Rattle.std.specs.Prelude.{nat_le, not, ◌&&◌}
+use Rattle.run_history.specs.Admissions.{Admitting}
 use Rattle.run_history.specs.Answers.{or_else, where_so}
 use Rattle.run_history.specs.Legal.{most_records}
 use Rattle.run_history.specs.History.{is_cleaned, part}
@@ -200,15 +201,15 @@ look_damaged s file given looks.Memory at is told = absurd (cc)
 said_goes : (refusal : Option StartFault) (why : StartFault) (rest : Type 0) → refusal ≡ Some why → Yields (option_map start_cause refusal) (start_cause why) rest
 said_goes refusal why rest is = subst (λ (o : Option StartFault). Yields (option_map start_cause o) (start_cause why) rest) (sym is) (λ stays. inl refl)
 
-pub look_goes : (s : Rise) (ask : Ask) (rise : ℕ) (H : List Record) (before after : Files) (records : List Record) (why : LookFault) → IsLookFault ask.plan H why
-    → GoesOn works.PrintLog ask rise H before after records (look_cause s why)
-look_goes s ask rise H before after records (looks.Log recovery.Site) is = fault_goes works.PrintLog ask rise H before after records (causes.SiteFault s.before s.after) refl
-look_goes s ask rise H before after records (looks.Log recovery.BadHeader) is = absurd is
-look_goes s ask rise H before after records (looks.Log (recovery.BadRecord at)) is = absurd is
-look_goes s ask rise H before after records (looks.Log recovery.Memory) is = fault_goes works.PrintLog ask rise H before after records causes.Memory refl
-look_goes s ask rise H before after records (looks.OtherFlow logged found) is = said_goes (history_fault ask.plan H) (faults.OtherFlow logged found) _ is
-look_goes s ask rise H before after records (looks.NotLegal at) is = said_goes (history_fault ask.plan H) (faults.NotLegal at) _ is
-look_goes s ask rise H before after records looks.Memory is = fault_goes works.PrintLog ask rise H before after records causes.Memory refl
+pub look_goes : (E : Admitting) (s : Rise) (ask : Ask) (rise : ℕ) (H : List Record) (before after : Files) (records : List Record) (why : LookFault) → IsLookFault ask.plan H why
+    → GoesOn E works.PrintLog ask rise H before after records (look_cause s why)
+look_goes E s ask rise H before after records (looks.Log recovery.Site) is = fault_goes E works.PrintLog ask rise H before after records (causes.SiteFault s.before s.after) refl
+look_goes E s ask rise H before after records (looks.Log recovery.BadHeader) is = absurd is
+look_goes E s ask rise H before after records (looks.Log (recovery.BadRecord at)) is = absurd is
+look_goes E s ask rise H before after records (looks.Log recovery.Memory) is = fault_goes E works.PrintLog ask rise H before after records causes.Memory refl
+look_goes E s ask rise H before after records (looks.OtherFlow logged found) is = said_goes (history_fault ask.plan H) (faults.OtherFlow logged found) _ is
+look_goes E s ask rise H before after records (looks.NotLegal at) is = said_goes (history_fault ask.plan H) (faults.NotLegal at) _ is
+look_goes E s ask rise H before after records looks.Memory is = fault_goes E works.PrintLog ask rise H before after records causes.Memory refl
 
 -- a log that isn't begun is refused by nothing
 pub look_begun : (one : SpellsOneList) (header : HasAHeader) (whole : IsWhole) (P : Plan) (file : Option (List ℕ)) (given : List Record) (why : LookFault) → (IsCutFault why → ⊥) → IsOfFile file why given
@@ -290,18 +291,18 @@ clean_damaged s file given cleans.Memory at is told = absurd (cc)
 first_said : (P : Plan) (H : List Record) (why : StartFault) → history_fault P H ≡ Some why → clean_fault P H ≡ Some why
 first_said P H why is = ap (λ (o : Option StartFault). or_else o (or_else (where_so (not (is_empty (part H)) && nat_le most_records (length H)) (faults.LogFull (length H))) None)) is
 
-pub clean_goes : (s : Rise) (ask : Ask) (rise : ℕ) (H : List Record) (before after : Files) (records : List Record) (why : CleanFault) → IsCleanFault ask.plan H why
-    → GoesOn works.Clean ask rise H before after records (clean_cause s why)
-clean_goes s ask rise H before after records (cleans.Look (looks.Log recovery.Site)) is = fault_goes works.Clean ask rise H before after records (causes.SiteFault s.before s.after) refl
-clean_goes s ask rise H before after records (cleans.Look (looks.Log recovery.BadHeader)) is = absurd is
-clean_goes s ask rise H before after records (cleans.Look (looks.Log (recovery.BadRecord at))) is = absurd is
-clean_goes s ask rise H before after records (cleans.Look (looks.Log recovery.Memory)) is = fault_goes works.Clean ask rise H before after records causes.Memory refl
-clean_goes s ask rise H before after records (cleans.Look (looks.OtherFlow logged found)) is = said_goes (clean_fault ask.plan H) (faults.OtherFlow logged found) _ (first_said ask.plan H (faults.OtherFlow logged found) is)
-clean_goes s ask rise H before after records (cleans.Look (looks.NotLegal at)) is = said_goes (clean_fault ask.plan H) (faults.NotLegal at) _ (first_said ask.plan H (faults.NotLegal at) is)
-clean_goes s ask rise H before after records (cleans.Look looks.Memory) is = fault_goes works.Clean ask rise H before after records causes.Memory refl
-clean_goes s ask rise H before after records (cleans.LogFull count) is = said_goes (clean_fault ask.plan H) (faults.LogFull count) _ is
-clean_goes s ask rise H before after records cleans.Site is = fault_goes works.Clean ask rise H before after records (causes.SiteFault s.before s.after) refl
-clean_goes s ask rise H before after records cleans.Memory is = fault_goes works.Clean ask rise H before after records causes.Memory refl
+pub clean_goes : (E : Admitting) (s : Rise) (ask : Ask) (rise : ℕ) (H : List Record) (before after : Files) (records : List Record) (why : CleanFault) → IsCleanFault ask.plan H why
+    → GoesOn E works.Clean ask rise H before after records (clean_cause s why)
+clean_goes E s ask rise H before after records (cleans.Look (looks.Log recovery.Site)) is = fault_goes E works.Clean ask rise H before after records (causes.SiteFault s.before s.after) refl
+clean_goes E s ask rise H before after records (cleans.Look (looks.Log recovery.BadHeader)) is = absurd is
+clean_goes E s ask rise H before after records (cleans.Look (looks.Log (recovery.BadRecord at))) is = absurd is
+clean_goes E s ask rise H before after records (cleans.Look (looks.Log recovery.Memory)) is = fault_goes E works.Clean ask rise H before after records causes.Memory refl
+clean_goes E s ask rise H before after records (cleans.Look (looks.OtherFlow logged found)) is = said_goes (clean_fault ask.plan H) (faults.OtherFlow logged found) _ (first_said ask.plan H (faults.OtherFlow logged found) is)
+clean_goes E s ask rise H before after records (cleans.Look (looks.NotLegal at)) is = said_goes (clean_fault ask.plan H) (faults.NotLegal at) _ (first_said ask.plan H (faults.NotLegal at) is)
+clean_goes E s ask rise H before after records (cleans.Look looks.Memory) is = fault_goes E works.Clean ask rise H before after records causes.Memory refl
+clean_goes E s ask rise H before after records (cleans.LogFull count) is = said_goes (clean_fault ask.plan H) (faults.LogFull count) _ is
+clean_goes E s ask rise H before after records cleans.Site is = fault_goes E works.Clean ask rise H before after records (causes.SiteFault s.before s.after) refl
+clean_goes E s ask rise H before after records cleans.Memory is = fault_goes E works.Clean ask rise H before after records causes.Memory refl
 
 pub clean_begun : (one : SpellsOneList) (header : HasAHeader) (whole : IsWhole) (P : Plan) (file : Option (List ℕ)) (given : List Record) (why : CleanFault) (s : Rise) → is_refusal (kind_of (clean_cause s why)) ≡ true
     → IsCleanOfFile file why given → ((H : List Record) → Spells H file → IsCleanFault P H why) → IsUnbegun file → ⊥

@@ -11,6 +11,7 @@ use Rattle.outside.specs.Files.{Files}
 use Rattle.outside.proofs.Moments.{weakened}
 use Rattle.txn_log.specs.Spells.{Spells}
 use Rattle.desk.specs.Kept.{ReadsStay, StaysBeside}
+use Rattle.run_history.specs.Admissions.{Admitting}
 use Rattle.run_history.specs.declared.options.Mode.{Mode}
 use Rattle.run_history.specs.declared.options.Options.{Options as RunOptions}
 use Rattle.flow_run.specs.Places.{PlacedBy}
@@ -104,18 +105,18 @@ fault_yields : (refusal : Option Cause) (cause : Cause) (rest : Type 0) → may_
 fault_yields None cause rest replaces holds = holds
 fault_yields (Some refusal) cause rest replaces holds = λ stays. absurd (true≢false (sym replaces ∙ stays))
 
-pub fault_goes : (work : Work) (ask : Ask) (rise : ℕ) (H : List Record) (before after : Files) (records : List Record) (cause : Cause) → is_cut (kind_of cause) ≡ true → GoesOn work ask rise H before after records cause
-fault_goes works.Run ask rise H before after records cause cut =
-    fault_yields (run_refusal ask.plan ask.options H before) cause (RunEnds ask rise records after cause) (fault_kind (kind_of cause) cut).replaces (inr (is_stop ask.options.wq ask.plan records after cause cut))
-fault_goes works.Clean ask rise H before after records cause cut =
+pub fault_goes : (E : Admitting) (work : Work) (ask : Ask) (rise : ℕ) (H : List Record) (before after : Files) (records : List Record) (cause : Cause) → is_cut (kind_of cause) ≡ true → GoesOn E work ask rise H before after records cause
+fault_goes E works.Run ask rise H before after records cause cut =
+    fault_yields (run_refusal ask.plan ask.options H before) cause (RunEnds E ask rise records after cause) (fault_kind (kind_of cause) cut).replaces (inr (is_stop ask.options.wq ask.plan records after cause cut))
+fault_goes E works.Clean ask rise H before after records cause cut =
     fault_yields (clean_refusal ask.plan H) cause _ (fault_kind (kind_of cause) cut).replaces (λ stays. absurd (true≢false (sym (fault_kind (kind_of cause) cut).replaces ∙ stays)))
-fault_goes works.PrintLog ask rise H before after records cause cut =
+fault_goes E works.PrintLog ask rise H before after records cause cut =
     fault_yields (log_refusal ask.plan H) cause _ (fault_kind (kind_of cause) cut).replaces (λ stays. absurd (true≢false (sym (fault_kind (kind_of cause) cut).replaces ∙ stays)))
 
 undamaged : (cause : Cause) (at : ℕ) → is_cut (kind_of cause) ≡ true → cause ≡ causes.LogDamaged at → ⊥
 undamaged cause at cut is = true≢false (sym cut ∙ ap (λ (c : Cause). is_cut (kind_of c)) is)
 
-module _ {S : Type 0} (tells : Type 0) (files : S → Files) (may_leave : S → Outcomes) (moment : S → ℕ) (images_since : S → ℕ → Files → Type 0) (born : ℕ)
+module _ {S : Type 0} (E : Admitting) (tells : Type 0) (files : S → Files) (may_leave : S → Outcomes) (moment : S → ℕ) (images_since : S → ℕ → Files → Type 0) (born : ℕ)
     (gives : Function) (may_fail : Job → Failure → Type 0) (told : Job → Type 0) (sure honest_links : Type 0) (before after : Counts) (ask : Ask) (old new : S) (records : List Record) (cause : Cause) where
   -- What is shown of a call that a fault ended.
   pub record Faulted : Type 0 where
@@ -140,12 +141,12 @@ module _ {S : Type 0} (tells : Type 0) (files : S → Files) (may_leave : S → 
     pub places : tells → (H : List Record) → Spells H (files old ask.log) → BeginsWith H records → PlacedBy ask.plan ask.options H records
     pub none_rose : NoneRose before after → is_completion (kind_of cause) ≡ true
 
-  pub fault_serves : Faulted → Serves tells files may_leave moment images_since born gives may_fail told sure honest_links before after ask old new records cause
+  pub fault_serves : Faulted → Serves E tells files may_leave moment images_since born gives may_fail told sure honest_links before after ask old new records cause
   fault_serves f = record {
     ends = λ t. record {
       damaged = λ at is. absurd (undamaged cause at f.cut is);
       read = inr (inr (fault_kind (kind_of cause) f.cut).replaces);
-      whole = λ H spelled. fault_goes ask.work ask (idle_rise before after) H (files old) (files new) records cause f.cut;
+      whole = λ H spelled. fault_goes E ask.work ask (idle_rise before after) H (files old) (files new) records cause f.cut;
     };
     late = (fault_kind (kind_of cause) f.cut).late;
     faults = f.faults;

@@ -9,6 +9,7 @@ use Rattle.flow_types.specs.declared.plan.Plan.{Plan}
 use Rattle.flow_types.specs.declared.records.Record.{Record}
 use Rattle.flow_types.specs.Plans.{is_source}
 use Rattle.flow_types.specs.Serial.{Function}
+use Rattle.run_history.specs.Admissions.{Admitting}
 use Rattle.run_history.specs.declared.answers.Check.{Check}
 use Rattle.run_history.specs.declared.answers.Check.TheVariants as check
 use Rattle.run_history.specs.declared.options.Mode.{Mode}
@@ -34,7 +35,7 @@ use Rattle.wq_run.specs.Losses.{AreDueLosses}
 use Rattle.flow_run.specs.Overs.{RunsOver}
 use Rattle.flow_run.proofs.Dues.{due_none}
 use Rattle.flow_run.proofs.Losses.{away_none}
-use Rattle.flow_run.proofs.Placed.{placed_none}
+use Rattle.flow_run.proofs.Placed.{admitted_none, placed_none}
 use Rattle.command_words.specs.declared.options.Work.TheVariants as works
 use Rattle.report.specs.declared.cause.Cause.{Cause}
 use Rattle.report.specs.declared.cause.Cause.TheVariants as causes
@@ -75,19 +76,19 @@ no_refused s (faults.Site old new) wrong = absent wrong
 no_refused s faults.Memory wrong = absent wrong
 
 -- a cause that a run answered is that of its end
-answered : (s r h : Rise) (ask : Ask) (rise : ℕ) (records : List Record) (how : Result Check Stopped) → (ask.options.wq ≡ false → IfOk how (IsRunEnd ask.options.limit)) → (ask.options.wq ≡ false → IfOk how (λ ended. ended ≡ end_over ask.plan ask.options (before_end records) None))
-    → (ask.options.wq ≡ true → IfOk how (EndsWaiting ask.plan ask.options ask.workers.limit rise records)) → is_answer (kind_of (run_cause s r h ask.plan how)) ≡ true → ComesToEnd ask.options.wq ask rise records (run_cause s r h ask.plan how)
-answered s r h ask rise records (Ok ended) closed ends away is = comes ask.options.wq ask rise records ended closed ends away
-answered s r h ask rise records (Err (stopped.Refused why)) closed ends away is = no_refused s why is
-answered s r h ask rise records (Err (stopped.Halted (halts.Damaged file logged found))) closed ends away is = no_damage (is_source ask.plan file.0) file logged found is
-answered s r h ask rise records (Err (stopped.Halted halts.Runner)) closed ends away is = absent is
-answered s r h ask rise records (Err (stopped.Halted halts.Site)) closed ends away is = absent is
-answered s r h ask rise records (Err (stopped.Halted halts.Memory)) closed ends away is = absent is
-answered s r h ask rise records (Err stopped.Hall) closed ends away is = absent is
-answered s r h ask rise records (Err (stopped.Unheard devices.Failed)) closed ends away is = absent is
-answered s r h ask rise records (Err (stopped.Unheard devices.Memory)) closed ends away is = absent is
-answered s r h ask rise records (Err (stopped.Unopened devices.Failed)) closed ends away is = absent is
-answered s r h ask rise records (Err (stopped.Unopened devices.Memory)) closed ends away is = absent is
+answered : (E : Admitting) (s r h : Rise) (ask : Ask) (rise : ℕ) (records : List Record) (how : Result Check Stopped) → (ask.options.wq ≡ false → IfOk how (IsRunEnd ask.options.limit)) → (ask.options.wq ≡ false → IfOk how (λ ended. ended ≡ end_over ask.plan ask.options (before_end records) None))
+    → (ask.options.wq ≡ true → IfOk how (EndsWaiting E ask.plan ask.options ask.workers.limit rise records)) → is_answer (kind_of (run_cause s r h ask.plan how)) ≡ true → ComesToEnd E ask.options.wq ask rise records (run_cause s r h ask.plan how)
+answered E s r h ask rise records (Ok ended) closed ends away is = comes E ask.options.wq ask rise records ended closed ends away
+answered E s r h ask rise records (Err (stopped.Refused why)) closed ends away is = no_refused s why is
+answered E s r h ask rise records (Err (stopped.Halted (halts.Damaged file logged found))) closed ends away is = no_damage (is_source ask.plan file.0) file logged found is
+answered E s r h ask rise records (Err (stopped.Halted halts.Runner)) closed ends away is = absent is
+answered E s r h ask rise records (Err (stopped.Halted halts.Site)) closed ends away is = absent is
+answered E s r h ask rise records (Err (stopped.Halted halts.Memory)) closed ends away is = absent is
+answered E s r h ask rise records (Err stopped.Hall) closed ends away is = absent is
+answered E s r h ask rise records (Err (stopped.Unheard devices.Failed)) closed ends away is = absent is
+answered E s r h ask rise records (Err (stopped.Unheard devices.Memory)) closed ends away is = absent is
+answered E s r h ask rise records (Err (stopped.Unopened devices.Failed)) closed ends away is = absent is
+answered E s r h ask rise records (Err (stopped.Unopened devices.Memory)) closed ends away is = absent is
 
 -- ---- the losses
 
@@ -221,37 +222,39 @@ refused_unread O s (refusals.Said cause) says = said_unread O cause says
 refused_unread O s refusals.Site says = record { added = inl (inl refl); unread = refl; none = refl }
 refused_unread O s refusals.Memory says = record { added = inl (inl refl); unread = refl; none = refl }
 
-module _ {L : Type 0} (spells : List Record → Type 0) (told listens : Type 0) (gives : Function) (may_fail : Job → Failure → Type 0) (history : L → List Passed) (count idles : L → ℕ) (closed : L → Bool) (ask : Ask) (rise : ℕ) (got got_now : List (Option LinkNo × L)) where
+module _ {L : Type 0} (E : Admitting) (spells : List Record → Type 0) (told listens : Type 0) (gives : Function) (may_fail : Job → Failure → Type 0) (history : L → List Passed) (count idles : L → ℕ) (closed : L → Bool) (ask : Ask) (rise : ℕ) (got got_now : List (Option LinkNo × L)) where
   -- of a run, by how it ended
-  pub ran_leaves : (s r h : Rise) (records : List Record) (how : Result Check Stopped) → RunsOver spells told gives may_fail history count idles closed ask.workers.limit got got_now ask.plan ask.options records how
+  pub ran_leaves : (s r h : Rise) (records : List Record) (how : Result Check Stopped) → RunsOver spells told gives may_fail history count idles closed ask.workers.limit got got_now E ask.plan ask.options records how
       → (IsRefusedRun how → got_now ≡ got) → (ask.options.wq ≡ false → IfOk how (IsRunEnd ask.options.limit)) → (ask.options.wq ≡ false → IfOk how (λ ended. ended ≡ end_over ask.plan ask.options (before_end records) None))
-      → (ask.options.wq ≡ true → IfOk how (EndsWaiting ask.plan ask.options ask.workers.limit rise records))
+      → (ask.options.wq ≡ true → IfOk how (EndsWaiting E ask.plan ask.options ask.workers.limit rise records))
       → (ask.options.wq ≡ true → (IsRefusedRun how → ⊥) → listens) → (IsClosedRun how → SpentOnce (since_opening records)) → ((IsRefusedRun how → ⊥) → RunCollects ask.plan ask.options.mode records)
-      → RunLeaves spells told listens gives may_fail history count idles closed ask rise got got_now records (run_cause s r h ask.plan how)
+      → RunLeaves spells told listens gives may_fail history count idles closed E ask rise got got_now records (run_cause s r h ask.plan how)
   ran_leaves s r h records how o unmet done ends away hears spent collects = record {
     past = o.past;
     spelled = λ read. o.spelled;
     added = run_adds s r h ask.plan ask.options o.past records how o.same o.added;
     places = o.places;
+    admitted = o.admitted;
     modes = o.modes;
     lost = λ alone keeps. kept_run (LosesNone o.past records) s r h ask.plan how (λ refused. loses_none o.past records (o.same refused)) (o.lost alone) keeps;
     lost_away = λ keeps. kept_run (LosesOnLinks o.past records) s r h ask.plan how (λ refused. away_none o.past records (loses_none o.past records (o.same refused))) o.lost_away keeps;
     due_losses = λ tells keeps.
         kept_run (AreDueLosses gives may_fail history count idles closed ask.workers.limit got got_now o.past records) s r h ask.plan how
         (λ refused. due_none gives may_fail history count idles closed ask.workers.limit got got_now o.past records (unmet refused) (loses_none o.past records (o.same refused))) (o.due_losses tells) keeps;
-    ended = λ is. answered s r h ask rise records how done ends away is;
+    ended = λ is. answered E s r h ask rise records how done ends away is;
     heard = λ asked. ⊎_elim (λ (refused : IsRefusedRun how). inr (o.same refused)) (λ (started : IsRefusedRun how → ⊥). inl (hears asked started)) (started_or_not how);
     failed = hall_run ((records ≡ o.past) ⊎ (SpentOnce (since_opening records) × RunCollects ask.plan ask.options.mode records)) s r h ask.plan how
         (λ is. ⊎_elim (λ (refused : IsRefusedRun how). inl (o.same refused)) (λ (closed : IsClosedRun how). inr (spent closed, collects (closed_starts how closed))) (hall_ends how is));
   }
 
   -- of one whose log wasn't read
-  unread_by : (cause : Cause) → IsUnreadCause ask.options cause → got_now ≡ got → RunLeaves spells told listens gives may_fail history count idles closed ask rise got got_now [] cause
+  unread_by : (cause : Cause) → IsUnreadCause ask.options cause → got_now ≡ got → RunLeaves spells told listens gives may_fail history count idles closed E ask rise got got_now [] cause
   unread_by cause is same = record {
     past = [];
     spelled = λ wrong. absurd (true≢false (sym wrong ∙ is.unread));
     added = is.added;
     places = placed_none ask.plan ask.options [] [] refl;
+    admitted = admitted_none E ask.plan ask.options [] [] refl;
     modes = collects_none ask.plan ask.options.mode [] [] refl;
     lost = λ alone keeps. ([], refl, refl);
     lost_away = λ keeps. away_none [] [] ([], refl, refl);
@@ -261,25 +264,26 @@ module _ {L : Type 0} (spells : List Record → Type 0) (told listens : Type 0) 
     failed = hall_any ask.plan ask.options.mode cause;
   }
 
-  pub unread_leaves : (s : Rise) (why : RecoverFault) → got_now ≡ got → RunLeaves spells told listens gives may_fail history count idles closed ask rise got got_now [] (unread_cause s why)
+  pub unread_leaves : (s : Rise) (why : RecoverFault) → got_now ≡ got → RunLeaves spells told listens gives may_fail history count idles closed E ask rise got got_now [] (unread_cause s why)
   unread_leaves s why same = unread_by (unread_cause s why) (record { added = unread_added ask.options s why; unread = unread_read s why; none = unread_answer s why }) same
 
   -- where there was no memory before the log was read
-  pub memory_leaves : got_now ≡ got → RunLeaves spells told listens gives may_fail history count idles closed ask rise got got_now [] causes.Memory
+  pub memory_leaves : got_now ≡ got → RunLeaves spells told listens gives may_fail history count idles closed E ask rise got got_now [] causes.Memory
   memory_leaves same = unread_by causes.Memory (record { added = inl (inl refl); unread = refl; none = refl }) same
 
   -- of a call that was refused before
-  pub refused_leaves : (s : Rise) (refusal : Refusal) → SaysRefusal {T = Ask} (Err refusal) → got_now ≡ got → RunLeaves spells told listens gives may_fail history count idles closed ask rise got got_now [] (refusal_cause s refusal)
+  pub refused_leaves : (s : Rise) (refusal : Refusal) → SaysRefusal {T = Ask} (Err refusal) → got_now ≡ got → RunLeaves spells told listens gives may_fail history count idles closed E ask rise got got_now [] (refusal_cause s refusal)
   refused_leaves s refusal says same = unread_by (refusal_cause s refusal) (refused_unread ask.options s refusal says) same
 
   -- where less is said of the records that stood
-  pub leaves_less : (now : List Record → Type 0) (records : List Record) (cause : Cause) → ((past : List Record) → spells past → now past) → RunLeaves spells told listens gives may_fail history count idles closed ask rise got got_now records cause
-      → RunLeaves now told listens gives may_fail history count idles closed ask rise got got_now records cause
+  pub leaves_less : (now : List Record → Type 0) (records : List Record) (cause : Cause) → ((past : List Record) → spells past → now past) → RunLeaves spells told listens gives may_fail history count idles closed E ask rise got got_now records cause
+      → RunLeaves now told listens gives may_fail history count idles closed E ask rise got got_now records cause
   leaves_less now records cause less l = record {
     past = l.past;
     spelled = λ read. less l.past (l.spelled read);
     added = l.added;
     places = l.places;
+    admitted = l.admitted;
     modes = l.modes;
     lost = l.lost;
     lost_away = l.lost_away;
@@ -290,15 +294,16 @@ module _ {L : Type 0} (spells : List Record → Type 0) (told listens : Type 0) 
   }
 
   -- once its text was printed
-  pub printed_leaves : (records : List Record) (b a : ℕ) (cause now : Cause) → Stands b a cause now → RunLeaves spells told listens gives may_fail history count idles closed ask rise got got_now records cause
-      → RunLeaves spells told listens gives may_fail history count idles closed ask rise got got_now records now
+  pub printed_leaves : (records : List Record) (b a : ℕ) (cause now : Cause) → Stands b a cause now → RunLeaves spells told listens gives may_fail history count idles closed E ask rise got got_now records cause
+      → RunLeaves spells told listens gives may_fail history count idles closed E ask rise got got_now records now
   printed_leaves records b a cause now stood l =
-      of_each (λ (c : Cause). RunLeaves spells told listens gives may_fail history count idles closed ask rise got got_now records c) b a cause now stood l
+      of_each (λ (c : Cause). RunLeaves spells told listens gives may_fail history count idles closed E ask rise got got_now records c) b a cause now stood l
       (λ rose is. record {
         past = l.past;
         spelled = λ read. l.spelled (end_read (kind_of cause) is);
         added = sink_adds works.Run ask.options l.past records b a cause is l.added;
         places = l.places;
+        admitted = l.admitted;
         modes = l.modes;
         lost = λ alone keeps. l.lost alone (end_keeps cause is);
         lost_away = λ keeps. l.lost_away (end_keeps cause is);
@@ -312,6 +317,7 @@ module _ {L : Type 0} (spells : List Record → Type 0) (told listens : Type 0) 
         spelled = λ wrong. absent wrong;
         added = memory_adds works.Run ask.options l.past records cause l.added;
         places = l.places;
+        admitted = l.admitted;
         modes = l.modes;
         lost = λ alone wrong. absurd (true≢false wrong);
         lost_away = λ wrong. absurd (true≢false wrong);

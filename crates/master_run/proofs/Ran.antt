@@ -8,6 +8,7 @@ use Rattle.flow_types.specs.declared.job.Failure.{Failure}
 use Rattle.flow_types.specs.declared.records.Record.{Record}
 use Rattle.flow_types.specs.Plans.{is_source}
 use Rattle.flow_types.specs.Serial.{Function, serial}
+use Rattle.run_history.specs.Admissions.{Admitting}
 use Rattle.run_history.specs.declared.answers.Check.{Check}
 use Rattle.run_history.specs.declared.answers.Check.TheVariants as check
 use Rattle.run_history.specs.declared.options.Options.{Options as RunOptions}
@@ -221,10 +222,10 @@ over_end limit check.Going is = absurd is
 over_end limit check.Halted is = absurd is
 
 -- a run that has an end is over
-pub over_run : (wq : Bool) (P : Plan) (O : RunOptions) (most rise : ℕ) (limit : Option ℕ) (records : List Record) (how : Result Check Stopped) → (wq ≡ false → IfOk how (IsRunEnd limit)) → (wq ≡ true → IfOk how (EndsWaiting P O most rise records)) → IfOk how IsOver
-over_run false P O most rise limit records (Ok ended) here away = over_end limit ended (here refl)
-over_run true P O most rise limit records (Ok ended) here away = (away refl).over
-over_run wq P O most rise limit records (Err why) here away = tt
+pub over_run : (E : Admitting) (wq : Bool) (P : Plan) (O : RunOptions) (most rise : ℕ) (limit : Option ℕ) (records : List Record) (how : Result Check Stopped) → (wq ≡ false → IfOk how (IsRunEnd limit)) → (wq ≡ true → IfOk how (EndsWaiting E P O most rise records)) → IfOk how IsOver
+over_run E false P O most rise limit records (Ok ended) here away = over_end limit ended (here refl)
+over_run E true P O most rise limit records (Ok ended) here away = (away refl).over
+over_run E wq P O most rise limit records (Err why) here away = tt
 
 -- each command that failed is logged once
 pub logged_run : (s r h : Rise) (P : Plan) (H all : List Record) (f0 f1 : ℕ) (how : Result Check Stopped) → (IsClosedRun how → LogsFailures H all f0 f1) → (IsRefusedRun how → all ≡ H) → (IsRefusedRun how → f1 ≡ f0)
@@ -348,12 +349,12 @@ run_whole s r h P (Err (stopped.Unopened devices.Failed)) = refl
 run_whole s r h P (Err (stopped.Unopened devices.Memory)) = refl
 
 -- where nothing stands in the way
-free_goes : (ask : Ask) (rise : ℕ) (H : List Record) (before after : Files) (records : List Record) (cause : Cause) → run_fault ask.plan ask.options H before ≡ None → RunEnds ask rise records after cause
-    → GoesOn works.Run ask rise H before after records cause
-free_goes ask rise H before after records cause none ends = subst (λ (o : Option StartFault). Yields (option_map start_cause o) cause (RunEnds ask rise records after cause)) (sym none) ends
+free_goes : (E : Admitting) (ask : Ask) (rise : ℕ) (H : List Record) (before after : Files) (records : List Record) (cause : Cause) → run_fault ask.plan ask.options H before ≡ None → RunEnds E ask rise records after cause
+    → GoesOn E works.Run ask rise H before after records cause
+free_goes E ask rise H before after records cause none ends = subst (λ (o : Option StartFault). Yields (option_map start_cause o) cause (RunEnds E ask rise records after cause)) (sym none) ends
 
-uncut_goes : (ask : Ask) (rise : ℕ) (H : List Record) (before after : Files) (records : List Record) (why : StartFault) → run_fault ask.plan ask.options H before ≡ Some why → GoesOn works.Run ask rise H before after records (start_cause why)
-uncut_goes ask rise H before after records why is = subst (λ (o : Option StartFault). Yields (option_map start_cause o) (start_cause why) (RunEnds ask rise records after (start_cause why))) (sym is) (λ stays. inl refl)
+uncut_goes : (E : Admitting) (ask : Ask) (rise : ℕ) (H : List Record) (before after : Files) (records : List Record) (why : StartFault) → run_fault ask.plan ask.options H before ≡ Some why → GoesOn E works.Run ask rise H before after records (start_cause why)
+uncut_goes E ask rise H before after records why is = subst (λ (o : Option StartFault). Yields (option_map start_cause o) (start_cause why) (RunEnds E ask rise records after (start_cause why))) (sym is) (λ stays. inl refl)
 
 damage_stops : (wq : Bool) (P : Plan) (records : List Record) (after : Files) (file : FileNo) (logged : Content) (found : Found) (source : Bool) → is_source P file.0 ≡ source → IsDamaged P records after file logged found
     → IsStop wq P records after (if source then causes.SourceChanged file logged found else causes.FileDamaged file logged found)
@@ -361,36 +362,36 @@ damage_stops wq P records after file logged found true is damage = (is, damage)
 damage_stops wq P records after file logged found false is damage = (is, damage)
 
 -- how a run came to its end
-pub comes : (wq : Bool) (ask : Ask) (rise : ℕ) (records : List Record) (ended : Check) → (wq ≡ false → IsRunEnd ask.options.limit ended) → (wq ≡ false → ended ≡ end_over ask.plan ask.options (before_end records) None)
-    → (wq ≡ true → EndsWaiting ask.plan ask.options ask.workers.limit rise records ended) → ComesToEnd wq ask rise records (end_cause (length ask.plan.rules) ended)
-comes false ask rise records ended closed ends away = (subst (IsRunEnd ask.options.limit) (ends refl) (closed refl), inl (ap (end_cause (length ask.plan.rules)) (ends refl)))
-comes true ask rise records ended closed ends away = record { ended = ended; waiting = away refl; is_cause = inl refl }
+pub comes : (E : Admitting) (wq : Bool) (ask : Ask) (rise : ℕ) (records : List Record) (ended : Check) → (wq ≡ false → IsRunEnd ask.options.limit ended) → (wq ≡ false → ended ≡ end_over ask.plan ask.options (before_end records) None)
+    → (wq ≡ true → EndsWaiting E ask.plan ask.options ask.workers.limit rise records ended) → ComesToEnd E wq ask rise records (end_cause (length ask.plan.rules) ended)
+comes E false ask rise records ended closed ends away = (subst (IsRunEnd ask.options.limit) (ends refl) (closed refl), inl (ap (end_cause (length ask.plan.rules)) (ends refl)))
+comes E true ask rise records ended closed ends away = record { ended = ended; waiting = away refl; is_cause = inl refl }
 
-run_goes : (s r h : Rise) (ask : Ask) (rise : ℕ) (H : List Record) (before after : Files) (records : List Record) (how : Result Check Stopped) → StartEnds (run_fault ask.plan ask.options H before) how → (ask.options.wq ≡ false → IfOk how (IsRunEnd ask.options.limit))
-    → (ask.options.wq ≡ false → IfOk how (λ ended. ended ≡ end_over ask.plan ask.options (before_end records) None)) → (ask.options.wq ≡ true → IfOk how (EndsWaiting ask.plan ask.options ask.workers.limit rise records))
-    → (IsHallEnd how → ask.options.wq ≡ true) → RunDamage ask.plan records after how → GoesOn works.Run ask rise H before after records (run_cause s r h ask.plan how)
-run_goes s r h ask rise H before after records (Ok ended) starts closed ends away met damage =
-    free_goes ask rise H before after records (end_cause (length ask.plan.rules) ended) starts (inl (comes ask.options.wq ask rise records ended closed ends away))
-run_goes s r h ask rise H before after records (Err (stopped.Refused (faults.OtherFlow logged found))) starts closed ends away met damage = uncut_goes ask rise H before after records (faults.OtherFlow logged found) (starts tt)
-run_goes s r h ask rise H before after records (Err (stopped.Refused (faults.NotLegal at))) starts closed ends away met damage = uncut_goes ask rise H before after records (faults.NotLegal at) (starts tt)
-run_goes s r h ask rise H before after records (Err (stopped.Refused (faults.LogFull count))) starts closed ends away met damage = uncut_goes ask rise H before after records (faults.LogFull count) (starts tt)
-run_goes s r h ask rise H before after records (Err (stopped.Refused (faults.StoredAboveLimit bytes limit))) starts closed ends away met damage = uncut_goes ask rise H before after records (faults.StoredAboveLimit bytes limit) (starts tt)
-run_goes s r h ask rise H before after records (Err (stopped.Refused (faults.SourceMissing file))) starts closed ends away met damage = uncut_goes ask rise H before after records (faults.SourceMissing file) (starts tt)
-run_goes s r h ask rise H before after records (Err (stopped.Refused (faults.SourceTooLarge file size))) starts closed ends away met damage = uncut_goes ask rise H before after records (faults.SourceTooLarge file size) (starts tt)
-run_goes s r h ask rise H before after records (Err (stopped.Refused (faults.SourceChanged file logged found))) starts closed ends away met damage = uncut_goes ask rise H before after records (faults.SourceChanged file logged found) (starts tt)
-run_goes s r h ask rise H before after records (Err (stopped.Refused (faults.FileDamaged file logged found))) starts closed ends away met damage = uncut_goes ask rise H before after records (faults.FileDamaged file logged found) (starts tt)
-run_goes s r h ask rise H before after records (Err (stopped.Refused (faults.Site old new))) starts closed ends away met damage = fault_goes works.Run ask rise H before after records (causes.SiteFault s.before s.after) refl
-run_goes s r h ask rise H before after records (Err (stopped.Refused faults.Memory)) starts closed ends away met damage = fault_goes works.Run ask rise H before after records causes.Memory refl
-run_goes s r h ask rise H before after records (Err (stopped.Halted (halts.Damaged file logged found))) starts closed ends away met damage =
-    free_goes ask rise H before after records (damage_cause ask.plan file logged found) starts (inr (damage_stops ask.options.wq ask.plan records after file logged found (is_source ask.plan file.0) refl damage))
-run_goes s r h ask rise H before after records (Err (stopped.Halted halts.Runner)) starts closed ends away met damage = free_goes ask rise H before after records (causes.RunnerFault r.before r.after) starts (inr tt)
-run_goes s r h ask rise H before after records (Err (stopped.Halted halts.Site)) starts closed ends away met damage = free_goes ask rise H before after records (causes.SiteFault s.before s.after) starts (inr tt)
-run_goes s r h ask rise H before after records (Err (stopped.Halted halts.Memory)) starts closed ends away met damage = free_goes ask rise H before after records causes.Memory starts (inr tt)
-run_goes s r h ask rise H before after records (Err stopped.Hall) starts closed ends away met damage = free_goes ask rise H before after records (causes.HallFault h.before h.after) starts (inr (met tt))
-run_goes s r h ask rise H before after records (Err (stopped.Unheard devices.Failed)) starts closed ends away met damage = free_goes ask rise H before after records (causes.HallFault h.before h.after) starts (inr (met tt))
-run_goes s r h ask rise H before after records (Err (stopped.Unheard devices.Memory)) starts closed ends away met damage = free_goes ask rise H before after records causes.Memory starts (inr tt)
-run_goes s r h ask rise H before after records (Err (stopped.Unopened devices.Failed)) starts closed ends away met damage = free_goes ask rise H before after records (causes.SiteFault s.before s.after) starts (inr tt)
-run_goes s r h ask rise H before after records (Err (stopped.Unopened devices.Memory)) starts closed ends away met damage = free_goes ask rise H before after records causes.Memory starts (inr tt)
+run_goes : (E : Admitting) (s r h : Rise) (ask : Ask) (rise : ℕ) (H : List Record) (before after : Files) (records : List Record) (how : Result Check Stopped) → StartEnds (run_fault ask.plan ask.options H before) how → (ask.options.wq ≡ false → IfOk how (IsRunEnd ask.options.limit))
+    → (ask.options.wq ≡ false → IfOk how (λ ended. ended ≡ end_over ask.plan ask.options (before_end records) None)) → (ask.options.wq ≡ true → IfOk how (EndsWaiting E ask.plan ask.options ask.workers.limit rise records))
+    → (IsHallEnd how → ask.options.wq ≡ true) → RunDamage ask.plan records after how → GoesOn E works.Run ask rise H before after records (run_cause s r h ask.plan how)
+run_goes E s r h ask rise H before after records (Ok ended) starts closed ends away met damage =
+    free_goes E ask rise H before after records (end_cause (length ask.plan.rules) ended) starts (inl (comes E ask.options.wq ask rise records ended closed ends away))
+run_goes E s r h ask rise H before after records (Err (stopped.Refused (faults.OtherFlow logged found))) starts closed ends away met damage = uncut_goes E ask rise H before after records (faults.OtherFlow logged found) (starts tt)
+run_goes E s r h ask rise H before after records (Err (stopped.Refused (faults.NotLegal at))) starts closed ends away met damage = uncut_goes E ask rise H before after records (faults.NotLegal at) (starts tt)
+run_goes E s r h ask rise H before after records (Err (stopped.Refused (faults.LogFull count))) starts closed ends away met damage = uncut_goes E ask rise H before after records (faults.LogFull count) (starts tt)
+run_goes E s r h ask rise H before after records (Err (stopped.Refused (faults.StoredAboveLimit bytes limit))) starts closed ends away met damage = uncut_goes E ask rise H before after records (faults.StoredAboveLimit bytes limit) (starts tt)
+run_goes E s r h ask rise H before after records (Err (stopped.Refused (faults.SourceMissing file))) starts closed ends away met damage = uncut_goes E ask rise H before after records (faults.SourceMissing file) (starts tt)
+run_goes E s r h ask rise H before after records (Err (stopped.Refused (faults.SourceTooLarge file size))) starts closed ends away met damage = uncut_goes E ask rise H before after records (faults.SourceTooLarge file size) (starts tt)
+run_goes E s r h ask rise H before after records (Err (stopped.Refused (faults.SourceChanged file logged found))) starts closed ends away met damage = uncut_goes E ask rise H before after records (faults.SourceChanged file logged found) (starts tt)
+run_goes E s r h ask rise H before after records (Err (stopped.Refused (faults.FileDamaged file logged found))) starts closed ends away met damage = uncut_goes E ask rise H before after records (faults.FileDamaged file logged found) (starts tt)
+run_goes E s r h ask rise H before after records (Err (stopped.Refused (faults.Site old new))) starts closed ends away met damage = fault_goes E works.Run ask rise H before after records (causes.SiteFault s.before s.after) refl
+run_goes E s r h ask rise H before after records (Err (stopped.Refused faults.Memory)) starts closed ends away met damage = fault_goes E works.Run ask rise H before after records causes.Memory refl
+run_goes E s r h ask rise H before after records (Err (stopped.Halted (halts.Damaged file logged found))) starts closed ends away met damage =
+    free_goes E ask rise H before after records (damage_cause ask.plan file logged found) starts (inr (damage_stops ask.options.wq ask.plan records after file logged found (is_source ask.plan file.0) refl damage))
+run_goes E s r h ask rise H before after records (Err (stopped.Halted halts.Runner)) starts closed ends away met damage = free_goes E ask rise H before after records (causes.RunnerFault r.before r.after) starts (inr tt)
+run_goes E s r h ask rise H before after records (Err (stopped.Halted halts.Site)) starts closed ends away met damage = free_goes E ask rise H before after records (causes.SiteFault s.before s.after) starts (inr tt)
+run_goes E s r h ask rise H before after records (Err (stopped.Halted halts.Memory)) starts closed ends away met damage = free_goes E ask rise H before after records causes.Memory starts (inr tt)
+run_goes E s r h ask rise H before after records (Err stopped.Hall) starts closed ends away met damage = free_goes E ask rise H before after records (causes.HallFault h.before h.after) starts (inr (met tt))
+run_goes E s r h ask rise H before after records (Err (stopped.Unheard devices.Failed)) starts closed ends away met damage = free_goes E ask rise H before after records (causes.HallFault h.before h.after) starts (inr (met tt))
+run_goes E s r h ask rise H before after records (Err (stopped.Unheard devices.Memory)) starts closed ends away met damage = free_goes E ask rise H before after records causes.Memory starts (inr tt)
+run_goes E s r h ask rise H before after records (Err (stopped.Unopened devices.Failed)) starts closed ends away met damage = free_goes E ask rise H before after records (causes.SiteFault s.before s.after) starts (inr tt)
+run_goes E s r h ask rise H before after records (Err (stopped.Unopened devices.Memory)) starts closed ends away met damage = free_goes E ask rise H before after records causes.Memory starts (inr tt)
 
 damage_sure : (source : Bool) (file : FileNo) (logged : Content) (found : Found) → is_failing (kind_of (if source then causes.SourceChanged file logged found else causes.FileDamaged file logged found)) ≡ false
 damage_sure true file logged found = refl
@@ -595,7 +596,7 @@ failed_run s r h P f0 f1 (Err (stopped.Unheard devices.Memory)) failed = record 
 failed_run s r h P f0 f1 (Err (stopped.Unopened devices.Failed)) failed = record { later = failed; rose = λ wrong. absurd (cc) }
 failed_run s r h P f0 f1 (Err (stopped.Unopened devices.Memory)) failed = record { later = failed; rose = λ wrong. absurd (cc) }
 
-module _ {S : Type 0} (tells : Type 0) (files : S → Files) (may_leave : S → Outcomes) (moment : S → ℕ) (images_since : S → ℕ → Files → Type 0) (count : S → ℕ) (born : ℕ)
+module _ {S : Type 0} (E : Admitting) (tells : Type 0) (files : S → Files) (may_leave : S → Outcomes) (moment : S → ℕ) (images_since : S → ℕ → Files → Type 0) (count : S → ℕ) (born : ℕ)
     (gives : Function) (may_fail : Job → Failure → Type 0) (told : Job → Type 0) (sure honest_links : Type 0) (b a : Counts) (r : Rise) (ask : Ask) (old new : S) (records : List Record) (how : Result Check Stopped) where
   -- What is known of a run.
   pub record Ran : Type 0 where
@@ -612,7 +613,7 @@ module _ {S : Type 0} (tells : Type 0) (files : S → Files) (may_leave : S → 
     pub starts : tells → (H : List Record) → Spells H (files old ask.log) → StartEnds (run_fault ask.plan ask.options H (files old)) how
     pub closed : ask.options.wq ≡ false → IfOk how (IsRunEnd ask.options.limit)
     pub ends : ask.options.wq ≡ false → IfOk how (λ ended. ended ≡ end_over ask.plan ask.options (before_end records) None)
-    pub waited : ask.options.wq ≡ true → IfOk how (EndsWaiting ask.plan ask.options ask.workers.limit (idle_rise b a) records)
+    pub waited : ask.options.wq ≡ true → IfOk how (EndsWaiting E ask.plan ask.options ask.workers.limit (idle_rise b a) records)
     pub met : IsHallEnd how → ask.options.wq ≡ true
     pub damage : tells → RunDamage ask.plan records (files new) how
     pub legal : IsAdmitted how → IsLegal ask.plan records
@@ -654,13 +655,13 @@ module _ {S : Type 0} (tells : Type 0) (files : S → Files) (may_leave : S → 
       by_how (Err why) lost = tt
 
   -- what the call does
-  pub ran_serves : Ran → Serves tells files may_leave moment images_since born gives may_fail told sure honest_links b a ask old new records (run_cause (site_rise b a) r (hall_rise b a) ask.plan how)
+  pub ran_serves : Ran → Serves E tells files may_leave moment images_since born gives may_fail told sure honest_links b a ask old new records (run_cause (site_rise b a) r (hall_rise b a) ask.plan how)
   ran_serves k = record {
     ends = λ t. record {
       damaged = λ at is. absurd (true≢false (ap tells_damage (sym is) ∙ run_whole (site_rise b a) r (hall_rise b a) ask.plan how));
       read = inl (k.log t);
-      whole = λ H spelled. subst (λ (w : Work). GoesOn w ask (idle_rise b a) H (files old) (files new) records (run_cause (site_rise b a) r (hall_rise b a) ask.plan how)) (sym k.work)
-          (run_goes (site_rise b a) r (hall_rise b a) ask (idle_rise b a) H (files old) (files new) records how (k.starts t H spelled) k.closed k.ends k.waited k.met (k.damage t));
+      whole = λ H spelled. subst (λ (w : Work). GoesOn E w ask (idle_rise b a) H (files old) (files new) records (run_cause (site_rise b a) r (hall_rise b a) ask.plan how)) (sym k.work)
+          (run_goes E (site_rise b a) r (hall_rise b a) ask (idle_rise b a) H (files old) (files new) records how (k.starts t H spelled) k.closed k.ends k.waited k.met (k.damage t));
     };
     late = run_late (site_rise b a) r (hall_rise b a) ask.plan how;
     faults = k.faults;

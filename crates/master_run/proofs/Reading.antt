@@ -1,4 +1,5 @@
 -- From what a call does behind the reading of the flow to what it does from its entry on.
+use Rattle.run_history.specs.Admissions.{Admitting}
 use Rattle.std.proofs.Common.{◌≡◌, ◌≤◌, ⊎_elim, inl, inr, ◌∙◌, ℕ, List, Option, ap, sym, subst}
 use Rattle.flow_types.specs.declared.plan.Plan.{Plan}
 use Rattle.flow_types.specs.declared.job.Job.{Job}
@@ -45,7 +46,7 @@ pub record WasLooked {S : Type 0} (files : S → Files) (may_leave : S → Outco
   pub within : Within (may_leave old) (may_leave new)
   pub only : LeavesOnly moment images_since old new (IsImage (may_leave old))
 
-module _ {S : Type 0} (tells : Type 0) (files : S → Files) (may_leave : S → Outcomes) (moment : S → ℕ) (images_since : S → ℕ → Files → Type 0) (born : ℕ)
+module _ {S : Type 0} (E : Admitting) (tells : Type 0) (files : S → Files) (may_leave : S → Outcomes) (moment : S → ℕ) (images_since : S → ℕ → Files → Type 0) (born : ℕ)
     (gives : Function) (may_fail : Job → Failure → Type 0) (told : Job → Type 0) (sure honest_links : Type 0) (before after : Counts) (ask : Ask) (old mid new : S) (records : List Record) (cause : Cause)
     (later : tells → born ≤ moment old) (looked : tells → WasLooked files may_leave moment images_since old mid) where
   all_from : (fits : Fit) (H : List Record) → tells → AllMoments files may_leave images_since fits born ask H mid new records cause → AllMoments files may_leave images_since fits born ask H old new records cause
@@ -60,10 +61,10 @@ module _ {S : Type 0} (tells : Type 0) (files : S → Files) (may_leave : S → 
       (all (resumable_from fits ask.plan ask.log H (may_leave old) (may_leave mid) (looked t).within resumable) image left)
 
   -- from the entry on
-  pub serves_from : Serves tells files may_leave moment images_since born gives may_fail told sure honest_links before after ask mid new records cause
-      → Serves tells files may_leave moment images_since born gives may_fail told sure honest_links before after ask old new records cause
+  pub serves_from : Serves E tells files may_leave moment images_since born gives may_fail told sure honest_links before after ask mid new records cause
+      → Serves E tells files may_leave moment images_since born gives may_fail told sure honest_links before after ask old new records cause
   serves_from s = record {
-    ends = λ t. subst (λ (fs : Files). LogEnds ask (idle_rise before after) fs (files new) records cause) (looked t).same (s.ends t);
+    ends = λ t. subst (λ (fs : Files). LogEnds E ask (idle_rise before after) fs (files new) records cause) (looked t).same (s.ends t);
     late = s.late;
     faults = s.faults;
     has_log = λ t H spelled. s.has_log t H (at_mid t H spelled);

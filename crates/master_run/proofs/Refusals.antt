@@ -1,4 +1,5 @@
 -- What a call does that is refused before its log is read.
+use Rattle.run_history.specs.Admissions.{Admitting}
 use Rattle.std.proofs.Common.{◌≡◌, ◌≤◌, ◌<◌, ⊎_elim, inl, inr, ◌∙◌, ℕ, true, false, [], Result, Ok, Err, IsOk, refl, ap, sym, subst, arith, true≢false}
 use Rattle.flow_types.specs.declared.job.Job.{Job}
 use Rattle.flow_types.specs.declared.job.Failure.{Failure}
@@ -44,20 +45,20 @@ refused_cuts asked ask s (refusals.Said cause) stage is whole = no_ask cause ask
 refused_cuts asked ask s refusals.Site stage is whole = absurd (whole refl)
 refused_cuts asked ask s refusals.Memory stage is whole = absurd (whole refl)
 
-fault_ends : (asked : Result Ask Cause) (rise : ℕ) (before after : Files) (cause : Cause) → is_cut (kind_of cause) ≡ true → may_replace (kind_of cause) ≡ true → (cause_at : (at : ℕ) → cause ≡ causes.LogDamaged at → ⊥) → after ≡ before
-    → CallEnds asked rise before after [] cause
-fault_ends (Ok ask) rise before after cause cut replaces whole same = record {
+fault_ends : (E : Admitting) (asked : Result Ask Cause) (rise : ℕ) (before after : Files) (cause : Cause) → is_cut (kind_of cause) ≡ true → may_replace (kind_of cause) ≡ true → (cause_at : (at : ℕ) → cause ≡ causes.LogDamaged at → ⊥) → after ≡ before
+    → CallEnds E asked rise before after [] cause
+fault_ends E (Ok ask) rise before after cause cut replaces whole same = record {
   damaged = λ at is. absurd (whole at is);
   read = inr (inr replaces);
-  whole = λ H spelled. fault_goes ask.work ask rise H before after [] cause cut;
+  whole = λ H spelled. fault_goes E ask.work ask rise H before after [] cause cut;
 }
-fault_ends (Err refusal) rise before after cause cut replaces whole same = (λ stays. absent (sym stays ∙ replaces), same, refl)
+fault_ends E (Err refusal) rise before after cause cut replaces whole same = (λ stays. absent (sym stays ∙ replaces), same, refl)
 
 -- how the call ends
-pub refused_ends : (asked : Result Ask Cause) (rise : ℕ) (before after : Files) (s : Rise) (refusal : Refusal) → Stage {T = Ask} asked (Err refusal) → after ≡ before → CallEnds asked rise before after [] (refusal_cause s refusal)
-refused_ends asked rise before after s (refusals.Said cause) stage same = subst (λ (e : Result Ask Cause). CallEnds e rise before after [] cause) (sym stage) (λ stays. inl refl, same, refl)
-refused_ends asked rise before after s refusals.Site stage same = fault_ends asked rise before after (causes.SiteFault s.before s.after) refl refl (λ at wrong. absurd (cc)) same
-refused_ends asked rise before after s refusals.Memory stage same = fault_ends asked rise before after causes.Memory refl refl (λ at wrong. absurd (cc)) same
+pub refused_ends : (E : Admitting) (asked : Result Ask Cause) (rise : ℕ) (before after : Files) (s : Rise) (refusal : Refusal) → Stage {T = Ask} asked (Err refusal) → after ≡ before → CallEnds E asked rise before after [] (refusal_cause s refusal)
+refused_ends E asked rise before after s (refusals.Said cause) stage same = subst (λ (e : Result Ask Cause). CallEnds E e rise before after [] cause) (sym stage) (λ stays. inl refl, same, refl)
+refused_ends E asked rise before after s refusals.Site stage same = fault_ends E asked rise before after (causes.SiteFault s.before s.after) refl refl (λ at wrong. absurd (cc)) same
+refused_ends E asked rise before after s refusals.Memory stage same = fault_ends E asked rise before after causes.Memory refl refl (λ at wrong. absurd (cc)) same
 
 memory_words : (words : Result Options Cause) → WordsEnd words causes.Memory
 memory_words (Err refusal) = λ other. absurd (true≢false other)
@@ -121,23 +122,23 @@ late_words (Ok options) (causes.FlowMissing name) ok late = absurd (true≢false
 late_words (Ok options) (causes.FlowRefused flow fault) ok late = absurd (true≢false late)
 late_words (Ok options) _ ok late = refl
 
-module _ {S : Type 0} (tells : Type 0) (files : S → Files) (may_leave : S → Outcomes) (moment : S → ℕ) (images_since : S → ℕ → Files → Type 0) (born : ℕ)
+module _ {S : Type 0} (E : Admitting) (tells : Type 0) (files : S → Files) (may_leave : S → Outcomes) (moment : S → ℕ) (images_since : S → ℕ → Files → Type 0) (born : ℕ)
     (gives : Function) (may_fail : Job → Failure → Type 0) (told : Job → Type 0) (sure honest_links : Type 0) (b a : Counts) (ask : Ask) (old new : S)
     (later : tells → born ≤ moment old) (looked : tells → WasLooked files may_leave moment images_since old new) where
   pub by_fault : (cause : Cause) → is_cut (kind_of cause) ≡ true → may_replace (kind_of cause) ≡ true → was_read (kind_of cause) ≡ false → FaultEnd b a cause → (NoneRose b a → is_completion (kind_of cause) ≡ true)
-      → Serves tells files may_leave moment images_since born gives may_fail told sure honest_links b a ask old new [] cause
+      → Serves E tells files may_leave moment images_since born gives may_fail told sure honest_links b a ask old new [] cause
   by_fault cause cut replaces unread fault completes =
-      fault_serves tells files may_leave moment images_since born gives may_fail told sure honest_links b a ask old new [] cause (record {
+      fault_serves E tells files may_leave moment images_since born gives may_fail told sure honest_links b a ask old new [] cause (record {
         cut = cut;
         faults = fault;
         has_log = λ t H spelled. inr (refl, replaces);
         added = λ t H spelled. unread_adds ask.work ask.options H cause cut;
         unread = λ t H spelled none. only t;
         logged = λ t H spelled. inr (inr refl, unread);
-        moments = λ t H spelled. before_all tells files may_leave moment images_since born gives may_fail told sure honest_links b a ask old new [] cause Held H (later t) (only t);
+        moments = λ t H spelled. before_all E tells files may_leave moment images_since born gives may_fail told sure honest_links b a ask old new [] cause Held H (later t) (only t);
         resumable = λ t some image left. ⊎_elim (λ was. inl was) (λ (is : IsImage (may_leave old) image). inr (some image is)) ((looked t).only.before born image (later t) left);
-        others = λ t. before_beside tells files may_leave moment images_since born gives may_fail told sure honest_links b a ask old new [] cause (only t) (λ m file other left. (looked t).within m file left);
-        contents = λ t H spelled jobs. before_all tells files may_leave moment images_since born gives may_fail told sure honest_links b a ask old new [] cause (SerialFits gives (read_sources ask.plan (files old))) H (later t) (only t);
+        others = λ t. before_beside E tells files may_leave moment images_since born gives may_fail told sure honest_links b a ask old new [] cause (only t) (λ m file other left. (looked t).within m file left);
+        contents = λ t H spelled jobs. before_all E tells files may_leave moment images_since born gives may_fail told sure honest_links b a ask old new [] cause (SerialFits gives (read_sources ask.plan (files old))) H (later t) (only t);
         honest = λ t H spelled resumable jobs begins. adds_none gives may_fail ask.plan (files old) H begins;
         modes = λ t H spelled begins. unread_collects ask.plan ask.options.mode H begins;
         places = λ t H spelled begins. unread_placed ask.plan ask.options H begins;
@@ -150,7 +151,7 @@ module _ {S : Type 0} (tells : Type 0) (files : S → Files) (may_leave : S → 
 
   -- what the call does, whatever was asked
   pub refused_serves : (refusal : Refusal) (asked : Result Ask Cause) → Stage {T = Ask} asked (Err refusal) → asked ≡ Ok ask → (refusal ≡ refusals.Site → b.site < a.site)
-      → Serves tells files may_leave moment images_since born gives may_fail told sure honest_links b a ask old new [] (refusal_cause (site_rise b a) refusal)
+      → Serves E tells files may_leave moment images_since born gives may_fail told sure honest_links b a ask old new [] (refusal_cause (site_rise b a) refusal)
   refused_serves (refusals.Said cause) asked stage is rose = no_ask cause ask (sym stage ∙ is)
   refused_serves refusals.Site asked stage is rose =
       by_fault (causes.SiteFault b.site a.site) refl refl refl (refl, refl, rose refl) (λ none. absurd (let wrong : ⊥ = omega (arith, rose refl, none.site) in wrong))

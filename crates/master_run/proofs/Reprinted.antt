@@ -2,6 +2,7 @@
 use Rattle.std.proofs.Common.{◌≡◌, ◌<◌, ◌-◌, ◌⊎◌, ⊎_elim, inl, inr, ◌∙◌, ℕ, Bool, true, false, List, [], length, ok_or, Option, Some, None, Result, Ok, Err, IsErrOf, refl, sym, ap, subst, arith, true≢false, if◌then◌else◌}
 use Rattle.flow_types.specs.declared.plan.Plan.{Plan}
 use Rattle.flow_types.specs.declared.records.Record.{Record}
+use Rattle.run_history.specs.Admissions.{Admitting}
 use Rattle.run_history.specs.Answers.{before_end, end_over}
 use Rattle.flow_types.specs.declared.job.Job.{Job}
 use Rattle.flow_types.specs.declared.job.Failure.{Failure}
@@ -104,32 +105,32 @@ no_stop wq P records after (causes.HallFault old new) ends stop = true≢false (
 no_stop wq P records after causes.Memory ends stop = true≢false (sym ends)
 no_stop wq P records after _ ends stop = stop
 
-sink_comes : (b a : ℕ) (wq : Bool) (ask : Ask) (rise : ℕ) (records : List Record) (cause : Cause) → is_end (kind_of cause) ≡ true → ComesToEnd wq ask rise records cause → ComesToEnd wq ask rise records (causes.SinkFault b a)
-sink_comes b a false ask rise records cause ends by = (by.0, inr (end_expected (end_cause (length ask.plan.rules) (end_over ask.plan ask.options (before_end records) None)) cause ends by.1, refl))
-sink_comes b a true ask rise records cause ends by = record {
+sink_comes : (E : Admitting) (b a : ℕ) (wq : Bool) (ask : Ask) (rise : ℕ) (records : List Record) (cause : Cause) → is_end (kind_of cause) ≡ true → ComesToEnd E wq ask rise records cause → ComesToEnd E wq ask rise records (causes.SinkFault b a)
+sink_comes E b a false ask rise records cause ends by = (by.0, inr (end_expected (end_cause (length ask.plan.rules) (end_over ask.plan ask.options (before_end records) None)) cause ends by.1, refl))
+sink_comes E b a true ask rise records cause ends by = record {
   ended = by.ended;
   waiting = by.waiting;
   is_cause = inr (end_expected (end_cause (length ask.plan.rules) by.ended) cause ends by.is_cause, refl);
 }
 
-sink_run : (b a : ℕ) (ask : Ask) (rise : ℕ) (records : List Record) (after : Files) (cause : Cause) → is_end (kind_of cause) ≡ true → RunEnds ask rise records after cause → RunEnds ask rise records after (causes.SinkFault b a)
-sink_run b a ask rise records after cause ends run =
-    ⊎_elim (λ (by : ComesToEnd ask.options.wq ask rise records cause). inl (sink_comes b a ask.options.wq ask rise records cause ends by))
+sink_run : (E : Admitting) (b a : ℕ) (ask : Ask) (rise : ℕ) (records : List Record) (after : Files) (cause : Cause) → is_end (kind_of cause) ≡ true → RunEnds E ask rise records after cause → RunEnds E ask rise records after (causes.SinkFault b a)
+sink_run E b a ask rise records after cause ends run =
+    ⊎_elim (λ (by : ComesToEnd E ask.options.wq ask rise records cause). inl (sink_comes E b a ask.options.wq ask rise records cause ends by))
     (λ (stop : IsStop ask.options.wq ask.plan records after cause). absurd (no_stop ask.options.wq ask.plan records after cause ends stop)) run
 
-sink_goes : (b a : ℕ) (work : Work) (ask : Ask) (rise : ℕ) (H : List Record) (before after : Files) (records : List Record) (cause : Cause) → is_end (kind_of cause) ≡ true
-    → GoesOn work ask rise H before after records cause → GoesOn work ask rise H before after records (causes.SinkFault b a)
-sink_goes b a works.Run ask rise H before after records cause ends goes =
-    sink_yields b a (run_refusal ask.plan ask.options H before) cause (RunEnds ask rise records after cause) (RunEnds ask rise records after (causes.SinkFault b a)) ends (sink_run b a ask rise records after cause ends) goes
-sink_goes b a works.Clean ask rise H before after records cause ends goes =
+sink_goes : (E : Admitting) (b a : ℕ) (work : Work) (ask : Ask) (rise : ℕ) (H : List Record) (before after : Files) (records : List Record) (cause : Cause) → is_end (kind_of cause) ≡ true
+    → GoesOn E work ask rise H before after records cause → GoesOn E work ask rise H before after records (causes.SinkFault b a)
+sink_goes E b a works.Run ask rise H before after records cause ends goes =
+    sink_yields b a (run_refusal ask.plan ask.options H before) cause (RunEnds E ask rise records after cause) (RunEnds E ask rise records after (causes.SinkFault b a)) ends (sink_run E b a ask rise records after cause ends) goes
+sink_goes E b a works.Clean ask rise H before after records cause ends goes =
     sink_yields b a (clean_refusal ask.plan H) cause _ _ ends (sink_answers b a _ cause ends) goes
-sink_goes b a works.PrintLog ask rise H before after records cause ends goes =
+sink_goes E b a works.PrintLog ask rise H before after records cause ends goes =
     sink_yields b a (log_refusal ask.plan H) cause _ _ ends (sink_answers b a _ cause ends) goes
 
-memory_goes : (work : Work) (ask : Ask) (rise : ℕ) (H : List Record) (before after : Files) (records : List Record) → GoesOn work ask rise H before after records causes.Memory
-memory_goes works.Run ask rise H before after records = memory_yields (run_refusal ask.plan ask.options H before) (RunEnds ask rise records after causes.Memory) (inr tt)
-memory_goes works.Clean ask rise H before after records = memory_yields (clean_refusal ask.plan H) _ (memory_answers _)
-memory_goes works.PrintLog ask rise H before after records = memory_yields (log_refusal ask.plan H) _ (memory_answers _)
+memory_goes : (E : Admitting) (work : Work) (ask : Ask) (rise : ℕ) (H : List Record) (before after : Files) (records : List Record) → GoesOn E work ask rise H before after records causes.Memory
+memory_goes E works.Run ask rise H before after records = memory_yields (run_refusal ask.plan ask.options H before) (RunEnds E ask rise records after causes.Memory) (inr tt)
+memory_goes E works.Clean ask rise H before after records = memory_yields (clean_refusal ask.plan H) _ (memory_answers _)
+memory_goes E works.PrintLog ask rise H before after records = memory_yields (log_refusal ask.plan H) _ (memory_answers _)
 
 sink_read : (b a : ℕ) (file : Option (List ℕ)) (cause : Cause) → is_end (kind_of cause) ≡ true → IsReadOr file cause → IsReadOr file (causes.SinkFault b a)
 sink_read b a file cause ends read =
@@ -137,25 +138,25 @@ sink_read b a file cause ends read =
     (λ rest. ⊎_elim (λ (damaged : (at : ℕ) × (cause ≡ causes.LogDamaged at)). absurd (true≢false (sym ends ∙ ap (λ (c : Cause). is_end (kind_of c)) damaged.1)))
     (λ (replaced : may_replace (kind_of cause) ≡ true). absurd (true≢false (sym replaced ∙ end_stays (kind_of cause) ends))) rest) read
 
-pub printed_log : (b a : ℕ) (ask : Ask) (rise : ℕ) (before after : Files) (records : List Record) (cause now : Cause) → Stands b a cause now → LogEnds ask rise before after records cause → LogEnds ask rise before after records now
-printed_log b a ask rise before after records cause now stood ends =
-    of_each (λ (c : Cause). LogEnds ask rise before after records c) b a cause now stood ends
+pub printed_log : (E : Admitting) (b a : ℕ) (ask : Ask) (rise : ℕ) (before after : Files) (records : List Record) (cause now : Cause) → Stands b a cause now → LogEnds E ask rise before after records cause → LogEnds E ask rise before after records now
+printed_log E b a ask rise before after records cause now stood ends =
+    of_each (λ (c : Cause). LogEnds E ask rise before after records c) b a cause now stood ends
     (λ rose is. record {
       damaged = λ at wrong. absurd (cc);
       read = sink_read b a (before ask.log) cause is ends.read;
-      whole = λ H spelled. sink_goes b a ask.work ask rise H before after records cause is (ends.whole H spelled);
+      whole = λ H spelled. sink_goes E b a ask.work ask rise H before after records cause is (ends.whole H spelled);
     })
     (record {
       damaged = λ at wrong. absurd (cc);
       read = inr (inr refl);
-      whole = λ H spelled. memory_goes ask.work ask rise H before after records;
+      whole = λ H spelled. memory_goes E ask.work ask rise H before after records;
     })
 
 -- how the call ends, once its text was printed
-pub printed_ends : (b a : ℕ) (asked : Result Ask Cause) (rise : ℕ) (before after : Files) (records : List Record) (cause now : Cause) → Stands b a cause now → CallEnds asked rise before after records cause
-    → CallEnds asked rise before after records now
-printed_ends b a (Ok ask) rise before after records cause now stood ends = printed_log b a ask rise before after records cause now stood ends
-printed_ends b a (Err refusal) rise before after records cause now stood ends =
+pub printed_ends : (E : Admitting) (b a : ℕ) (asked : Result Ask Cause) (rise : ℕ) (before after : Files) (records : List Record) (cause now : Cause) → Stands b a cause now → CallEnds E asked rise before after records cause
+    → CallEnds E asked rise before after records now
+printed_ends E b a (Ok ask) rise before after records cause now stood ends = printed_log E b a ask rise before after records cause now stood ends
+printed_ends E b a (Err refusal) rise before after records cause now stood ends =
     (of_each (λ (c : Cause). Answers refusal c) b a cause now stood ends.0 (λ rose is. sink_answers b a refusal cause is ends.0) (memory_answers refusal), ends.1, ends.2)
 
 memory_words : (words : Result Options Cause) → WordsEnd words causes.Memory
@@ -237,14 +238,14 @@ log_after H all kind now replaces has = ⊎_elim (λ begins. inl begins) (λ (no
 legal_after : (P : Plan) (H all : List Record) (kind now : Kind) → (was_read kind ≡ false → was_read now ≡ false) → IsLegalOr P H all kind → IsLegalOr P H all now
 legal_after P H all kind now unread legal = ⊎_elim (λ is. inl is) (λ (other : ((all ≡ H) ⊎ (all ≡ [])) × (was_read kind ≡ false)). inr (other.0, unread other.1)) legal
 
-module _ {S : Type 0} (tells : Type 0) (files : S → Files) (may_leave : S → Outcomes) (moment : S → ℕ) (images_since : S → ℕ → Files → Type 0) (born : ℕ)
+module _ {S : Type 0} (E : Admitting) (tells : Type 0) (files : S → Files) (may_leave : S → Outcomes) (moment : S → ℕ) (images_since : S → ℕ → Files → Type 0) (born : ℕ)
     (gives : Function) (may_fail : Job → Failure → Type 0) (told : Job → Type 0) (sure honest_links : Type 0) (sb : ℕ) (rb : List ℕ) (hb ib b sa : ℕ) (ra : List ℕ) (ha ia a : ℕ) (ask : Ask) (old new : S) (records : List Record) where
   -- what holds once the text was printed
   pub printed_serves : (cause now : Cause) → Stands b a cause now
-      → Serves tells files may_leave moment images_since born gives may_fail told sure honest_links (counts sb rb hb ib 0) (counts sa ra ha ia 0) ask old new records cause
-      → Serves tells files may_leave moment images_since born gives may_fail told sure honest_links (counts sb rb hb ib b) (counts sa ra ha ia a) ask old new records now
+      → Serves E tells files may_leave moment images_since born gives may_fail told sure honest_links (counts sb rb hb ib 0) (counts sa ra ha ia 0) ask old new records cause
+      → Serves E tells files may_leave moment images_since born gives may_fail told sure honest_links (counts sb rb hb ib b) (counts sa ra ha ia a) ask old new records now
   printed_serves cause now stood s =
-      of_each (λ (c : Cause). Serves tells files may_leave moment images_since born gives may_fail told sure honest_links (counts sb rb hb ib b) (counts sa ra ha ia a) ask old new records c) b a cause now stood
+      of_each (λ (c : Cause). Serves E tells files may_leave moment images_since born gives may_fail told sure honest_links (counts sb rb hb ib b) (counts sa ra ha ia a) ask old new records c) b a cause now stood
       (record {
         ends = s.ends;
         late = s.late;
@@ -277,7 +278,7 @@ module _ {S : Type 0} (tells : Type 0) (files : S → Files) (may_leave : S → 
             s.completes t H spelled alone work resumable free there fit room is_sure jobs (record { site = none.site; runners = none.runners; sink = refl });
       })
       (λ rose is. record {
-        ends = λ t. printed_log b a ask (ia - ib) (files old) (files new) records cause (causes.SinkFault b a) (inr (inl (refl, rose, is))) (s.ends t);
+        ends = λ t. printed_log E b a ask (ia - ib) (files old) (files new) records cause (causes.SinkFault b a) (inr (inl (refl, rose, is))) (s.ends t);
         late = refl;
         faults = (refl, refl, rose);
         added = λ t H spelled. sink_adds ask.work ask.options H records b a cause is (s.added t H spelled);
@@ -307,7 +308,7 @@ module _ {S : Type 0} (tells : Type 0) (files : S → Files) (may_leave : S → 
         completes = λ t H spelled alone work resumable free there fit room is_sure jobs none. absurd (let wrong : ⊥ = omega (arith, rose, none.sink) in wrong);
       })
       (record {
-        ends = λ t. printed_log b a ask (ia - ib) (files old) (files new) records cause causes.Memory (inr (inr refl)) (s.ends t);
+        ends = λ t. printed_log E b a ask (ia - ib) (files old) (files new) records cause causes.Memory (inr (inr refl)) (s.ends t);
         late = refl;
         faults = tt;
         added = λ t H spelled. memory_adds ask.work ask.options H records cause (s.added t H spelled);

@@ -18,6 +18,7 @@ use Rattle.report.specs.declared.cause.Cause.{Cause}
 use Rattle.report.specs.declared.cause.Kind.{Kind}
 use Rattle.report.specs.declared.cause.Kind.TheVariants as kinds
 use Rattle.rule_graph.specs.Spelling.{plan_digest}
+use Rattle.run_history.specs.Admissions.{Admitting}
 use Rattle.run_history.specs.Answers.{before_end}
 use Rattle.run_history.specs.History.{since_opening}
 use Rattle.run_history.specs.Spent.{SpentOnce}
@@ -38,7 +39,7 @@ use Rattle.master_run.specs.OnePlan.{AreLogged, RunLeaves}
 use Rattle.master_run.specs.Prints.{Told, is_of_plan}
 use Rattle.master_run.specs.Reaching.{AreSureLinks, GoesSurely, IsMannedFor}
 use Rattle.master_run.specs.Serves.{IsCut, Serves}
-use Rattle.master_run.specs.Tops.{HoldsAlways, HoldsByTrust, HoldsOfFiles, HoldsOfLinks, HoldsOfRecords, TopEnds}
+use Rattle.master_run.specs.Tops.{HoldsAlways, HoldsByTrust, HoldsOfFiles, HoldsOfLinks, HoldsOfRecords, TopEndsBy}
 use Rattle.master_run.proofs.Leaving.{printed_leaves}
 use Rattle.master_run.proofs.Reaching.{goes_printed}
 use Rattle.master_run.proofs.Reading.{entry_before}
@@ -52,7 +53,7 @@ own_read kinds.RuleFailed own = refl
 own_read kinds.WrongFile own = refl
 own_read _ own = absurd (true≢false (sym own))
 
-module _ {A B L C D : Type 0} (F : CommandWords) (S : SiteWords A) (H : HallWords B L) (R : RunnerWords C) (O : SinkWords D)
+module _ {A B L C D : Type 0} (F : CommandWords) (S : SiteWords A) (H : HallWords B L) (R : RunnerWords C) (O : SinkWords D) (E : Admitting)
     (told : Job → Type 0)
     (line : List (String Global)) (env : List (String Global × String Global)) (old new : Stand A B C D) (P : Plan) (cause : Cause) (written : List Record) where
   abbrev pub requested : Result Ask Cause
@@ -87,13 +88,13 @@ module _ {A B L C D : Type 0} (F : CommandWords) (S : SiteWords A) (H : HallWord
   SureLinks = AreSureLinks H.Way.tells (H.honest old.hall) (H.sure old.hall) H.Way.history H.Way.count H.Way.idle_count H.Way.is_closed (H.got old.hall) (H.got new.hall) (H.count old.hall) (H.count new.hall)
 
   abbrev pub Vain : Options → Type 0
-  Vain options = AreVain F.gives F.may_fail H.Way.history H.Way.count H.Way.idle_count H.Way.is_closed options.limits.idle P (run_options options) (before_end written) (H.got old.hall) (H.got new.hall)
+  Vain options = AreVain F.gives F.may_fail H.Way.history H.Way.count H.Way.idle_count H.Way.is_closed options.limits.idle E P (run_options options) (before_end written) (H.got old.hall) (H.got new.hall)
 
   -- What a call did before its text was printed: the clauses of `follow`.
   pub record Follows : Type 0 where
-    pub ends : S.tells → CallEnds requested idles (S.files old.site) (S.files new.site) written cause
+    pub ends : S.tells → CallEnds E requested idles (S.files old.site) (S.files new.site) written cause
     pub serves : S.tells → (ask : Ask) → requested ≡ Ok ask
-        → Serves S.tells S.files S.may_leave S.moment S.images_since (S.moment old.site) F.gives F.may_fail told (AllSure R.sure old.runners) (H.honest old.hall) (counts_old 0) (counts_new 0) ask old.site new.site written cause
+        → Serves E S.tells S.files S.may_leave S.moment S.images_since (S.moment old.site) F.gives F.may_fail told (AllSure R.sure old.runners) (H.honest old.hall) (counts_old 0) (counts_new 0) ask old.site new.site written cause
     pub words : WordsEnd (choice line) cause
     pub faults : FaultEnd (counts_old 0) (counts_new 0) cause
     pub legal : was_read (kind_of cause) ≡ true → IsLegal P written
@@ -108,7 +109,7 @@ module _ {A B L C D : Type 0} (F : CommandWords) (S : SiteWords A) (H : HallWord
     pub failed : S.tells → (ask : Ask) → requested ≡ Ok ask → ask.options.wq ≡ false → (past : List Record) → Spells past (S.files old.site ask.log) → (IsCut cause → ⊥) → LogsFailed past written fails_old fails_new
     pub alone : IsLocal (choice line) → new.hall ≡ old.hall
     pub back : (IsCut cause → ⊥) → AreBack (H.got old.hall) (H.got new.hall) (H.given old.hall) (H.given new.hall)
-    pub waited : (options : Options) → choice line ≡ Ok options → IfWaited cause (WaitsInVain P (run_options options) options.limits.idle idles written)
+    pub waited : (options : Options) → choice line ≡ Ok options → IfWaited cause (WaitsInVain E P (run_options options) options.limits.idle idles written)
     pub vain : H.Way.tells → (options : Options) → choice line ≡ Ok options → IfWaited cause (λ wait. Vain options)
     pub due_losses : H.Way.tells → S.tells → (options : Options) → choice line ≡ Ok options → (ask : Ask) → requested ≡ Ok ask → (past : List Record) → Spells past (S.files old.site ask.log) → may_lose (kind_of cause) ≡ false → DueLosses options past
     pub results : H.Way.tells → S.tells → (ask : Ask) → requested ≡ Ok ask → (past : List Record) → Spells past (S.files old.site ask.log) → ask.options.wq ≡ true → ask.work ≡ Run → may_lose (kind_of cause) ≡ false → Results past
@@ -117,12 +118,12 @@ module _ {A B L C D : Type 0} (F : CommandWords) (S : SiteWords A) (H : HallWord
     pub opened : (options : Options) → choice line ≡ Ok options → is_run_end (kind_of cause) ≡ true → OpensBy (run_options options) written
     pub collects : (options : Options) → choice line ≡ Ok options → is_run_end (kind_of cause) ≡ true → RunCollects P (run_mode options.mode) written
     pub leaves : (options : Options) → choice line ≡ Ok options → options.work ≡ Run
-        → RunLeaves spells H.Way.tells (H.listens new.hall) F.gives F.may_fail H.Way.history H.Way.count H.Way.idle_count H.Way.is_closed (ask_of options P) idles (H.got old.hall) (H.got new.hall) written cause
+        → RunLeaves spells H.Way.tells (H.listens new.hall) F.gives F.may_fail H.Way.history H.Way.count H.Way.idle_count H.Way.is_closed E (ask_of options P) idles (H.got old.hall) (H.got new.hall) written cause
     pub spare : (options : Options) → choice line ≡ Ok options → drop options.service.jobs new.runners ≡ drop options.service.jobs old.runners
 
   -- The cause that stands once the text was printed.
   module _ (now : Cause) (stood : Stands (O.count old.out) (O.count new.out) cause now) (f : Follows) where
-    always : HoldsAlways F S H R O line env old new now written
+    always : HoldsAlways F S H R O E line env old new now written
     always = record {
       words = printed_words (map string_bytes line) (O.count old.out) (O.count new.out) cause now stood f.words;
       faults = printed_fault (S.count old.site) (map R.count old.runners) (H.count old.hall) (H.idle_count old.hall) (O.count old.out) (S.count new.site) (map R.count new.runners) (H.count new.hall) (H.idle_count new.hall) (O.count new.out) cause now stood f.faults;
@@ -132,11 +133,11 @@ module _ {A B L C D : Type 0} (F : CommandWords) (S : SiteWords A) (H : HallWord
         legal = after_legal P written (O.count old.out) (O.count new.out) cause now stood f.legal;
         storage = after_planned (IsWithinLimit P written) (O.count old.out) (O.count new.out) cause now stood (λ read. limit-legal P (plan_digest P) written (f.legal read));
         leaves = λ options chosen work.
-            printed_leaves spells H.Way.tells (H.listens new.hall) F.gives F.may_fail H.Way.history H.Way.count H.Way.idle_count H.Way.is_closed (ask_of options P) idles (H.got old.hall) (H.got new.hall)
+            printed_leaves E spells H.Way.tells (H.listens new.hall) F.gives F.may_fail H.Way.history H.Way.count H.Way.idle_count H.Way.is_closed (ask_of options P) idles (H.got old.hall) (H.got new.hall)
             written (O.count old.out) (O.count new.out) cause now stood (f.leaves options chosen work);
         opened = λ options chosen. after_run (OpensBy (run_options options) written) (O.count old.out) (O.count new.out) cause now stood (f.opened options chosen);
         collects = λ options chosen. after_run (RunCollects P (run_mode options.mode) written) (O.count old.out) (O.count new.out) cause now stood (f.collects options chosen);
-        waited = λ options chosen. after_waited (WaitsInVain P (run_options options) options.limits.idle idles written) (O.count old.out) (O.count new.out) cause now stood (f.waited options chosen);
+        waited = λ options chosen. after_waited (WaitsInVain E P (run_options options) options.limits.idle idles written) (O.count old.out) (O.count new.out) cause now stood (f.waited options chosen);
         vain = λ tells options chosen. after_waited (λ wait. Vain options) (O.count old.out) (O.count new.out) cause now stood (f.vain tells options chosen);
       };
       closed = after_closed written (O.count old.out) (O.count new.out) cause now stood f.closed;
@@ -150,12 +151,12 @@ module _ {A B L C D : Type 0} (F : CommandWords) (S : SiteWords A) (H : HallWord
     }
 
     served : S.tells → (ask : Ask) → requested ≡ Ok ask
-        → Serves S.tells S.files S.may_leave S.moment S.images_since (S.moment old.site) F.gives F.may_fail told (AllSure R.sure old.runners) (H.honest old.hall) (counts_old (O.count old.out)) (counts_new (O.count new.out)) ask old.site new.site written now
+        → Serves E S.tells S.files S.may_leave S.moment S.images_since (S.moment old.site) F.gives F.may_fail told (AllSure R.sure old.runners) (H.honest old.hall) (counts_old (O.count old.out)) (counts_new (O.count new.out)) ask old.site new.site written now
     served t ask is =
-        printed_serves S.tells S.files S.may_leave S.moment S.images_since (S.moment old.site) F.gives F.may_fail told (AllSure R.sure old.runners) (H.honest old.hall)
+        printed_serves E S.tells S.files S.may_leave S.moment S.images_since (S.moment old.site) F.gives F.may_fail told (AllSure R.sure old.runners) (H.honest old.hall)
         (S.count old.site) (map R.count old.runners) (H.count old.hall) (H.idle_count old.hall) (O.count old.out) (S.count new.site) (map R.count new.runners) (H.count new.hall) (H.idle_count new.hall) (O.count new.out) ask old.site new.site written cause now stood (f.serves t ask is)
 
-    by_links : H.Way.tells → S.tells → (ask : Ask) → requested ≡ Ok ask → (past : List Record) → Spells past (S.files old.site ask.log) → HoldsOfLinks F S H R O line env old new now written ask past
+    by_links : H.Way.tells → S.tells → (ask : Ask) → requested ≡ Ok ask → (past : List Record) → Spells past (S.files old.site ask.log) → HoldsOfLinks F S H R O E line env old new now written ask past
     by_links tells t ask is past spelled = record {
       due_losses = λ options chosen. after_kept (DueLosses options past) (O.count old.out) (O.count new.out) cause now stood (f.due_losses tells t options chosen ask is past spelled);
       results = λ away work. after_kept (Results past) (O.count old.out) (O.count new.out) cause now stood (f.results tells t ask is past spelled away work);
@@ -163,9 +164,9 @@ module _ {A B L C D : Type 0} (F : CommandWords) (S : SiteWords A) (H : HallWord
 
     -- Since the entry there is no other moment at the entry.
     module _ (only : S.tells → (image : Files) → S.images_since old.site (S.moment old.site) image → IsImage (S.may_leave old.site) image) where
-      by_files : S.tells → HoldsOfFiles F S H R O line env old new now written
+      by_files : S.tells → HoldsOfFiles F S H R O E line env old new now written
       by_files t = record {
-        ends = printed_ends (O.count old.out) (O.count new.out) requested idles (S.files old.site) (S.files new.site) written cause now stood (f.ends t);
+        ends = printed_ends E (O.count old.out) (O.count new.out) requested idles (S.files old.site) (S.files new.site) written cause now stood (f.ends t);
         untouched = after_refused (S.files new.site ≡ S.files old.site) (O.count old.out) (O.count new.out) cause now stood (f.untouched t);
         quiet = after_refused (LeavesOnly S.moment S.images_since old.site new.site (IsImage (S.may_leave old.site))) (O.count old.out) (O.count new.out) cause now stood (f.quiet t);
         others = λ ask is. (served t ask is).others t;
@@ -176,7 +177,7 @@ module _ {A B L C D : Type 0} (F : CommandWords) (S : SiteWords A) (H : HallWord
             ((served t ask is).resumable t some image left);
       }
 
-      by_log : S.tells → (ask : Ask) → requested ≡ Ok ask → (past : List Record) → Spells past (S.files old.site ask.log) → HoldsOfRecords F S H R O line env old new now written ask past
+      by_log : S.tells → (ask : Ask) → requested ≡ Ok ask → (past : List Record) → Spells past (S.files old.site ask.log) → HoldsOfRecords F S H R O E line env old new now written ask past
       by_log t ask is past spelled =
           let s = served t ask is in
           record {
@@ -200,7 +201,7 @@ module _ {A B L C D : Type 0} (F : CommandWords) (S : SiteWords A) (H : HallWord
             now = s.now t past spelled;
           }
 
-      by_trust : S.tells → (ask : Ask) → requested ≡ Ok ask → (past : List Record) → Spells past (S.files old.site ask.log) → HoldsByTrust F S H R O line env old new now written told ask past
+      by_trust : S.tells → (ask : Ask) → requested ≡ Ok ask → (past : List Record) → Spells past (S.files old.site ask.log) → HoldsByTrust F S H R O E line env old new now written told ask past
       by_trust t ask is past spelled =
           let s = served t ask is in
           record {
@@ -218,7 +219,7 @@ module _ {A B L C D : Type 0} (F : CommandWords) (S : SiteWords A) (H : HallWord
 
       -- what the call does
       pub top_ends : (code : ℕ) → code ≡ status_of now → (O.tells → Told (choice line) P written (O.count old.out) (O.count new.out) (O.bytes old.out) (O.bytes new.out) cause now)
-          → TopEnds F S H R O line env old new now written told code
+          → TopEndsBy F S H R O E line env old new now written told code
       top_ends code is_code print = record {
         status = is_code;
         always = always;

@@ -1,4 +1,5 @@
 -- What a call does that runs a plan and can't read its log.
+use Rattle.run_history.specs.Admissions.{Admitting}
 use Rattle.std.proofs.Common.{◌≡◌, ◌≢◌, ◌≤◌, ◌<◌, ◌⊎◌, ⊎_elim, inl, inr, ℕ, true, false, List, [], Option, refl, sym, ap, subst, arith, true≢false}
 use Rattle.flow_types.specs.declared.job.Job.{Job}
 use Rattle.flow_types.specs.declared.job.Failure.{Failure}
@@ -61,7 +62,7 @@ at_of x y is = ap at is
     at (causes.LogDamaged n) = n
     at _ = 0
 
-module _ {S : Type 0} (tells : Type 0) (files : S → Files) (may_leave : S → Outcomes) (moment : S → ℕ) (images_since : S → ℕ → Files → Type 0) (born : ℕ)
+module _ {S : Type 0} (E : Admitting) (tells : Type 0) (files : S → Files) (may_leave : S → Outcomes) (moment : S → ℕ) (images_since : S → ℕ → Files → Type 0) (born : ℕ)
     (gives : Function) (may_fail : Job → Failure → Type 0) (told : Job → Type 0) (sure honest_links : Type 0) (b a : Counts) (ask : Ask) (old new : S)
     (later : tells → born ≤ moment old) (only : tells → LeavesOnly moment images_since old new (IsBefore ask.log (files old ask.log) (may_leave old)))
     (crash : tells → (m : List ℕ) (file : Option (List ℕ)) → m ≢ ask.log → may_leave new m file → may_leave old m file)
@@ -74,19 +75,19 @@ module _ {S : Type 0} (tells : Type 0) (files : S → Files) (may_leave : S → 
       ((only t).before born image (later t) left)
 
   cut_serves : (cause : Cause) → is_cut (kind_of cause) ≡ true → may_replace (kind_of cause) ≡ true → was_read (kind_of cause) ≡ false → FaultEnd b a cause → (NoneRose b a → is_completion (kind_of cause) ≡ true)
-      → Serves tells files may_leave moment images_since born gives may_fail told sure honest_links b a ask old new [] cause
+      → Serves E tells files may_leave moment images_since born gives may_fail told sure honest_links b a ask old new [] cause
   cut_serves cause cut replaces unread fault completes =
-      fault_serves tells files may_leave moment images_since born gives may_fail told sure honest_links b a ask old new [] cause (record {
+      fault_serves E tells files may_leave moment images_since born gives may_fail told sure honest_links b a ask old new [] cause (record {
         cut = cut;
         faults = fault;
         has_log = λ t H spelled. inr (refl, replaces);
         added = λ t H spelled. unread_adds ask.work ask.options H cause cut;
         unread = λ t H spelled none. only t;
         logged = λ t H spelled. inr (inr refl, unread);
-        moments = λ t H spelled. before_all tells files may_leave moment images_since born gives may_fail told sure honest_links b a ask old new [] cause Held H (later t) (only t);
+        moments = λ t H spelled. before_all E tells files may_leave moment images_since born gives may_fail told sure honest_links b a ask old new [] cause Held H (later t) (only t);
         resumable = goes_on;
-        others = λ t. before_beside tells files may_leave moment images_since born gives may_fail told sure honest_links b a ask old new [] cause (only t) (crash t);
-        contents = λ t H spelled jobs. before_all tells files may_leave moment images_since born gives may_fail told sure honest_links b a ask old new [] cause (SerialFits gives (read_sources ask.plan (files old))) H (later t) (only t);
+        others = λ t. before_beside E tells files may_leave moment images_since born gives may_fail told sure honest_links b a ask old new [] cause (only t) (crash t);
+        contents = λ t H spelled jobs. before_all E tells files may_leave moment images_since born gives may_fail told sure honest_links b a ask old new [] cause (SerialFits gives (read_sources ask.plan (files old))) H (later t) (only t);
         honest = λ t H spelled resumable jobs begins. adds_none gives may_fail ask.plan (files old) H begins;
         modes = λ t H spelled begins. unread_collects ask.plan ask.options.mode H begins;
         places = λ t H spelled begins. unread_placed ask.plan ask.options H begins;
@@ -95,7 +96,7 @@ module _ {S : Type 0} (tells : Type 0) (files : S → Files) (may_leave : S → 
       })
 
   damaged_serves : (at : ℕ) → (tells → IsDamagedAt (files old ask.log) at) → (tells → (H : List Record) → Spells H (files old ask.log) → ⊥) → (tells → IsUnbegun (files old ask.log) → ⊥) → (tells → (m : List ℕ) → files new m ≡ files old m)
-      → Serves tells files may_leave moment images_since born gives may_fail told sure honest_links b a ask old new [] (causes.LogDamaged at)
+      → Serves E tells files may_leave moment images_since born gives may_fail told sure honest_links b a ask old new [] (causes.LogDamaged at)
   damaged_serves at is none begun same = record {
     ends = λ t. record {
       damaged = λ place told_at. subst (IsDamagedAt (files old ask.log)) (at_of at place told_at) (is t);
@@ -118,7 +119,7 @@ module _ {S : Type 0} (tells : Type 0) (files : S → Files) (may_leave : S → 
     now = λ t H spelled. absurd (none t H spelled);
     untouched = λ t refused. λ i m. same t m i;
     quiet = λ t refused. begun_still files may_leave moment images_since ask.log old new (only t) (begun t);
-    others = λ t. before_beside tells files may_leave moment images_since born gives may_fail told sure honest_links b a ask old new [] (causes.LogDamaged at) (only t) (crash t);
+    others = λ t. before_beside E tells files may_leave moment images_since born gives may_fail told sure honest_links b a ask old new [] (causes.LogDamaged at) (only t) (crash t);
     contents = λ t H spelled met jobs. absurd (none t H spelled);
     honest = λ t H spelled met resumable jobs begins. absurd (none t H spelled);
     reads = λ t m spared. beside t m spared.0.0;
@@ -134,7 +135,7 @@ module _ {S : Type 0} (tells : Type 0) (files : S → Files) (may_leave : S → 
   -- what the call does
   pub unread_serves : (header : HasAHeader) (whole : IsWhole) (why : RecoverFault) → (why ≡ recovery.Site → b.site < a.site) → (tells → IsUnread (files old ask.log) why)
       → (tells → IsDamageFault why → (m : List ℕ) → files new m ≡ files old m)
-      → Serves tells files may_leave moment images_since born gives may_fail told sure honest_links b a ask old new [] (unread_cause (site_rise b a) why)
+      → Serves E tells files may_leave moment images_since born gives may_fail told sure honest_links b a ask old new [] (unread_cause (site_rise b a) why)
   unread_serves header whole recovery.Site rose is same =
       cut_serves (causes.SiteFault b.site a.site) refl refl refl (refl, refl, rose refl) (λ none. absurd (let wrong : ⊥ = omega (arith, rose refl, none.site) in wrong))
   unread_serves header whole recovery.BadHeader rose is same =

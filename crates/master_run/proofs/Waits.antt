@@ -9,6 +9,7 @@ use Rattle.flow_types.specs.declared.numbers.FileNo.{FileNo}
 use Rattle.flow_types.specs.declared.plan.Plan.{Plan}
 use Rattle.flow_types.specs.declared.records.Record.{Record}
 use Rattle.flow_types.specs.Plans.{is_empty, is_source, rule_numbers}
+use Rattle.run_history.specs.Admissions.{Admitting, is_in_vain_by}
 use Rattle.run_history.specs.declared.answers.Check.{Check}
 use Rattle.run_history.specs.declared.answers.Check.TheVariants as check
 use Rattle.run_history.specs.declared.answers.Stop.{Stop}
@@ -17,7 +18,7 @@ use Rattle.run_history.specs.declared.answers.Wait.{Wait}
 use Rattle.run_history.specs.declared.moves.Move.{Move}
 use Rattle.run_history.specs.declared.options.Options.{Options as RunOptions}
 use Rattle.run_history.specs.declared.states.Found.{Found}
-use Rattle.run_history.specs.Answers.{before_end, collected_count, end_over, failed_answer, idles_in, is_halt, is_in_vain, last_why, log_full, no_room, of_least, or_else, passes_inputs, rule_no, where_none, where_so}
+use Rattle.run_history.specs.Answers.{before_end, collected_count, end_over, failed_answer, idles_in, is_halt, last_why, log_full, no_room, of_least, or_else, passes_inputs, rule_no, where_none, where_so}
 use Rattle.run_history.specs.Legal.{has_places}
 use Rattle.run_history.specs.Storage.{fits_storage, has_failed, input_bytes, is_complete, ready_rules, running_rules, wanted}
 use Rattle.outside.specs.declared.fault.Fault.TheVariants as devices
@@ -100,16 +101,16 @@ waits_by P O H stop =
 
 -- ---- of how a run ended
 
-vain_at : (P : Plan) (O : RunOptions) (M : List Move) (limit rise idles : ℕ) (stop : Option Stop) → stop ≡ Some (stops.Waited idles) → IsVain P O M limit rise stop → (limit ≤ idles) × (idles ≤ rise) × (is_in_vain P O M ≡ true)
-vain_at P O M limit rise idles stop same vain = subst (IsVain P O M limit rise) same vain
+vain_at : (E : Admitting) (P : Plan) (O : RunOptions) (M : List Move) (limit rise idles : ℕ) (stop : Option Stop) → stop ≡ Some (stops.Waited idles) → IsVain E P O M limit rise stop → (limit ≤ idles) × (idles ≤ rise) × (is_in_vain_by E P O M ≡ true)
+vain_at E P O M limit rise idles stop same vain = subst (IsVain E P O M limit rise) same vain
 
-waits_in : (wq : Bool) (P : Plan) (O : RunOptions) (most rise : ℕ) (limit : Option ℕ) (records : List Record) (wait : Wait) → O.wq ≡ wq → (wq ≡ false → IsRunEnd limit (check.Waited wait)) → (wq ≡ true → EndsWaiting P O most rise records (check.Waited wait))
-    → WaitsInVain P O most rise records wait
-waits_in false P O most rise limit records wait is closed away = absurd (closed refl)
-waits_in true P O most rise limit records wait is closed away =
+waits_in : (E : Admitting) (wq : Bool) (P : Plan) (O : RunOptions) (most rise : ℕ) (limit : Option ℕ) (records : List Record) (wait : Wait) → O.wq ≡ wq → (wq ≡ false → IsRunEnd limit (check.Waited wait)) → (wq ≡ true → EndsWaiting E P O most rise records (check.Waited wait))
+    → WaitsInVain E P O most rise records wait
+waits_in E false P O most rise limit records wait is closed away = absurd (closed refl)
+waits_in E true P O most rise limit records wait is closed away =
     let w = away refl in
     let because : w.stop ≡ Some (stops.Waited wait.idles) = subst (Because w.stop) (sym w.answer) (waits_by P O (before_end records) w.stop) in
-    let vain = vain_at P O w.moves most rise wait.idles w.stop because w.vain in
+    let vain = vain_at E P O w.moves most rise wait.idles w.stop because w.vain in
     record { asked = is; least = vain.0; most = vain.1; moves = w.moves; logged = w.logged; vain = vain.2 }
 
 damage_waits : (fact : Wait → Type 0) (source : Bool) (file : FileNo) (logged : Content) (found : Found) → IfWaited (if source then causes.SourceChanged file logged found else causes.FileDamaged file logged found) fact
@@ -146,16 +147,16 @@ cause_waits fact P s r h (Err (stopped.Unheard devices.Memory)) says = tt
 cause_waits fact P s r h (Err (stopped.Unopened devices.Failed)) says = tt
 cause_waits fact P s r h (Err (stopped.Unopened devices.Memory)) says = tt
 
-waits_ended : (ask : Ask) (rise : ℕ) (records : List Record) (ended : Check) → (ask.options.wq ≡ false → IsRunEnd ask.options.limit ended) → (ask.options.wq ≡ true → EndsWaiting ask.plan ask.options ask.workers.limit rise records ended)
-    → Answers (WaitsInVain ask.plan ask.options ask.workers.limit rise records) ended
-waits_ended ask rise records (check.Waited wait) closed away = waits_in ask.options.wq ask.plan ask.options ask.workers.limit rise ask.options.limit records wait refl closed away
-waits_ended ask rise records _ closed away = tt
+waits_ended : (E : Admitting) (ask : Ask) (rise : ℕ) (records : List Record) (ended : Check) → (ask.options.wq ≡ false → IsRunEnd ask.options.limit ended) → (ask.options.wq ≡ true → EndsWaiting E ask.plan ask.options ask.workers.limit rise records ended)
+    → Answers (WaitsInVain E ask.plan ask.options ask.workers.limit rise records) ended
+waits_ended E ask rise records (check.Waited wait) closed away = waits_in E ask.options.wq ask.plan ask.options ask.workers.limit rise ask.options.limit records wait refl closed away
+waits_ended E ask rise records _ closed away = tt
 
 -- where the cause of a run is a wait it waited in vain
-pub waited_run : (ask : Ask) (rise : ℕ) (s r h : Rise) (records : List Record) (how : Result Check Stopped) → (ask.options.wq ≡ false → IfOk how (IsRunEnd ask.options.limit)) → (ask.options.wq ≡ true → IfOk how (EndsWaiting ask.plan ask.options ask.workers.limit rise records))
-    → IfWaited (run_cause s r h ask.plan how) (WaitsInVain ask.plan ask.options ask.workers.limit rise records)
-waited_run ask rise s r h records (Ok ended) closed away = cause_waits (WaitsInVain ask.plan ask.options ask.workers.limit rise records) ask.plan s r h (Ok ended) (waits_ended ask rise records ended closed away)
-waited_run ask rise s r h records (Err why) closed away = cause_waits (WaitsInVain ask.plan ask.options ask.workers.limit rise records) ask.plan s r h (Err why) tt
+pub waited_run : (E : Admitting) (ask : Ask) (rise : ℕ) (s r h : Rise) (records : List Record) (how : Result Check Stopped) → (ask.options.wq ≡ false → IfOk how (IsRunEnd ask.options.limit)) → (ask.options.wq ≡ true → IfOk how (EndsWaiting E ask.plan ask.options ask.workers.limit rise records))
+    → IfWaited (run_cause s r h ask.plan how) (WaitsInVain E ask.plan ask.options ask.workers.limit rise records)
+waited_run E ask rise s r h records (Ok ended) closed away = cause_waits (WaitsInVain E ask.plan ask.options ask.workers.limit rise records) ask.plan s r h (Ok ended) (waits_ended E ask rise records ended closed away)
+waited_run E ask rise s r h records (Err why) closed away = cause_waits (WaitsInVain E ask.plan ask.options ask.workers.limit rise records) ask.plan s r h (Err why) tt
 
 vain_ended : (so : Type 0) (wq : Bool) (limit : Option ℕ) (ended : Check) → (wq ≡ false → IsRunEnd limit ended) → (wq ≡ true → IfAnswered ended so) → Answers (λ wait. so) ended
 vain_ended so wq limit (check.Waited wait) closed away = by_either wq (λ is. away is) (λ alone. absurd (closed alone))

@@ -8,6 +8,7 @@ use Rattle.flow_types.specs.declared.records.Record.{Record}
 use Rattle.flow_types.specs.Serial.{Contents, Function, job_of, serial}
 use Rattle.outside.specs.Disk.{Outcomes}
 use Rattle.outside.specs.Files.{Files}
+use Rattle.run_history.specs.Admissions.{Admitting}
 use Rattle.run_history.specs.declared.options.Options.{Options}
 use Rattle.local_run.specs.Course.{TellsJobs}
 use Rattle.local_run.specs.Runs.{read_sources}
@@ -57,13 +58,13 @@ failures_of_all some0 some1 rest all0 all1 kind was is f = record { later = omeg
 pub logged_of_all : (H all : List Record) (some0 some1 rest all0 all1 : ℕ) → all0 ≡ some0 + rest → all1 ≡ some1 + rest → LogsFailed H all some0 some1 → LogsFailed H all all0 all1
 logged_of_all H all some0 some1 rest all0 all1 was is logs = omega (arith, was, is, logs)
 
-module _ {S : Type 0} (tells : Type 0) (files : S → Files) (may_leave : S → Outcomes) (moment : S → ℕ) (images_since : S → ℕ → Files → Type 0) (born : ℕ)
+module _ {S : Type 0} (E : Admitting) (tells : Type 0) (files : S → Files) (may_leave : S → Outcomes) (moment : S → ℕ) (images_since : S → ℕ → Files → Type 0) (born : ℕ)
     (gives : Function) (may_fail : Job → Failure → Type 0) (told wide_told : Job → Type 0) (sure wide_sure links wide_links : Type 0) (b a wb wa : Counts) (ask : Ask) (old new : S) (records : List Record) (cause : Cause) where
   pub widened : ((job : Job) → wide_told job → told job) → (wide_sure → sure) → (wide_links → links) → (FaultEnd b a cause → FaultEnd wb wa cause) → (NoneRose wb wa → NoneRose b a) → idle_rise b a ≡ idle_rise wb wa
-      → Serves tells files may_leave moment images_since born gives may_fail told sure links b a ask old new records cause
-      → Serves tells files may_leave moment images_since born gives may_fail wide_told wide_sure wide_links wb wa ask old new records cause
+      → Serves E tells files may_leave moment images_since born gives may_fail told sure links b a ask old new records cause
+      → Serves E tells files may_leave moment images_since born gives may_fail wide_told wide_sure wide_links wb wa ask old new records cause
   widened each is links_are fault none same s = record {
-    ends = λ t. subst (λ (n : ℕ). LogEnds ask n (files old) (files new) records cause) same (s.ends t);
+    ends = λ t. subst (λ (n : ℕ). LogEnds E ask n (files old) (files new) records cause) same (s.ends t);
     late = s.late;
     faults = fault s.faults;
     has_log = s.has_log;

@@ -1,4 +1,5 @@
 -- What a call does that cleans or prints.
+use Rattle.run_history.specs.Admissions.{Admitting}
 use Rattle.std.proofs.Common.{◌≡◌, ◌≤◌, ◌⊎◌, ⊎_elim, inl, inr, ◌∙◌, ℕ, true, false, List, [], refl, sym, subst, true≢false}
 use Rattle.flow_types.specs.declared.job.Job.{Job}
 use Rattle.flow_types.specs.declared.job.Failure.{Failure}
@@ -37,7 +38,7 @@ loses_cut kinds.SiteBroke keeps cut = true≢false keeps
 loses_cut kinds.NoMemory keeps cut = true≢false keeps
 loses_cut _ keeps cut = true≢false (sym cut)
 
-module _ {S : Type 0} (tells : Type 0) (files : S → Files) (may_leave : S → Outcomes) (moment : S → ℕ) (images_since : S → ℕ → Files → Type 0) (born : ℕ)
+module _ {S : Type 0} (E : Admitting) (tells : Type 0) (files : S → Files) (may_leave : S → Outcomes) (moment : S → ℕ) (images_since : S → ℕ → Files → Type 0) (born : ℕ)
     (gives : Function) (may_fail : Job → Failure → Type 0) (told : Job → Type 0) (sure honest_links : Type 0) (before after : Counts) (ask : Ask) (old new : S) (records : List Record) (cause : Cause) (time : ℕ) (cut : Type 0) where
   -- What is known of work that runs nothing.
   pub record Cared : Type 0 where
@@ -49,7 +50,7 @@ module _ {S : Type 0} (tells : Type 0) (files : S → Files) (may_leave : S → 
     pub faults : FaultEnd before after cause
     pub damaged : tells → (at : ℕ) → cause ≡ causes.LogDamaged at → IsDamagedAt (files old ask.log) at
     pub read : tells → IsReadOr (files old ask.log) cause
-    pub goes : tells → (H : List Record) → Spells H (files old ask.log) → GoesOn ask.work ask (idle_rise before after) H (files old) (files new) records cause
+    pub goes : tells → (H : List Record) → Spells H (files old ask.log) → GoesOn E ask.work ask (idle_rise before after) H (files old) (files new) records cause
     pub has_log : tells → (H : List Record) → Spells H (files old ask.log) → HasLog H records (kind_of cause)
     pub unread : tells → (H : List Record) → Spells H (files old ask.log) → (BeginsWith H records → ⊥) → LeavesOnly moment images_since old new (IsBefore ask.log (files old ask.log) (may_leave old))
     pub added : tells → (H : List Record) → Spells H (files old ask.log) → CallAdds ask H records cause
@@ -82,7 +83,7 @@ module _ {S : Type 0} (tells : Type 0) (files : S → Files) (may_leave : S → 
       inr (moment_after fits ask.plan ask.log (files old) (may_leave old) H records cut (IsCut cause) image c.cuts m))
       ((only resumable).before born image (c.later t) left)
 
-  pub cared_serves : Cared → Serves tells files may_leave moment images_since born gives may_fail told sure honest_links before after ask old new records cause
+  pub cared_serves : Cared → Serves E tells files may_leave moment images_since born gives may_fail told sure honest_links before after ask old new records cause
   cared_serves c = record {
     ends = λ t. record { damaged = c.damaged t; read = c.read t; whole = c.goes t };
     late = c.late;

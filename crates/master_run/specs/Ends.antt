@@ -3,6 +3,7 @@ use Rattle.std.specs.Prelude.{◌≡◌, ◌⊎◌, ◌<◌, ◌-◌, ℕ, Bool,
 use Rattle.flow_types.specs.declared.plan.Plan.{Plan}
 use Rattle.flow_types.specs.declared.records.Record.{Record}
 use Rattle.flow_types.specs.Plans.{is_source}
+use Rattle.run_history.specs.Admissions.{Admitting}
 use Rattle.run_history.specs.declared.answers.Check.{Check}
 use Rattle.run_history.specs.declared.answers.Check.TheVariants as check
 use Rattle.run_history.specs.declared.options.Options.{Options as RunOptions}
@@ -82,15 +83,15 @@ abbrev pub EndsBy : Ask → Check → Cause → Type 0
 EndsBy ask ended cause = IsRunEnd ask.options.limit ended × IsCause (end_cause (length ask.plan.rules) ended) cause
 
 -- The cause is that of an end of a run with workers, which waited in vain only by its records and after so many looks for which nobody came, as many as this call made at most.
-pub record EndsAway (ask : Ask) (rise : ℕ) (records : List Record) (cause : Cause) : Type 0 where
+pub record EndsAway (E : Admitting) (ask : Ask) (rise : ℕ) (records : List Record) (cause : Cause) : Type 0 where
   pub ended : Check
-  pub waiting : EndsWaiting ask.plan ask.options ask.workers.limit rise records ended
+  pub waiting : EndsWaiting E ask.plan ask.options ask.workers.limit rise records ended
   pub is_cause : IsCause (end_cause (length ask.plan.rules) ended) cause
 
 -- A run came to its end: one without workers, by what the definition of an end answers over its records, or one with workers.
-abbrev pub ComesToEnd : Bool → Ask → ℕ → List Record → Cause → Type 0
-ComesToEnd false ask rise records cause = EndsBy ask (end_over ask.plan ask.options (before_end records) None) cause
-ComesToEnd true ask rise records cause = EndsAway ask rise records cause
+abbrev pub ComesToEnd : Admitting → Bool → Ask → ℕ → List Record → Cause → Type 0
+ComesToEnd E false ask rise records cause = EndsBy ask (end_over ask.plan ask.options (before_end records) None) cause
+ComesToEnd E true ask rise records cause = EndsAway E ask rise records cause
 
 -- A run was stopped before its end: a file that it took in isn't what was logged, or there was a fault, or want of memory. The hall fails only where workers are asked for.
 abbrev pub IsStop : Bool → Plan → List Record → Files → Cause → Type 0
@@ -103,14 +104,14 @@ IsStop wq P records after causes.Memory = Unit {0}
 IsStop wq P records after _ = ⊥
 
 -- A run came to its end, or was stopped before.
-abbrev pub RunEnds : Ask → ℕ → List Record → Files → Cause → Type 0
-RunEnds ask rise records after cause = ComesToEnd ask.options.wq ask rise records cause ⊎ IsStop ask.options.wq ask.plan records after cause
+abbrev pub RunEnds : Admitting → Ask → ℕ → List Record → Files → Cause → Type 0
+RunEnds E ask rise records after cause = ComesToEnd E ask.options.wq ask rise records cause ⊎ IsStop ask.options.wq ask.plan records after cause
 
 -- how the call goes on over these records of the log, in which nobody came to the hall so often
-abbrev pub GoesOn : Work → Ask → ℕ → List Record → Files → Files → List Record → Cause → Type 0
-GoesOn works.Run ask rise H before after records cause = Yields (run_refusal ask.plan ask.options H before) cause (RunEnds ask rise records after cause)
-GoesOn works.Clean ask rise H before after records cause = Yields (clean_refusal ask.plan H) cause (Answers (causes.Cleaned (made_count ask.plan H)) cause)
-GoesOn works.PrintLog ask rise H before after records cause = Yields (log_refusal ask.plan H) cause (Answers (causes.Printed (length (part H))) cause)
+abbrev pub GoesOn : Admitting → Work → Ask → ℕ → List Record → Files → Files → List Record → Cause → Type 0
+GoesOn E works.Run ask rise H before after records cause = Yields (run_refusal ask.plan ask.options H before) cause (RunEnds E ask rise records after cause)
+GoesOn E works.Clean ask rise H before after records cause = Yields (clean_refusal ask.plan H) cause (Answers (causes.Cleaned (made_count ask.plan H)) cause)
+GoesOn E works.PrintLog ask rise H before after records cause = Yields (log_refusal ask.plan H) cause (Answers (causes.Printed (length (part H))) cause)
 
 -- it is told that the log is damaged
 abbrev pub IsLogDamaged : Cause → Type 0
@@ -125,15 +126,15 @@ abbrev pub IsReadOr : Option (List ℕ) → Cause → Type 0
 IsReadOr file cause = SpellsSome file ⊎ IsLogDamaged cause ⊎ IsTrue (may_replace (kind_of cause))
 
 -- How the call ends that asks for this: the log is damaged, and that is told, or it goes on over the records that it spells.
-pub record LogEnds (ask : Ask) (rise : ℕ) (before after : Files) (records : List Record) (cause : Cause) : Type 0 where
+pub record LogEnds (E : Admitting) (ask : Ask) (rise : ℕ) (before after : Files) (records : List Record) (cause : Cause) : Type 0 where
   pub damaged : (at : ℕ) → cause ≡ causes.LogDamaged at → IsDamagedAt (before ask.log) at
   pub read : IsReadOr (before ask.log) cause
-  pub whole : (H : List Record) → Spells H (before ask.log) → GoesOn ask.work ask rise H before after records cause
+  pub whole : (H : List Record) → Spells H (before ask.log) → GoesOn E ask.work ask rise H before after records cause
 
 -- How a call ends of which this was asked, and in which nobody came to the hall so often: by the refusal, with all files as before, where one is owed.
-abbrev pub CallEnds : Result Ask Cause → ℕ → Files → Files → List Record → Cause → Type 0
-CallEnds (Err refusal) rise before after records cause = Answers refusal cause × (after ≡ before) × (records ≡ [])
-CallEnds (Ok ask) rise before after records cause = LogEnds ask rise before after records cause
+abbrev pub CallEnds : Admitting → Result Ask Cause → ℕ → Files → Files → List Record → Cause → Type 0
+CallEnds E (Err refusal) rise before after records cause = Answers refusal cause × (after ≡ before) × (records ≡ [])
+CallEnds E (Ok ask) rise before after records cause = LogEnds E ask rise before after records cause
 
 -- refused by the words alone
 abbrev pub is_words_refusal : Cause → Bool

@@ -9,7 +9,8 @@ use Rattle.flow_types.specs.Plans.{is_kept, takers_of}
 use Rattle.run_history.specs.declared.answers.Wait.{Wait}
 use Rattle.run_history.specs.declared.moves.Move.{Move}
 use Rattle.run_history.specs.declared.options.Options.{Options as RunOptions}
-use Rattle.run_history.specs.Answers.{before_end, is_in_vain}
+use Rattle.run_history.specs.Admissions.{Admitting, is_in_vain_by}
+use Rattle.run_history.specs.Answers.{before_end}
 use Rattle.run_history.specs.History.{since_opening}
 use Rattle.run_history.specs.Links.{records_of}
 use Rattle.run_history.specs.Spent.{SpentOnce}
@@ -107,14 +108,14 @@ abbrev pub is_waited : Kind → Bool
 is_waited WaitedOut = true
 is_waited _ = false
 
--- It waited in vain: workers were asked for, nobody came so often, which is at least the limit and at most as often as in this call, and by the records before the end and some moves of links no attempt ran, no file was wanted, and some ready rule fitted the storage but none that did fitted a live link that it may run on.
-pub record WaitsInVain (P : Plan) (O : RunOptions) (limit rise : ℕ) (records : List Record) (wait : Wait) : Type 0 where
+-- It waited in vain: workers were asked for, nobody came so often, which is at least the limit and at most as often as in this call, and by the records before the end and some moves of links no attempt ran, no file was wanted, and some ready rule that was admitted fitted the storage but none that did fitted a live link that it may run on.
+pub record WaitsInVain (E : Admitting) (P : Plan) (O : RunOptions) (limit rise : ℕ) (records : List Record) (wait : Wait) : Type 0 where
   pub asked : IsTrue O.wq
   pub least : limit ≤ wait.idles
   pub most : wait.idles ≤ rise
   pub moves : List Move
   pub logged : records_of moves ≡ before_end records
-  pub vain : IsTrue (is_in_vain P O moves)
+  pub vain : IsTrue (is_in_vain_by E P O moves)
 
 -- where the cause is a wait this holds of it
 abbrev pub IfWaited : Cause → (Wait → Type 0) → Type 0

@@ -6,6 +6,7 @@ use Rattle.flow_types.specs.declared.job.Job.{Job}
 use Rattle.flow_types.specs.declared.job.Failure.{Failure}
 use Rattle.flow_types.specs.declared.records.Record.{Record}
 use Rattle.flow_types.specs.Serial.{Function, serial}
+use Rattle.run_history.specs.Admissions.{Admitting}
 use Rattle.run_history.specs.History.{since_opening}
 use Rattle.run_history.specs.Spent.{SpentOnce}
 use Rattle.outside.specs.Disk.{IsImage, LeavesOnly, Outcomes}
@@ -78,9 +79,9 @@ CanComplete gives told sure ask files outcomes H before after cause =
     → Completes ask.options.limit cause
 
 -- What a call does of which this is asked, from the site that it finds to the one that it leaves.
-pub record Serves {S : Type 0} (tells : Type 0) (files : S → Files) (may_leave : S → Outcomes) (moment : S → ℕ) (images_since : S → ℕ → Files → Type 0) (born : ℕ)
+pub record Serves {S : Type 0} (E : Admitting) (tells : Type 0) (files : S → Files) (may_leave : S → Outcomes) (moment : S → ℕ) (images_since : S → ℕ → Files → Type 0) (born : ℕ)
     (gives : Function) (may_fail : Job → Failure → Type 0) (told : Job → Type 0) (sure honest_links : Type 0) (before after : Counts) (ask : Ask) (old new : S) (records : List Record) (cause : Cause) : Type 0 where
-  pub ends : tells → LogEnds ask (idle_rise before after) (files old) (files new) records cause
+  pub ends : tells → LogEnds E ask (idle_rise before after) (files old) (files new) records cause
   pub late : IsFalse (is_early (kind_of cause))
   pub faults : FaultEnd before after cause
   pub has_log : tells → (H : List Record) → Spells H (files old ask.log) → HasLog H records (kind_of cause)

@@ -17,6 +17,7 @@ use Rattle.outside.specs.Disk.{IsImage, LeavesOnly}
 use Rattle.outside.specs.Files.{Files}
 use Rattle.report.specs.Causes.{is_failing, is_refusal, kind_of, may_lose, status_of}
 use Rattle.report.specs.declared.cause.Cause.{Cause}
+use Rattle.run_history.specs.Admissions.{Admitting, all_admitted}
 use Rattle.run_history.specs.History.{since_opening}
 use Rattle.run_history.specs.Spent.{SpentOnce}
 use Rattle.worker_pool.specs.Crews.{AllSure}
@@ -36,8 +37,8 @@ use Rattle.master_run.specs.Reaching.{AreSureLinks, GoesSurely, IsMannedFor}
 use Rattle.master_run.specs.Serves.{CanComplete, IsCut, IsSparedBy}
 
 -- The call has this command line and environment. It finds its objects at the one stand and leaves them at the other, and ends by this cause with these records of its log.
--- An admission of rules would stand behind the objects: today every ready rule is admitted. `one_plan`, `ends` and `added` would speak of it, since a Started has to be admitted in the records before it, and Waited asks for rules that are.
-module _ {A B L C D : Type 0} (F : CommandWords) (S : SiteWords A) (H : HallWords B L) (R : RunnerWords C) (O : SinkWords D)
+-- Rules are started by this admission: a Started was admitted in the records before it, and Waited asks for rules that are.
+module _ {A B L C D : Type 0} (F : CommandWords) (S : SiteWords A) (H : HallWords B L) (R : RunnerWords C) (O : SinkWords D) (E : Admitting)
     (line : List (String Global)) (env : List (String Global × String Global)) (old new : Stand A B C D) (cause : Cause) (written : List Record) where
   -- what words, environment and files ask for
   abbrev pub requested : Result Ask Cause
@@ -72,7 +73,7 @@ module _ {A B L C D : Type 0} (F : CommandWords) (S : SiteWords A) (H : HallWord
     pub words : WordsEnd (choice line) cause
     pub faults : FaultEnd counted_before counted_after cause
     -- By one plan, which is the one that was read: the records may stand in a log of it, with what is stored and reserved within the limit of the last opening; one call that is asked to run adds one run to some records, which are those of the log, with its opening, starts, drops and losses as the words let them be; a cause that the run answered is that of its end; and it ends since nobody came only where it waited in vain. Where the hall's links tell their bytes, each that was handed back then is ill, or over it came amounts that no ready rule fits that fits the storage and may run at a worker.
-    pub one_plan : CallTells F H IsPlanRead IsPastRead (choice line) old.hall new.hall written cause
+    pub one_plan : CallTells F H E IsPlanRead IsPastRead (choice line) old.hall new.hall written cause
     -- Each attempt of a run that ended is closed once.
     pub closed : IsTrue (is_run_end (kind_of cause)) → SpentOnce (since_opening written)
     -- Each link that the hall gave is handed back, and where no worker is asked for the hall stays as it was.
@@ -89,7 +90,7 @@ module _ {A B L C D : Type 0} (F : CommandWords) (S : SiteWords A) (H : HallWord
   -- What holds where the site tells its files.
   pub record HoldsOfFiles : Type 0 where
     -- Each cause comes exactly where it belongs, in their order. A fault of the site and want of memory may come in the place of another, and a fault of the sink in that of the end of what was asked for.
-    pub ends : CallEnds requested idles (S.files old.site) (S.files new.site) written cause
+    pub ends : CallEnds E requested idles (S.files old.site) (S.files new.site) written cause
     -- A refusal changes no file: reads give what they gave, and a crash at any moment of the call leaves nothing that it might not have left at the entry.
     pub untouched : IsTrue (is_refusal (kind_of cause)) → S.files new.site ≡ S.files old.site
     pub quiet : IsTrue (is_refusal (kind_of cause)) → LeavesOnly S.moment S.images_since old.site new.site (IsImage (S.may_leave old.site))
@@ -164,7 +165,7 @@ module _ {A B L C D : Type 0} (F : CommandWords) (S : SiteWords A) (H : HallWord
           counted_before counted_after written cause
 
     -- How a call goes that ends with this status. The clauses on its log speak of the records that its file spells at the entry, of which there is one list at most.
-    pub record TopEnds (code : ℕ) : Type 0 where
+    pub record TopEndsBy (code : ℕ) : Type 0 where
       pub status : code ≡ status_of cause
       pub always : HoldsAlways
       pub by_files : S.tells → HoldsOfFiles
@@ -173,3 +174,8 @@ module _ {A B L C D : Type 0} (F : CommandWords) (S : SiteWords A) (H : HallWord
       pub by_trust : S.tells → OfLog requested (S.files old.site) HoldsByTrust
       -- Where the sink tells its bytes, they grew by the text of the cause, whole unless the sink's count rose or memory was wanting, and then by a first part of a text. The end of what was asked for is answered only where its text was printed whole.
       pub text : O.tells → Prints (choice line) IsPlanRead written (O.count old.out) (O.count new.out) (O.bytes old.out) (O.bytes new.out) cause
+
+-- The same where every ready rule is admitted.
+abbrev pub TopEnds : {A B L C D : Type 0} → CommandWords → SiteWords A → HallWords B L → RunnerWords C → SinkWords D → List (String Global) → List (String Global × String Global) → Stand A B C D → Stand A B C D
+    → Cause → List Record → (Job → Type 0) → ℕ → Type 0
+TopEnds F S H R O line env old new cause written told code = TopEndsBy F S H R O all_admitted line env old new cause written told code

@@ -3,6 +3,7 @@ ghost use Rattle.std.specs.Prelude.{◌≡◌, ◌≢◌, ◌≤◌, ◌<◌, �
 ghost use Rattle.flow_types.specs.declared.records.Record.{Record as RecordValue};
 ghost use Rattle.flow_types.specs.Plans.{IsValid};
 ghost use Rattle.run_history.specs.History.{part};
+ghost use Rattle.run_history.specs.Admissions.{Admitting};
 ghost use Rattle.txn_log.specs.Spells.{Spells};
 ghost use Rattle.file_store.specs.Outputs.{file_name};
 ghost use Rattle.command_words.specs.declared.options.Work.TheVariants.{Clean, PrintLog};
@@ -39,7 +40,7 @@ pub fn clean_flow<F: Commands, S: Site, B: Born>(
     requires later { S.tells → B.born ≤ S.moment site }
     requires work { ask.work ≡ Clean }
     requires counted { before ≤ S.count site }
-    ensures serves { Serves S.tells S.files S.may_leave S.moment S.images_since B.born
+    ensures serves { (E : Admitting) → Serves E S.tells S.files S.may_leave S.moment S.images_since B.born
         F.gives F.may_fail (λ job. Unit {0}) (Unit {0}) (Unit {0})
         (counts before [] 0 0 0) (counts (S.count result.site) [] 0 0 0)
         ask site result.site result.records result.cause }
@@ -85,7 +86,7 @@ pub fn read_log<F: Commands, S: Site, B: Born>(
     requires later { S.tells → B.born ≤ S.moment site }
     requires work { ask.work ≡ PrintLog }
     requires counted { before ≤ S.count site }
-    ensures serves { Serves S.tells S.files S.may_leave S.moment S.images_since B.born
+    ensures serves { (E : Admitting) → Serves E S.tells S.files S.may_leave S.moment S.images_since B.born
         F.gives F.may_fail (λ job. Unit {0}) (Unit {0}) (Unit {0})
         (counts before [] 0 0 0) (counts (S.count result.site) [] 0 0 0)
         ask site result.site result.records result.cause }

@@ -16,4 +16,4 @@ mod running;
 mod stored;
 mod top;
 
-pub use top::{Ended, makeflow_top};
+pub use top::{Ended, makeflow_top, makeflow_with};

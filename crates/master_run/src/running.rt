@@ -37,19 +37,25 @@ use report::Cause;
 use std::alloc::Global;
 use std::sync::Wait;
 use std::thread::Threads;
+use task_core::Policy;
 use worker_pool::Gate;
 
-// What a run needs beside what it works on: its plan again, and how often each runner has failed.
-fn kept_aside<F: Commands, R: Runner<F>>(
+// What a run needs beside what it works on: its plan again, how often each runner has failed, and an
+// admission for the plan.
+fn kept_aside<F: Commands, R: Runner<F>, Q: Policy>(
     alloc: Global,
     plan: &Plan,
     runners: &[R],
-) -> Result<(Plan, Rows<u64>), Memory>
-    ensures { IfOk result (λ kept. (kept.0 ≡ plan.now) × (kept.1 ≡ map R.count runners.now)) }
+    policy: &Q,
+) -> Result<(Plan, Rows<u64>, Q::Made), Memory>
+    requires valid { IsValid plan.now }
+    ensures { IfOk result (λ kept. (kept.0 ≡ plan.now) × (kept.1 ≡ map R.count runners.now)
+        × Q.Made.stands_for kept.2 plan.now) }
 {
-    let plan = plan.copy(alloc)?;
+    let copied = plan.copy(alloc)?;
     let counts = counts_of::<F, R>(alloc, runners)?;
-    Ok((plan, counts))
+    let admission = policy.make(alloc, plan)?;
+    Ok((copied, counts, admission))
 }
 
 // Runs the plan over its log, by all of the runners, and at workers where it asks for them.
@@ -61,6 +67,7 @@ fn run_by_all<
     R: Runner<F>,
     C: Clock,
     G: Gate,
+    Q: Policy,
     B: Born,
 >(
     rt: &W,
@@ -72,6 +79,7 @@ fn run_by_all<
     runners: &mut [R],
     gate: &G,
     clock: &C,
+    policy: &Q,
 ) -> Course<S>
     requires some { 0 < length runners.old }
     requires valid { IsValid ask.plan }
@@ -81,7 +89,7 @@ fn run_by_all<
     requires later { S.tells → B.born ≤ S.moment site }
     requires work { ask.work ≡ Run }
     requires counted { before ≤ S.count site }
-    ensures serves { Serves S.tells S.files S.may_leave S.moment S.images_since B.born
+    ensures serves { Serves Q.Made.admitted S.tells S.files S.may_leave S.moment S.images_since B.born
         F.gives F.may_fail (AllTell R.tells runners.old) (AllSure R.sure runners.old)
         (H.honest hall.old)
         (counts before (map R.count runners.old) (H.count hall.old) (H.idle_count hall.old) 0)
@@ -98,10 +106,10 @@ fn run_by_all<
     ensures alone { ask.options.wq ≡ false → hall.new ≡ hall.old }
     ensures back { (IsCut result.cause → ⊥)
         → AreBack (H.got hall.old) (H.got hall.new) (H.given hall.old) (H.given hall.new) }
-    ensures waited { IfWaited result.cause (WaitsInVain ask.plan ask.options ask.workers.limit
+    ensures waited { IfWaited result.cause (WaitsInVain Q.Made.admitted ask.plan ask.options ask.workers.limit
         (H.idle_count hall.new - H.idle_count hall.old) result.records) }
     ensures vain { H.Way.tells → IfWaited result.cause (λ wait. AreVain F.gives F.may_fail
-        H.Way.history H.Way.count H.Way.idle_count H.Way.is_closed ask.workers.limit ask.plan
+        H.Way.history H.Way.count H.Way.idle_count H.Way.is_closed ask.workers.limit Q.Made.admitted ask.plan
         ask.options (before_end result.records) (H.got hall.old) (H.got hall.new)) }
     ensures due_losses { H.Way.tells → S.tells → (G : List RecordValue)
         → Spells G (S.files site ask.log) → IsFalse (may_lose (kind_of result.cause))
@@ -126,7 +134,7 @@ fn run_by_all<
     ensures collects { IsTrue (is_run_end (kind_of result.cause))
         → RunCollects ask.plan ask.options.mode result.records }
     ensures leaves { RunLeaves (λ past. S.tells → Spells past (S.files site ask.log)) H.Way.tells
-        (H.listens hall.new) F.gives F.may_fail H.Way.history H.Way.count H.Way.idle_count H.Way.is_closed ask
+        (H.listens hall.new) F.gives F.may_fail H.Way.history H.Way.count H.Way.idle_count H.Way.is_closed Q.Made.admitted ask
         (H.idle_count hall.new - H.idle_count hall.old) (H.got hall.old) (H.got hall.new)
         result.records result.cause }
     ensures plan { result.plan ≡ ask.plan }
@@ -139,7 +147,8 @@ fn run_by_all<
         workers,
         ..
     } = ask;
-    let Ok((copied, counts)) = kept_aside::<F, R>(alloc, &plan, runners) else {
+    let Ok((copied, counts, admission)) = kept_aside::<F, R, Q>(alloc, &plan, runners, policy)
+    else {
         return Course {
             cause: Cause::Memory,
             site,
@@ -147,9 +156,21 @@ fn run_by_all<
             plan,
         };
     };
+    let mut admission = admission;
     let met = hall.faults();
-    match resume::<W, G, F, S, H, R, C, B>(
-        rt, alloc, plan, site, log, options, hall, workers, runners, gate, clock,
+    match resume::<W, G, F, S, H, R, C, Q::Made, B>(
+        rt,
+        alloc,
+        plan,
+        &mut admission,
+        site,
+        log,
+        options,
+        hall,
+        workers,
+        runners,
+        gate,
+        clock,
     ) {
         Ok(ended) => {
             let RunEnded { site, records, how } = ended;
@@ -189,6 +210,7 @@ pub fn run_flow<
     R: Runner<F>,
     C: Clock,
     G: Gate,
+    Q: Policy,
     B: Born,
 >(
     rt: &W,
@@ -200,6 +222,7 @@ pub fn run_flow<
     runners: &mut [R],
     gate: &G,
     clock: &C,
+    policy: &Q,
 ) -> Course<S>
     requires some { (0 < length runners.old) × (0 < ask.jobs) }
     requires valid { IsValid ask.plan }
@@ -209,7 +232,7 @@ pub fn run_flow<
     requires later { S.tells → B.born ≤ S.moment site }
     requires work { ask.work ≡ Run }
     requires counted { before ≤ S.count site }
-    ensures serves { Serves S.tells S.files S.may_leave S.moment S.images_since B.born
+    ensures serves { Serves Q.Made.admitted S.tells S.files S.may_leave S.moment S.images_since B.born
         F.gives F.may_fail (AllTell R.tells runners.old) (AllSure R.sure runners.old)
         (H.honest hall.old)
         (counts before (map R.count runners.old) (H.count hall.old) (H.idle_count hall.old) 0)
@@ -227,10 +250,10 @@ pub fn run_flow<
     ensures alone { ask.options.wq ≡ false → hall.new ≡ hall.old }
     ensures back { (IsCut result.cause → ⊥)
         → AreBack (H.got hall.old) (H.got hall.new) (H.given hall.old) (H.given hall.new) }
-    ensures waited { IfWaited result.cause (WaitsInVain ask.plan ask.options ask.workers.limit
+    ensures waited { IfWaited result.cause (WaitsInVain Q.Made.admitted ask.plan ask.options ask.workers.limit
         (H.idle_count hall.new - H.idle_count hall.old) result.records) }
     ensures vain { H.Way.tells → IfWaited result.cause (λ wait. AreVain F.gives F.may_fail
-        H.Way.history H.Way.count H.Way.idle_count H.Way.is_closed ask.workers.limit ask.plan
+        H.Way.history H.Way.count H.Way.idle_count H.Way.is_closed ask.workers.limit Q.Made.admitted ask.plan
         ask.options (before_end result.records) (H.got hall.old) (H.got hall.new)) }
     ensures due_losses { H.Way.tells → S.tells → (G : List RecordValue)
         → Spells G (S.files site ask.log) → IsFalse (may_lose (kind_of result.cause))
@@ -255,12 +278,14 @@ pub fn run_flow<
     ensures collects { IsTrue (is_run_end (kind_of result.cause))
         → RunCollects ask.plan ask.options.mode result.records }
     ensures leaves { RunLeaves (λ past. S.tells → Spells past (S.files site ask.log)) H.Way.tells
-        (H.listens hall.new) F.gives F.may_fail H.Way.history H.Way.count H.Way.idle_count H.Way.is_closed ask
+        (H.listens hall.new) F.gives F.may_fail H.Way.history H.Way.count H.Way.idle_count H.Way.is_closed Q.Made.admitted ask
         (H.idle_count hall.new - H.idle_count hall.old) (H.got hall.old) (H.got hall.new)
         result.records result.cause }
     ensures plan { result.plan ≡ ask.plan }
 {
     let count = runners.len().min(ask.jobs as usize);
     let (working, _) = runners.split_at_mut(count);
-    run_by_all::<F, W, S, H, R, C, G, B>(rt, alloc, before, ask, site, hall, working, gate, clock)
+    run_by_all::<F, W, S, H, R, C, G, Q, B>(
+        rt, alloc, before, ask, site, hall, working, gate, clock, policy,
+    )
 }

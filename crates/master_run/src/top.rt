@@ -30,7 +30,7 @@ ghost use Rattle.master_run.specs.Objects.{hall_words, link_words, site_words, s
 ghost use Rattle.master_run.specs.OnePlan.{AreLogged, RunLeaves};
 ghost use Rattle.master_run.specs.Reaching.{AreSureLinks, GoesSurely, IsMannedFor};
 ghost use Rattle.master_run.specs.Serves.{IsCut, Serves};
-ghost use Rattle.master_run.specs.Tops.{TopEnds};
+ghost use Rattle.master_run.specs.Tops.{TopEnds, TopEndsBy};
 
 use crate::ask::Ask;
 use crate::asking::read_ask;
@@ -50,6 +50,7 @@ use std::alloc::Global;
 use std::marker::Brand;
 use std::sync::Wait;
 use std::thread::Threads;
+use task_core::{EveryRule, Policy};
 use worker_pool::Gate;
 
 /// How a call ended.
@@ -84,6 +85,7 @@ fn serve<
     R: Runner<F>,
     C: Clock,
     G: Gate,
+    Q: Policy,
     B: Born,
 >(
     rt: &W,
@@ -95,6 +97,7 @@ fn serve<
     runners: &mut [R],
     gate: &G,
     clock: &C,
+    policy: &Q,
 ) -> Course<S>
     requires some { (0 < length runners.old) × (0 < ask.jobs) }
     requires valid { IsValid ask.plan }
@@ -103,7 +106,7 @@ fn serve<
     requires patient { 0 < ask.workers.limit }
     requires later { S.tells → B.born ≤ S.moment site }
     requires counted { before ≤ S.count site }
-    ensures serves { Serves S.tells S.files S.may_leave S.moment S.images_since B.born
+    ensures serves { Serves Q.Made.admitted S.tells S.files S.may_leave S.moment S.images_since B.born
         F.gives F.may_fail (AllTell R.tells runners.old) (AllSure R.sure runners.old)
         (H.honest hall.old)
         (counts before (map R.count runners.old) (H.count hall.old) (H.idle_count hall.old) 0)
@@ -120,10 +123,10 @@ fn serve<
     ensures alone { ask.options.wq ≡ false → hall.new ≡ hall.old }
     ensures back { (IsCut result.cause → ⊥)
         → AreBack (H.got hall.old) (H.got hall.new) (H.given hall.old) (H.given hall.new) }
-    ensures waited { IfWaited result.cause (WaitsInVain ask.plan ask.options ask.workers.limit
+    ensures waited { IfWaited result.cause (WaitsInVain Q.Made.admitted ask.plan ask.options ask.workers.limit
         (H.idle_count hall.new - H.idle_count hall.old) result.records) }
     ensures vain { H.Way.tells → IfWaited result.cause (λ wait. AreVain F.gives F.may_fail
-        H.Way.history H.Way.count H.Way.idle_count H.Way.is_closed ask.workers.limit ask.plan
+        H.Way.history H.Way.count H.Way.idle_count H.Way.is_closed ask.workers.limit Q.Made.admitted ask.plan
         ask.options (before_end result.records) (H.got hall.old) (H.got hall.new)) }
     ensures due_losses { H.Way.tells → S.tells → (G : List RecordValue)
         → Spells G (S.files site ask.log) → IsFalse (may_lose (kind_of result.cause))
@@ -149,15 +152,15 @@ fn serve<
         → RunCollects ask.plan ask.options.mode result.records }
     ensures leaves { ask.work ≡ Run → RunLeaves
         (λ past. S.tells → Spells past (S.files site ask.log)) H.Way.tells
-        (H.listens hall.new) F.gives F.may_fail H.Way.history H.Way.count H.Way.idle_count H.Way.is_closed ask
+        (H.listens hall.new) F.gives F.may_fail H.Way.history H.Way.count H.Way.idle_count H.Way.is_closed Q.Made.admitted ask
         (H.idle_count hall.new - H.idle_count hall.old) (H.got hall.old) (H.got hall.new)
         result.records result.cause }
     ensures plan { result.plan ≡ ask.plan }
     ensures spare { drop ask.jobs runners.new ≡ drop ask.jobs runners.old }
 {
     match ask.work {
-        Work::Run => run_flow::<F, W, S, H, R, C, G, B>(
-            rt, alloc, before, ask, site, hall, runners, gate, clock,
+        Work::Run => run_flow::<F, W, S, H, R, C, G, Q, B>(
+            rt, alloc, before, ask, site, hall, runners, gate, clock, policy,
         ),
         Work::Clean => clean_flow::<F, S, B>(alloc, before, ask, site, clock.now()),
         Work::PrintLog => read_log::<F, S, B>(alloc, before, ask, site),
@@ -172,6 +175,7 @@ fn follow<
     R: Runner<F>,
     C: Clock,
     G: Gate,
+    Q: Policy,
     B: Born,
 >(
     rt: &W,
@@ -183,15 +187,16 @@ fn follow<
     runners: &mut [R],
     gate: &G,
     clock: &C,
+    policy: &Q,
 ) -> Course<S>
     requires some { 0 < length runners.old }
     requires later { S.tells → B.born ≤ S.moment site }
-    ensures ends { S.tells → CallEnds (request words.now env.now (S.files site))
+    ensures ends { S.tells → CallEnds Q.Made.admitted (request words.now env.now (S.files site))
         (H.idle_count hall.new - H.idle_count hall.old)
         (S.files site) (S.files result.site) result.records result.cause }
     ensures serves { S.tells → (ask : AskValue)
         → request words.now env.now (S.files site) ≡ Ok ask
-        → Serves S.tells S.files S.may_leave S.moment S.images_since B.born
+        → Serves Q.Made.admitted S.tells S.files S.may_leave S.moment S.images_since B.born
         F.gives F.may_fail (AllTell R.tells runners.old) (AllSure R.sure runners.old)
         (H.honest hall.old)
         (counts (S.count site) (map R.count runners.old) (H.count hall.old)
@@ -232,12 +237,12 @@ fn follow<
     ensures back { (IsCut result.cause → ⊥)
         → AreBack (H.got hall.old) (H.got hall.new) (H.given hall.old) (H.given hall.new) }
     ensures waited { (options : OptionsValue) → choice words.now ≡ Ok options
-        → IfWaited result.cause (WaitsInVain result.plan (run_options options)
+        → IfWaited result.cause (WaitsInVain Q.Made.admitted result.plan (run_options options)
         options.limits.idle (H.idle_count hall.new - H.idle_count hall.old) result.records) }
     ensures vain { H.Way.tells
         → (options : OptionsValue) → choice words.now ≡ Ok options
         → IfWaited result.cause (λ wait. AreVain F.gives F.may_fail H.Way.history H.Way.count
-        H.Way.idle_count H.Way.is_closed options.limits.idle result.plan (run_options options)
+        H.Way.idle_count H.Way.is_closed options.limits.idle Q.Made.admitted result.plan (run_options options)
         (before_end result.records) (H.got hall.old) (H.got hall.new)) }
     ensures due_losses { H.Way.tells → S.tells
         → (options : OptionsValue) → choice words.now ≡ Ok options → (ask : AskValue)
@@ -275,7 +280,7 @@ fn follow<
         → options.work ≡ Run → RunLeaves
         (λ past. S.tells → AreLogged (request words.now env.now (S.files site)) (S.files site) past)
         H.Way.tells (H.listens hall.new) F.gives F.may_fail H.Way.history H.Way.count
-        H.Way.idle_count H.Way.is_closed (ask_of options result.plan)
+        H.Way.idle_count H.Way.is_closed Q.Made.admitted (ask_of options result.plan)
         (H.idle_count hall.new - H.idle_count hall.old)
         (H.got hall.old) (H.got hall.new) result.records result.cause }
     ensures spare { (options : OptionsValue) → choice words.now ≡ Ok options
@@ -284,8 +289,8 @@ fn follow<
     let mut site = site;
     let before = site.faults();
     match read_ask(alloc, words, env, &mut site) {
-        Ok(ask) => serve::<F, W, S, H, R, C, G, B>(
-            rt, alloc, before, ask, site, hall, runners, gate, clock,
+        Ok(ask) => serve::<F, W, S, H, R, C, G, Q, B>(
+            rt, alloc, before, ask, site, hall, runners, gate, clock, policy,
         ),
         Err(refusal) => {
             let after = site.faults();
@@ -304,10 +309,68 @@ fn follow<
 ///
 /// As many jobs run at once on this machine as the words say, and no more than there are runners.
 /// Each passes the gate before it runs. Where the words ask for workers, the hall listens at their
-/// port before the run is opened, and all rules but LOCAL ones run at those that come.
+/// port before the run is opened, and all rules but LOCAL ones run at those that come. A rule is
+/// started only where the admission that the policy makes for the flow admits it.
 ///
 /// The clauses speak of the records that the log's file spells at the entry, of which there is one
 /// list at most. A crash at any moment leaves a site from which the same call goes on.
+pub fn makeflow_with<
+    F: Commands,
+    W: Threads + Wait + Sync,
+    S: Site,
+    H: Hall<F>,
+    R: Runner<F>,
+    C: Clock,
+    O: Sink,
+    G: Gate,
+    Q: Policy,
+>(
+    rt: &W,
+    alloc: Global,
+    words: &[String],
+    env: &[(String, String)],
+    site: S,
+    hall: &mut H,
+    runners: &mut [R],
+    gate: &G,
+    clock: &C,
+    out: &mut O,
+    policy: &Q,
+) -> Ended<S>
+    requires some { 0 < length runners.old }
+
+    // What a call of `makeflow` does: what holds over all objects, where the site tells, by the
+    // records that its log spelled at the entry, where the links tell, where runners or links are
+    // trusted, and where the sink tells.
+    ensures ends { TopEndsBy (record { gives = F.gives; may_fail = F.may_fail })
+        (site_words S.tells S.files S.may_leave S.moment S.images_since S.count)
+        (hall_words (link_words H.Way.tells H.Way.history H.Way.count H.Way.idle_count
+        H.Way.is_closed) H.listens H.given H.got H.honest H.sure H.manned H.count H.idle_count)
+        (record { sure = R.sure; count = R.count; failures = R.failures })
+        (record { tells = O.tells; bytes = O.bytes; count = O.count }) Q.Made.admitted
+        words.now env.now (stand site hall.old runners.old out.old)
+        (stand result.site hall.new runners.new out.new)
+        result.cause result.records (AllTell R.tells runners.old) result.status }
+{
+    let course = follow::<F, W, S, H, R, C, G, Q, Brand>(
+        rt, alloc, words, env, site, hall, runners, gate, clock, policy,
+    );
+    let Course {
+        cause,
+        site,
+        records,
+        plan,
+    } = course;
+    let cause = tell(alloc, words, &plan, records.as_slice(), cause, out);
+    Ended {
+        status: cause.status(),
+        cause,
+        site,
+        records,
+    }
+}
+
+/// As `makeflow_with`, where every rule is admitted.
 pub fn makeflow_top<
     F: Commands,
     W: Threads + Wait + Sync,
@@ -344,20 +407,7 @@ pub fn makeflow_top<
         (stand result.site hall.new runners.new out.new)
         result.cause result.records (AllTell R.tells runners.old) result.status }
 {
-    let course = follow::<F, W, S, H, R, C, G, Brand>(
-        rt, alloc, words, env, site, hall, runners, gate, clock,
-    );
-    let Course {
-        cause,
-        site,
-        records,
-        plan,
-    } = course;
-    let cause = tell(alloc, words, &plan, records.as_slice(), cause, out);
-    Ended {
-        status: cause.status(),
-        cause,
-        site,
-        records,
-    }
+    makeflow_with(
+        rt, alloc, words, env, site, hall, runners, gate, clock, out, &EveryRule,
+    )
 }

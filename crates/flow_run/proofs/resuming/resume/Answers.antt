@@ -2,6 +2,7 @@ use Rattle.std.proofs.Common.{◌≡◌, ◌∙◌, arith, ◌⊎◌, ⊎_elim, 
 use Rattle.std.specs.Prelude.{OnOk, sum_by}
 use Rattle.flow_types.specs.Serial.{Contents, serial}
 use Rattle.file_store.specs.Outputs.{file_name}
+use Rattle.desk.specs.Admitted.{AreAdmitted}
 use Rattle.desk.specs.Kept.{WasKept}
 use Rattle.worker_pool.specs.Crews.{AllTell}
 use Rattle.local_run.specs.Added.{AddsRun}
@@ -85,6 +86,10 @@ pub returns-in-Ok-clause-results : goal.returns-in-Ok-clause-results
 returns-in-Ok-clause-results g c away tells told H spelled =
     subst (λ (G : List Record). OnOk c.run.result.how (AreResults g.H.Way.Link.history (g.H.Hall.got c.args.hall.now) (g.H.Hall.got c.run.new.hall) G c.run.result.records)) (c.in-Ok.ensures.exact told H spelled) (c.run.ensures.results away tells)
 
+pub returns-in-Ok-clause-admitted : goal.returns-in-Ok-clause-admitted
+returns-in-Ok-clause-admitted g c told H spelled =
+    subst (λ (G : List Record). AreAdmitted g.A.Admission.admitted c.args.plan c.args.options c.run.result.records (length G)) (c.in-Ok.ensures.exact told H spelled) c.run.ensures.admitted
+
 pub returns-in-Ok-clause-places : goal.returns-in-Ok-clause-places
 returns-in-Ok-clause-places g c told H spelled =
     subst (λ (G : List Record). PlacedBy c.args.plan c.args.options G c.run.result.records) (c.in-Ok.ensures.exact told H spelled) c.run.ensures.places
@@ -153,6 +158,7 @@ returns-in-Ok-clause-over g c = record {
   same = c.run.ensures.same;
   added = c.run.ensures.added;
   places = c.run.ensures.places;
+  admitted = c.run.ensures.admitted;
   modes = c.run.ensures.modes;
   lost = c.run.ensures.lost;
   lost_away = c.run.ensures.lost_away;

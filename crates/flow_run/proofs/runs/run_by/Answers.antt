@@ -10,6 +10,7 @@ use Rattle.flow_types.specs.declared.plan.Plan.{Plan}
 use Rattle.flow_types.specs.Plans.{IsValid}
 use Rattle.flow_types.specs.Serial.{Contents, serial}
 use Rattle.run_history.specs.Storage.{running_rules}
+use Rattle.desk.specs.Admitted.{AreAdmitted}
 use Rattle.desk.specs.Kept.{Fits, IsLegal}
 use Rattle.desk.specs.declared.answers.StartFault.{StartFault}
 use Rattle.worker_pool.specs.Crews.{AllTell}
@@ -38,13 +39,16 @@ use Rattle.flow_run.proofs.Losses.{loses_begun}
 use Rattle.flow_run.proofs.Dues.{by_either, due_begun, due_none, joins_begun, opened_result, records_begun, results_begun}
 use Rattle.flow_run.proofs.Calms.{well_begun}
 use Rattle.flow_run.proofs.Added.{adds_begun}
-use Rattle.flow_run.proofs.Placed.{placed_none}
+use Rattle.flow_run.proofs.Placed.{admitted_none, placed_none}
 use Rattle.flow_run.proofs.Reliance.{of_begun}
 use Rattle.flow_run.proofs.Stops.{back_as, refused_damage, refused_sure, refused_spared, refused_unclosed, refused_whole, unmet_refused}
 use Rattle.flow_run.proofs.runs.run_by.Goals as goal
 
 pub run_desk-requires-clause-valid : goal.run_desk-requires-clause-valid
 run_desk-requires-clause-valid g c κs within = subst IsValid (sym (begun g.S.Site.count c.args.plan c.args.options c.args.log.name c.args.history c.now.result g.S.Site.tells (g.S.Site.files c.args.site) c.args.site g.F.Commands.may_fail (serial c.args.plan g.F.Commands.gives g.T.Terms.sources) c.in-Ok.desk c.in-Ok.ensures.reply).plan) c.requires.valid
+
+pub run_desk-requires-clause-stands : goal.run_desk-requires-clause-stands
+run_desk-requires-clause-stands g c κs within = subst (g.A.Admission.stands_for c.args.admission.now) (sym (begun g.S.Site.count c.args.plan c.args.options c.args.log.name c.args.history c.now.result g.S.Site.tells (g.S.Site.files c.args.site) c.args.site g.F.Commands.may_fail (serial c.args.plan g.F.Commands.gives g.T.Terms.sources) c.in-Ok.desk c.in-Ok.ensures.reply).plan) c.requires.stands
 
 pub run_desk-requires-clause-fine : goal.run_desk-requires-clause-fine
 run_desk-requires-clause-fine g c κs within = (begun g.S.Site.count c.args.plan c.args.options c.args.log.name c.args.history c.now.result g.S.Site.tells (g.S.Site.files c.args.site) c.args.site g.F.Commands.may_fail (serial c.args.plan g.F.Commands.gives g.T.Terms.sources) c.in-Ok.desk c.in-Ok.ensures.reply).fine
@@ -126,9 +130,9 @@ returns-in-Ok-clause-waited g c alone =
     let b : IsBegun (g.S.Site.count c.args.site) c.args.plan c.args.options c.args.log.name c.args.history g.F.Commands.may_fail (serial c.args.plan g.F.Commands.gives g.T.Terms.sources) c.in-Ok.desk = (begun g.S.Site.count c.args.plan c.args.options c.args.log.name c.args.history c.now.result g.S.Site.tells (g.S.Site.files c.args.site) c.args.site g.F.Commands.may_fail (serial c.args.plan g.F.Commands.gives g.T.Terms.sources) c.in-Ok.desk c.in-Ok.ensures.reply) in
     let limit = c.args.workers.limit in
     let rise = g.H.Hall.idle_count c.run_desk.new.hall - g.H.Hall.idle_count c.open.new.hall in
-    subst (λ (n : ℕ). IfOk c.run_desk.result.how (EndsWaiting c.args.plan c.args.options limit (g.H.Hall.idle_count c.run_desk.new.hall - n) c.run_desk.result.records)) c.open.ensures.idles
-    (subst (λ (P : Plan). IfOk c.run_desk.result.how (EndsWaiting P c.args.options limit rise c.run_desk.result.records)) b.plan
-    (subst (λ (O : Options). IfOk c.run_desk.result.how (EndsWaiting c.in-Ok.desk.plan O limit rise c.run_desk.result.records)) b.options (c.run_desk.ensures.waited (ap (λ (O : Options). O.wq) b.options ∙ alone))))
+    subst (λ (n : ℕ). IfOk c.run_desk.result.how (EndsWaiting g.A.Admission.admitted c.args.plan c.args.options limit (g.H.Hall.idle_count c.run_desk.new.hall - n) c.run_desk.result.records)) c.open.ensures.idles
+    (subst (λ (P : Plan). IfOk c.run_desk.result.how (EndsWaiting g.A.Admission.admitted P c.args.options limit rise c.run_desk.result.records)) b.plan
+    (subst (λ (O : Options). IfOk c.run_desk.result.how (EndsWaiting g.A.Admission.admitted c.in-Ok.desk.plan O limit rise c.run_desk.result.records)) b.options (c.run_desk.ensures.waited (ap (λ (O : Options). O.wq) b.options ∙ alone))))
 
 pub returns-in-Ok-clause-vain : goal.returns-in-Ok-clause-vain
 returns-in-Ok-clause-vain g c away tells =
@@ -137,9 +141,9 @@ returns-in-Ok-clause-vain g c away tells =
     let ended = before_end c.run_desk.result.records in
     let got = g.H.Hall.got c.open.new.hall in
     let got_now = g.H.Hall.got c.run_desk.new.hall in
-    subst (λ (links : List (Option LinkNo × g.row.H-Way.Denot)). IfOk how (λ check. IfWaited check (AreVain g.F.Commands.gives g.F.Commands.may_fail g.H.Way.Link.history g.H.Way.Link.count g.H.Way.Link.idle_count g.H.Way.Link.is_closed c.args.workers.limit c.args.plan c.args.options ended links got_now))) c.open.ensures.got
-    (subst (λ (P : Plan). IfOk how (λ check. IfWaited check (AreVain g.F.Commands.gives g.F.Commands.may_fail g.H.Way.Link.history g.H.Way.Link.count g.H.Way.Link.idle_count g.H.Way.Link.is_closed c.args.workers.limit P c.args.options ended got got_now))) b.plan
-    (subst (λ (O : Options). IfOk how (λ check. IfWaited check (AreVain g.F.Commands.gives g.F.Commands.may_fail g.H.Way.Link.history g.H.Way.Link.count g.H.Way.Link.idle_count g.H.Way.Link.is_closed c.args.workers.limit c.in-Ok.desk.plan O ended got got_now))) b.options
+    subst (λ (links : List (Option LinkNo × g.row.H-Way.Denot)). IfOk how (λ check. IfWaited check (AreVain g.F.Commands.gives g.F.Commands.may_fail g.H.Way.Link.history g.H.Way.Link.count g.H.Way.Link.idle_count g.H.Way.Link.is_closed c.args.workers.limit g.A.Admission.admitted c.args.plan c.args.options ended links got_now))) c.open.ensures.got
+    (subst (λ (P : Plan). IfOk how (λ check. IfWaited check (AreVain g.F.Commands.gives g.F.Commands.may_fail g.H.Way.Link.history g.H.Way.Link.count g.H.Way.Link.idle_count g.H.Way.Link.is_closed c.args.workers.limit g.A.Admission.admitted P c.args.options ended got got_now))) b.plan
+    (subst (λ (O : Options). IfOk how (λ check. IfWaited check (AreVain g.F.Commands.gives g.F.Commands.may_fail g.H.Way.Link.history g.H.Way.Link.count g.H.Way.Link.idle_count g.H.Way.Link.is_closed c.args.workers.limit g.A.Admission.admitted c.in-Ok.desk.plan O ended got got_now))) b.options
     (c.run_desk.ensures.vain (ap (λ (O : Options). O.wq) b.options ∙ away) tells (joins_begun c.in-Ok.desk c.args.history b.over))))
 
 pub returns-in-Ok-clause-lost_away : goal.returns-in-Ok-clause-lost_away
@@ -253,6 +257,16 @@ returns-in-Ok-clause-places g c =
     let b : IsBegun (g.S.Site.count c.args.site) c.args.plan c.args.options c.args.log.name c.args.history g.F.Commands.may_fail (serial c.args.plan g.F.Commands.gives g.T.Terms.sources) c.in-Ok.desk = (begun g.S.Site.count c.args.plan c.args.options c.args.log.name c.args.history c.now.result g.S.Site.tells (g.S.Site.files c.args.site) c.args.site g.F.Commands.may_fail (serial c.args.plan g.F.Commands.gives g.T.Terms.sources) c.in-Ok.desk c.in-Ok.ensures.reply) in
     subst (λ (P : Plan). PlacedBy P c.args.options c.args.history c.run_desk.result.records) b.plan
     (subst (λ (O : Options). PlacedBy c.in-Ok.desk.plan O c.args.history c.run_desk.result.records) b.options (c.run_desk.ensures.places c.args.history b.over))
+
+pub returns-in-Ok-clause-admitted : goal.returns-in-Ok-clause-admitted
+returns-in-Ok-clause-admitted g c =
+    let b : IsBegun (g.S.Site.count c.args.site) c.args.plan c.args.options c.args.log.name c.args.history g.F.Commands.may_fail (serial c.args.plan g.F.Commands.gives g.T.Terms.sources) c.in-Ok.desk = (begun g.S.Site.count c.args.plan c.args.options c.args.log.name c.args.history c.now.result g.S.Site.tells (g.S.Site.files c.args.site) c.args.site g.F.Commands.may_fail (serial c.args.plan g.F.Commands.gives g.T.Terms.sources) c.in-Ok.desk c.in-Ok.ensures.reply) in
+    subst (λ (P : Plan). AreAdmitted g.A.Admission.admitted P c.args.options c.run_desk.result.records (length c.args.history)) b.plan
+    (subst (λ (O : Options). AreAdmitted g.A.Admission.admitted c.in-Ok.desk.plan O c.run_desk.result.records (length c.args.history)) b.options
+    (subst (λ (n : ℕ). AreAdmitted g.A.Admission.admitted c.in-Ok.desk.plan c.in-Ok.desk.options c.run_desk.result.records n) b.over.0 c.run_desk.ensures.admitted))
+
+pub returns-in-Err-clause-admitted : goal.returns-in-Err-clause-admitted
+returns-in-Err-clause-admitted g c = admitted_none g.A.Admission.admitted c.args.plan c.args.options c.args.history c.in-Err.unopened.records c.in-Err.ensures.declined.same
 
 pub returns-in-Err-clause-places : goal.returns-in-Err-clause-places
 returns-in-Err-clause-places g c = placed_none c.args.plan c.args.options c.args.history c.in-Err.unopened.records c.in-Err.ensures.declined.same

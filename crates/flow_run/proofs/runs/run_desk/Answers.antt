@@ -7,6 +7,7 @@ use Rattle.run_history.specs.Links.{records_of}
 use Rattle.outside.specs.Disk.{IsImage}
 use Rattle.flow_types.specs.declared.plan.Plan.{Plan}
 use Rattle.run_history.specs.Storage.{running_rules}
+use Rattle.desk.specs.Admitted.{AreAdmitted}
 use Rattle.desk.specs.Kept.{Fits, IsLegal}
 use Rattle.desk.proofs.Named.{named}
 use Rattle.local_run.specs.Added.{RunAdds}
@@ -91,10 +92,10 @@ pub returns-clause-waited : goal.returns-clause-waited
 returns-clause-waited g c apart =
     let limit = c.args.workers.limit in
     let rise = g.H.Hall.idle_count c.work-how.new.hall - g.H.Hall.idle_count c.args.hall.now in
-    subst (λ (G : List Record). IfOk c.work-how.result (EndsWaiting c.args.desk.plan c.args.desk.options limit rise G)) (sym c.into_parts-site.ensures.records)
-    (subst (λ (P : Plan). IfOk c.work-how.result (EndsWaiting P c.args.desk.options limit rise (records_of c.work-how.new.desk.moves))) c.work-how.ensures.goes.1.plan
-    (subst (λ (O : Options). IfOk c.work-how.result (EndsWaiting c.work-how.new.desk.plan O limit rise (records_of c.work-how.new.desk.moves))) c.work-how.ensures.goes.1.options
-    (waits_logged c.work-how.new.desk.plan c.work-how.new.desk.options limit rise c.work-how.new.desk.moves c.work-how.result (c.work-how.ensures.waited apart))))
+    subst (λ (G : List Record). IfOk c.work-how.result (EndsWaiting g.A.Admission.admitted c.args.desk.plan c.args.desk.options limit rise G)) (sym c.into_parts-site.ensures.records)
+    (subst (λ (P : Plan). IfOk c.work-how.result (EndsWaiting g.A.Admission.admitted P c.args.desk.options limit rise (records_of c.work-how.new.desk.moves))) c.work-how.ensures.goes.1.plan
+    (subst (λ (O : Options). IfOk c.work-how.result (EndsWaiting g.A.Admission.admitted c.work-how.new.desk.plan O limit rise (records_of c.work-how.new.desk.moves))) c.work-how.ensures.goes.1.options
+    (waits_logged g.A.Admission.admitted c.work-how.new.desk.plan c.work-how.new.desk.options limit rise c.work-how.new.desk.moves c.work-how.result (c.work-how.ensures.waited apart))))
 
 pub returns-clause-vain : goal.returns-clause-vain
 returns-clause-vain g c away tells unjoined =
@@ -102,9 +103,9 @@ returns-clause-vain g c away tells unjoined =
     let new = c.work-how.new.desk in
     let got = g.H.Hall.got c.args.hall.now in
     let got_now = g.H.Hall.got c.work-how.new.hall in
-    subst (λ (G : List Record). IfOk how (λ check. IfWaited check (AreVain g.F.Commands.gives g.F.Commands.may_fail g.H.Way.Link.history g.H.Way.Link.count g.H.Way.Link.idle_count g.H.Way.Link.is_closed c.args.workers.limit c.args.desk.plan c.args.desk.options (before_end G) got got_now))) (sym c.into_parts-site.ensures.records)
-    (subst (λ (P : Plan). IfOk how (λ check. IfWaited check (AreVain g.F.Commands.gives g.F.Commands.may_fail g.H.Way.Link.history g.H.Way.Link.count g.H.Way.Link.idle_count g.H.Way.Link.is_closed c.args.workers.limit P c.args.desk.options (before_end (records_of new.moves)) got got_now))) c.work-how.ensures.goes.1.plan
-    (subst (λ (O : Options). IfOk how (λ check. IfWaited check (AreVain g.F.Commands.gives g.F.Commands.may_fail g.H.Way.Link.history g.H.Way.Link.count g.H.Way.Link.idle_count g.H.Way.Link.is_closed c.args.workers.limit new.plan O (before_end (records_of new.moves)) got got_now))) c.work-how.ensures.goes.1.options
+    subst (λ (G : List Record). IfOk how (λ check. IfWaited check (AreVain g.F.Commands.gives g.F.Commands.may_fail g.H.Way.Link.history g.H.Way.Link.count g.H.Way.Link.idle_count g.H.Way.Link.is_closed c.args.workers.limit g.A.Admission.admitted c.args.desk.plan c.args.desk.options (before_end G) got got_now))) (sym c.into_parts-site.ensures.records)
+    (subst (λ (P : Plan). IfOk how (λ check. IfWaited check (AreVain g.F.Commands.gives g.F.Commands.may_fail g.H.Way.Link.history g.H.Way.Link.count g.H.Way.Link.idle_count g.H.Way.Link.is_closed c.args.workers.limit g.A.Admission.admitted P c.args.desk.options (before_end (records_of new.moves)) got got_now))) c.work-how.ensures.goes.1.plan
+    (subst (λ (O : Options). IfOk how (λ check. IfWaited check (AreVain g.F.Commands.gives g.F.Commands.may_fail g.H.Way.Link.history g.H.Way.Link.count g.H.Way.Link.idle_count g.H.Way.Link.is_closed c.args.workers.limit g.A.Admission.admitted new.plan O (before_end (records_of new.moves)) got got_now))) c.work-how.ensures.goes.1.options
     (c.work-how.ensures.vain away tells unjoined)))
 
 pub returns-clause-others : goal.returns-clause-others
@@ -146,6 +147,16 @@ pub returns-clause-places : goal.returns-clause-places
 returns-clause-places g c H began =
     placed_by g.T.Terms.trust g.F.Commands.gives g.F.Commands.may_fail g.T.Terms.sources g.S.Site.tells g.S.Site.files g.S.Site.may_leave g.S.Site.moment g.S.Site.images_since c.work-how.ensures.goes.0 c.args.desk c.work-how.new.desk c.work-how.ensures.goes.1 H c.into_parts-site.result.1 began c.into_parts-site.ensures.records c.works-works.ensures.serves
 
+pub returns-clause-admitted : goal.returns-clause-admitted
+returns-clause-admitted g c =
+    let d = c.args.desk in
+    let new = c.work-how.new.desk in
+    let goes = c.work-how.ensures.goes.1 in
+    subst (λ (P : Plan). AreAdmitted g.A.Admission.admitted P d.options c.into_parts-site.result.1 d.base) goes.plan
+    (subst (λ (O : Options). AreAdmitted g.A.Admission.admitted new.plan O c.into_parts-site.result.1 d.base) goes.options
+    (subst (λ (n : ℕ). AreAdmitted g.A.Admission.admitted new.plan new.options c.into_parts-site.result.1 n) goes.base
+    (subst (λ (G : List Record). AreAdmitted g.A.Admission.admitted new.plan new.options G new.base) (sym c.into_parts-site.ensures.records) c.works-works.ensures.admitted)))
+
 pub returns-clause-gone : goal.returns-clause-gone
 returns-clause-gone g c told whole apart =
     are_gone g.T.Terms.trust g.F.Commands.gives g.F.Commands.may_fail g.T.Terms.sources g.S.Site.tells g.S.Site.files g.S.Site.may_leave g.S.Site.moment g.S.Site.images_since c.work-how.ensures.goes.0 c.args.desk c.work-how.new.desk c.work-how.ensures.goes.1 c.into_parts-site.result.1 c.into_parts-site.result.0 told (fine_stop c.work-how.new.desk.trouble (sum_by g.R.Runner.count c.args.runners.now) (sum_by g.R.Runner.count c.work-how.new.runners) (g.H.Hall.count c.args.hall.now) (g.H.Hall.count c.work-how.new.hall) c.work-how.result c.work-how.ensures.stops whole)
@@ -171,10 +182,10 @@ returns-clause-reaches g c away tells quiet sure all few told kept trusted fit r
     let how = c.work-how.result in
     let records : c.into_parts-site.result.1 ≡ records_of new.moves = c.into_parts-site.ensures.records in
     let legal : IsLegal d.plan (records_of new.moves) = subst (λ (P : Plan). IsLegal P (records_of new.moves)) goes.plan c.into_parts-site.ensures.legal in
-    let ends : IfOk how (EndsHere d.plan d.options c.args.workers.limit (g.H.Hall.idle_count c.work-how.new.hall - g.H.Hall.idle_count c.args.hall.now) new.moves) =
-    subst (λ (P : Plan). IfOk how (EndsHere P d.options c.args.workers.limit (g.H.Hall.idle_count c.work-how.new.hall - g.H.Hall.idle_count c.args.hall.now) new.moves)) goes.plan
-    (subst (λ (O : Options). IfOk how (EndsHere new.plan O c.args.workers.limit (g.H.Hall.idle_count c.work-how.new.hall - g.H.Hall.idle_count c.args.hall.now) new.moves)) goes.options (c.work-how.ensures.waited away)) in
-    (reached_whole d.plan d.options c.args.workers.limit (g.H.Hall.idle_count c.work-how.new.hall - g.H.Hall.idle_count c.args.hall.now) d.moves new.moves goes.more how
+    let ends : IfOk how (EndsHere g.A.Admission.admitted d.plan d.options c.args.workers.limit (g.H.Hall.idle_count c.work-how.new.hall - g.H.Hall.idle_count c.args.hall.now) new.moves) =
+    subst (λ (P : Plan). IfOk how (EndsHere g.A.Admission.admitted P d.options c.args.workers.limit (g.H.Hall.idle_count c.work-how.new.hall - g.H.Hall.idle_count c.args.hall.now) new.moves)) goes.plan
+    (subst (λ (O : Options). IfOk how (EndsHere g.A.Admission.admitted new.plan O c.args.workers.limit (g.H.Hall.idle_count c.work-how.new.hall - g.H.Hall.idle_count c.args.hall.now) new.moves)) goes.options (c.work-how.ensures.waited away)) in
+    (reached_whole g.A.Admission.admitted d.plan d.options c.args.workers.limit (g.H.Hall.idle_count c.work-how.new.hall - g.H.Hall.idle_count c.args.hall.now) d.moves new.moves goes.more how
     (goes_records g.T.Terms.trust g.F.Commands.gives g.F.Commands.may_fail g.T.Terms.sources g.S.Site.tells g.S.Site.files g.S.Site.may_leave g.S.Site.moment g.S.Site.images_since c.work-how.ensures.goes.0 d new goes) goes.anew c.requires.fresh legal ends
     (c.work-how.ensures.calm away tells quiet sure all few)
     (λ whole r. ap (λ (G : List Record). passes_inputs d.plan G r) (sym records)
@@ -189,12 +200,12 @@ returns-clause-manned g c away least tells quiet sure manned all few once needs 
     let how = c.work-how.result in
     let records : c.into_parts-site.result.1 ≡ records_of new.moves = c.into_parts-site.ensures.records in
     let legal : IsLegal d.plan (records_of new.moves) = subst (λ (P : Plan). IsLegal P (records_of new.moves)) goes.plan c.into_parts-site.ensures.legal in
-    let ends : IfOk how (EndsHere d.plan d.options c.args.workers.limit (g.H.Hall.idle_count c.work-how.new.hall - g.H.Hall.idle_count c.args.hall.now) new.moves) =
-    subst (λ (P : Plan). IfOk how (EndsHere P d.options c.args.workers.limit (g.H.Hall.idle_count c.work-how.new.hall - g.H.Hall.idle_count c.args.hall.now) new.moves)) goes.plan
-    (subst (λ (O : Options). IfOk how (EndsHere new.plan O c.args.workers.limit (g.H.Hall.idle_count c.work-how.new.hall - g.H.Hall.idle_count c.args.hall.now) new.moves)) goes.options (c.work-how.ensures.waited away)) in
+    let ends : IfOk how (EndsHere g.A.Admission.admitted d.plan d.options c.args.workers.limit (g.H.Hall.idle_count c.work-how.new.hall - g.H.Hall.idle_count c.args.hall.now) new.moves) =
+    subst (λ (P : Plan). IfOk how (EndsHere g.A.Admission.admitted P d.options c.args.workers.limit (g.H.Hall.idle_count c.work-how.new.hall - g.H.Hall.idle_count c.args.hall.now) new.moves)) goes.plan
+    (subst (λ (O : Options). IfOk how (EndsHere g.A.Admission.admitted new.plan O c.args.workers.limit (g.H.Hall.idle_count c.work-how.new.hall - g.H.Hall.idle_count c.args.hall.now) new.moves)) goes.options (c.work-how.ensures.waited away)) in
     let never : IfOk how (λ check. IfWaited check (((r : ℕ) → passes_inputs d.plan (before_end (records_of new.moves)) r ≡ false) → ⊥)) =
     subst (λ (P : Plan). IfOk how (λ check. IfWaited check (((r : ℕ) → passes_inputs P (before_end (records_of new.moves)) r ≡ false) → ⊥))) goes.plan (c.work-how.ensures.manned away least tells quiet sure manned all few once needs) in
-    (reached_whole d.plan d.options c.args.workers.limit (g.H.Hall.idle_count c.work-how.new.hall - g.H.Hall.idle_count c.args.hall.now) d.moves new.moves goes.more how
+    (reached_whole g.A.Admission.admitted d.plan d.options c.args.workers.limit (g.H.Hall.idle_count c.work-how.new.hall - g.H.Hall.idle_count c.args.hall.now) d.moves new.moves goes.more how
     (goes_records g.T.Terms.trust g.F.Commands.gives g.F.Commands.may_fail g.T.Terms.sources g.S.Site.tells g.S.Site.files g.S.Site.may_leave g.S.Site.moment g.S.Site.images_since c.work-how.ensures.goes.0 d new goes) goes.anew c.requires.fresh legal ends
     (c.work-how.ensures.calm away tells quiet sure all few)
     (λ whole r. ap (λ (G : List Record). passes_inputs d.plan G r) (sym records)

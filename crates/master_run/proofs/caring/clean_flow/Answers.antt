@@ -23,9 +23,9 @@ use Rattle.master_run.proofs.Cared.{begins_so, clean_begins, clean_begun, clean_
 use Rattle.master_run.proofs.caring.clean_flow.Goals as goal
 
 pub returns-in-Ok-clause-serves : goal.returns-in-Ok-clause-serves
-returns-in-Ok-clause-serves g c =
+returns-in-Ok-clause-serves g c E =
     let cause : Cause = causes.Cleaned c.in-Ok.field-0.removed in
-    cared_serves g.S.Site.tells g.S.Site.files g.S.Site.may_leave g.S.Site.moment g.S.Site.images_since g.B.Born.born g.F.Commands.gives g.F.Commands.may_fail (λ (job : Job). Unit {0}) (Unit {0}) (Unit {0}) (counts c.args.before [] 0 0 0) (counts (g.S.Site.count c.clean.new.site) [] 0 0 0) c.args.ask c.args.site c.clean.new.site c.in-Ok.field-0.records cause c.args.moment ⊥ (record {
+    cared_serves E g.S.Site.tells g.S.Site.files g.S.Site.may_leave g.S.Site.moment g.S.Site.images_since g.B.Born.born g.F.Commands.gives g.F.Commands.may_fail (λ (job : Job). Unit {0}) (Unit {0}) (Unit {0}) (counts c.args.before [] 0 0 0) (counts (g.S.Site.count c.clean.new.site) [] 0 0 0) c.args.ask c.args.site c.clean.new.site c.in-Ok.field-0.records cause c.args.moment ⊥ (record {
       work = λ wrong. absurd (let both : works.Clean ≡ works.Run = sym c.requires.work ∙ wrong in cc);
       later = c.requires.later;
       cuts = λ cut. absurd cut;
@@ -34,7 +34,7 @@ returns-in-Ok-clause-serves g c =
       faults = tt;
       damaged = λ t at wrong. absurd (cc);
       read = λ t. inl (c.in-Ok.ensures.log t);
-      goes = λ t H spelled. subst (λ (w : Work). GoesOn w c.args.ask 0 H (g.S.Site.files c.args.site) (g.S.Site.files c.clean.new.site) c.in-Ok.field-0.records cause) (sym c.requires.work)
+      goes = λ t H spelled. subst (λ (w : Work). GoesOn E w c.args.ask 0 H (g.S.Site.files c.args.site) (g.S.Site.files c.clean.new.site) c.in-Ok.field-0.records cause) (sym c.requires.work)
           (done_goes (clean_fault c.args.ask.plan H) (causes.Cleaned (made_count c.args.ask.plan H)) cause (c.in-Ok.ensures.ends t H spelled).0 (ap (λ n. causes.Cleaned n) (c.in-Ok.ensures.ends t H spelled).1));
       has_log = λ t H spelled. inl (begins_so H c.in-Ok.field-0.records c.args.moment (subst (AreEither H c.args.moment) (sym (c.in-Ok.ensures.records t H spelled)) (ended_either H c.args.moment (is_empty (part H)))));
       unread = λ t H spelled none. absurd (none (begins_so H c.in-Ok.field-0.records c.args.moment (subst (AreEither H c.args.moment) (sym (c.in-Ok.ensures.records t H spelled)) (ended_either H c.args.moment (is_empty (part H))))));
@@ -55,13 +55,13 @@ returns-in-Ok-clause-serves g c =
     })
 
 pub returns-in-Err-clause-serves : goal.returns-in-Err-clause-serves
-returns-in-Err-clause-serves g c =
+returns-in-Err-clause-serves g c E =
     let why = c.in-Err.field-0.why in
     let given = c.in-Err.field-0.records in
     let same : c.clean_cause.result ≡ clean_cause (site_rise (counts c.args.before [] 0 0 0) (counts (g.S.Site.count c.clean.new.site) [] 0 0 0)) why =
     c.clean_cause.ensures ∙ ap (λ (n : ℕ). clean_cause (record { before = c.args.before; after = n }) c.in-Err.field-0.why) c.faults-after.ensures in
-    subst (λ (cause : Cause). Serves g.S.Site.tells g.S.Site.files g.S.Site.may_leave g.S.Site.moment g.S.Site.images_since g.B.Born.born g.F.Commands.gives g.F.Commands.may_fail (λ (job : Job). Unit {0}) (Unit {0}) (Unit {0}) (counts c.args.before [] 0 0 0) (counts (g.S.Site.count c.clean.new.site) [] 0 0 0) c.args.ask c.args.site c.clean.new.site given cause) (sym same)
-    (cared_serves g.S.Site.tells g.S.Site.files g.S.Site.may_leave g.S.Site.moment g.S.Site.images_since g.B.Born.born g.F.Commands.gives g.F.Commands.may_fail (λ (job : Job). Unit {0}) (Unit {0}) (Unit {0}) (counts c.args.before [] 0 0 0) (counts (g.S.Site.count c.clean.new.site) [] 0 0 0) c.args.ask c.args.site c.clean.new.site given (clean_cause (site_rise (counts c.args.before [] 0 0 0) (counts (g.S.Site.count c.clean.new.site) [] 0 0 0)) why) c.args.moment (IsCutFor why) (record {
+    subst (λ (cause : Cause). Serves E g.S.Site.tells g.S.Site.files g.S.Site.may_leave g.S.Site.moment g.S.Site.images_since g.B.Born.born g.F.Commands.gives g.F.Commands.may_fail (λ (job : Job). Unit {0}) (Unit {0}) (Unit {0}) (counts c.args.before [] 0 0 0) (counts (g.S.Site.count c.clean.new.site) [] 0 0 0) c.args.ask c.args.site c.clean.new.site given cause) (sym same)
+    (cared_serves E g.S.Site.tells g.S.Site.files g.S.Site.may_leave g.S.Site.moment g.S.Site.images_since g.B.Born.born g.F.Commands.gives g.F.Commands.may_fail (λ (job : Job). Unit {0}) (Unit {0}) (Unit {0}) (counts c.args.before [] 0 0 0) (counts (g.S.Site.count c.clean.new.site) [] 0 0 0) c.args.ask c.args.site c.clean.new.site given (clean_cause (site_rise (counts c.args.before [] 0 0 0) (counts (g.S.Site.count c.clean.new.site) [] 0 0 0)) why) c.args.moment (IsCutFor why) (record {
       work = λ wrong. absurd (let both : works.Clean ≡ works.Run = sym c.requires.work ∙ wrong in cc);
       later = c.requires.later;
       cuts = clean_cut (site_rise (counts c.args.before [] 0 0 0) (counts (g.S.Site.count c.clean.new.site) [] 0 0 0)) why;
@@ -70,8 +70,8 @@ returns-in-Err-clause-serves g c =
       faults = clean_faults (counts c.args.before [] 0 0 0) (counts (g.S.Site.count c.clean.new.site) [] 0 0 0) (g.S.Site.count c.args.site) (g.S.Site.count c.clean.new.site) why c.requires.counted refl c.in-Err.ensures.cause;
       damaged = λ t at told. clean_damaged (site_rise (counts c.args.before [] 0 0 0) (counts (g.S.Site.count c.clean.new.site) [] 0 0 0)) (g.S.Site.files c.args.site c.args.ask.log) given why at (c.in-Err.ensures.log t) told;
       read = λ t. clean_of (site_rise (counts c.args.before [] 0 0 0) (counts (g.S.Site.count c.clean.new.site) [] 0 0 0)) (g.S.Site.files c.args.site c.args.ask.log) given why (c.in-Err.ensures.log t);
-      goes = λ t H spelled. subst (λ (w : Work). GoesOn w c.args.ask 0 H (g.S.Site.files c.args.site) (g.S.Site.files c.clean.new.site) given (clean_cause (site_rise (counts c.args.before [] 0 0 0) (counts (g.S.Site.count c.clean.new.site) [] 0 0 0)) why)) (sym c.requires.work)
-          (clean_goes (site_rise (counts c.args.before [] 0 0 0) (counts (g.S.Site.count c.clean.new.site) [] 0 0 0)) c.args.ask 0 H (g.S.Site.files c.args.site) (g.S.Site.files c.clean.new.site) given why (c.in-Err.ensures.ends t H spelled));
+      goes = λ t H spelled. subst (λ (w : Work). GoesOn E w c.args.ask 0 H (g.S.Site.files c.args.site) (g.S.Site.files c.clean.new.site) given (clean_cause (site_rise (counts c.args.before [] 0 0 0) (counts (g.S.Site.count c.clean.new.site) [] 0 0 0)) why)) (sym c.requires.work)
+          (clean_goes E (site_rise (counts c.args.before [] 0 0 0) (counts (g.S.Site.count c.clean.new.site) [] 0 0 0)) c.args.ask 0 H (g.S.Site.files c.args.site) (g.S.Site.files c.clean.new.site) given why (c.in-Err.ensures.ends t H spelled));
       has_log = λ t H spelled. clean_log (site_rise (counts c.args.before [] 0 0 0) (counts (g.S.Site.count c.clean.new.site) [] 0 0 0)) c.args.ask.plan H given c.args.moment why (c.in-Err.ensures.ends t H spelled) (c.in-Err.ensures.records t H spelled);
       unread = λ t H spelled none. c.in-Err.ensures.unread t (clean_unread c.args.ask.plan H given c.args.moment why (c.in-Err.ensures.ends t H spelled) (c.in-Err.ensures.records t H spelled) none);
       added = λ t H spelled. subst (λ (w : Work). AddsBy w c.args.ask.options H given (clean_cause (site_rise (counts c.args.before [] 0 0 0) (counts (g.S.Site.count c.clean.new.site) [] 0 0 0)) why)) (sym c.requires.work)

@@ -35,9 +35,9 @@ overflow_cast-result g c =
     omega (arith, same, within, c.in-Ok.ensures.few)
 
 pub returns-in-Ok-clause-serves : goal.returns-in-Ok-clause-serves
-returns-in-Ok-clause-serves g c =
+returns-in-Ok-clause-serves g c E =
     let cause : Cause = causes.Printed (length c.part_of.result.now) in
-    cared_serves g.S.Site.tells g.S.Site.files g.S.Site.may_leave g.S.Site.moment g.S.Site.images_since g.B.Born.born g.F.Commands.gives g.F.Commands.may_fail (λ (job : Job). Unit {0}) (Unit {0}) (Unit {0}) (counts c.args.before [] 0 0 0) (counts (g.S.Site.count c.look.new.site) [] 0 0 0) c.args.ask c.args.site c.look.new.site c.in-Ok.records cause 0 ⊥ (record {
+    cared_serves E g.S.Site.tells g.S.Site.files g.S.Site.may_leave g.S.Site.moment g.S.Site.images_since g.B.Born.born g.F.Commands.gives g.F.Commands.may_fail (λ (job : Job). Unit {0}) (Unit {0}) (Unit {0}) (counts c.args.before [] 0 0 0) (counts (g.S.Site.count c.look.new.site) [] 0 0 0) c.args.ask c.args.site c.look.new.site c.in-Ok.records cause 0 ⊥ (record {
       work = λ wrong. absurd (let both : works.PrintLog ≡ works.Run = sym c.requires.work ∙ wrong in cc);
       later = c.requires.later;
       cuts = λ cut. absurd cut;
@@ -46,7 +46,7 @@ returns-in-Ok-clause-serves g c =
       faults = tt;
       damaged = λ t at wrong. absurd (cc);
       read = λ t. inl (c.in-Ok.records, c.in-Ok.ensures.log t);
-      goes = λ t H spelled. subst (λ (w : Work). GoesOn w c.args.ask 0 H (g.S.Site.files c.args.site) (g.S.Site.files c.look.new.site) c.in-Ok.records cause) (sym c.requires.work)
+      goes = λ t H spelled. subst (λ (w : Work). GoesOn E w c.args.ask 0 H (g.S.Site.files c.args.site) (g.S.Site.files c.look.new.site) c.in-Ok.records cause) (sym c.requires.work)
           (done_goes (history_fault c.args.ask.plan H) (causes.Printed (length (part H))) cause (c.in-Ok.ensures.ends t H spelled).1
           (ap (λ n. causes.Printed n) (ap length c.part_of.ensures ∙ ap (λ (xs : List Record). length (part xs)) (c.as_slice.ensures ∙ (c.in-Ok.ensures.ends t H spelled).0))));
       unread = λ t H spelled none. c.in-Ok.ensures.moments t;
@@ -70,13 +70,13 @@ returns-in-Ok-clause-serves g c =
     })
 
 pub returns-in-Err-clause-serves : goal.returns-in-Err-clause-serves
-returns-in-Err-clause-serves g c =
+returns-in-Err-clause-serves g c E =
     let why = c.in-Err.field-0.why in
     let given = c.in-Err.field-0.records in
     let same : c.look_cause.result ≡ look_cause (site_rise (counts c.args.before [] 0 0 0) (counts (g.S.Site.count c.look.new.site) [] 0 0 0)) why =
     c.look_cause.ensures ∙ ap (λ (n : ℕ). look_cause (record { before = c.args.before; after = n }) c.in-Err.field-0.why) c.faults-after.ensures in
-    subst (λ (cause : Cause). Serves g.S.Site.tells g.S.Site.files g.S.Site.may_leave g.S.Site.moment g.S.Site.images_since g.B.Born.born g.F.Commands.gives g.F.Commands.may_fail (λ (job : Job). Unit {0}) (Unit {0}) (Unit {0}) (counts c.args.before [] 0 0 0) (counts (g.S.Site.count c.look.new.site) [] 0 0 0) c.args.ask c.args.site c.look.new.site given cause) (sym same)
-    (cared_serves g.S.Site.tells g.S.Site.files g.S.Site.may_leave g.S.Site.moment g.S.Site.images_since g.B.Born.born g.F.Commands.gives g.F.Commands.may_fail (λ (job : Job). Unit {0}) (Unit {0}) (Unit {0}) (counts c.args.before [] 0 0 0) (counts (g.S.Site.count c.look.new.site) [] 0 0 0) c.args.ask c.args.site c.look.new.site given (look_cause (site_rise (counts c.args.before [] 0 0 0) (counts (g.S.Site.count c.look.new.site) [] 0 0 0)) why) 0 (IsCutFault why) (record {
+    subst (λ (cause : Cause). Serves E g.S.Site.tells g.S.Site.files g.S.Site.may_leave g.S.Site.moment g.S.Site.images_since g.B.Born.born g.F.Commands.gives g.F.Commands.may_fail (λ (job : Job). Unit {0}) (Unit {0}) (Unit {0}) (counts c.args.before [] 0 0 0) (counts (g.S.Site.count c.look.new.site) [] 0 0 0) c.args.ask c.args.site c.look.new.site given cause) (sym same)
+    (cared_serves E g.S.Site.tells g.S.Site.files g.S.Site.may_leave g.S.Site.moment g.S.Site.images_since g.B.Born.born g.F.Commands.gives g.F.Commands.may_fail (λ (job : Job). Unit {0}) (Unit {0}) (Unit {0}) (counts c.args.before [] 0 0 0) (counts (g.S.Site.count c.look.new.site) [] 0 0 0) c.args.ask c.args.site c.look.new.site given (look_cause (site_rise (counts c.args.before [] 0 0 0) (counts (g.S.Site.count c.look.new.site) [] 0 0 0)) why) 0 (IsCutFault why) (record {
       work = λ wrong. absurd (let both : works.PrintLog ≡ works.Run = sym c.requires.work ∙ wrong in cc);
       later = c.requires.later;
       cuts = look_cut (site_rise (counts c.args.before [] 0 0 0) (counts (g.S.Site.count c.look.new.site) [] 0 0 0)) why;
@@ -85,8 +85,8 @@ returns-in-Err-clause-serves g c =
       faults = look_faults (counts c.args.before [] 0 0 0) (counts (g.S.Site.count c.look.new.site) [] 0 0 0) (g.S.Site.count c.args.site) (g.S.Site.count c.look.new.site) why c.requires.counted refl c.in-Err.ensures.cause;
       damaged = λ t at told. look_damaged (site_rise (counts c.args.before [] 0 0 0) (counts (g.S.Site.count c.look.new.site) [] 0 0 0)) (g.S.Site.files c.args.site c.args.ask.log) given why at (c.in-Err.ensures.log t) told;
       read = λ t. look_read (site_rise (counts c.args.before [] 0 0 0) (counts (g.S.Site.count c.look.new.site) [] 0 0 0)) (g.S.Site.files c.args.site c.args.ask.log) given why (c.in-Err.ensures.log t);
-      goes = λ t H spelled. subst (λ (w : Work). GoesOn w c.args.ask 0 H (g.S.Site.files c.args.site) (g.S.Site.files c.look.new.site) given (look_cause (site_rise (counts c.args.before [] 0 0 0) (counts (g.S.Site.count c.look.new.site) [] 0 0 0)) why)) (sym c.requires.work)
-          (look_goes (site_rise (counts c.args.before [] 0 0 0) (counts (g.S.Site.count c.look.new.site) [] 0 0 0)) c.args.ask 0 H (g.S.Site.files c.args.site) (g.S.Site.files c.look.new.site) given why (c.in-Err.ensures.ends t H spelled).0);
+      goes = λ t H spelled. subst (λ (w : Work). GoesOn E w c.args.ask 0 H (g.S.Site.files c.args.site) (g.S.Site.files c.look.new.site) given (look_cause (site_rise (counts c.args.before [] 0 0 0) (counts (g.S.Site.count c.look.new.site) [] 0 0 0)) why)) (sym c.requires.work)
+          (look_goes E (site_rise (counts c.args.before [] 0 0 0) (counts (g.S.Site.count c.look.new.site) [] 0 0 0)) c.args.ask 0 H (g.S.Site.files c.args.site) (g.S.Site.files c.look.new.site) given why (c.in-Err.ensures.ends t H spelled).0);
       unread = λ t H spelled none. c.in-Err.ensures.moments t;
       has_log = λ t H spelled. look_log (site_rise (counts c.args.before [] 0 0 0) (counts (g.S.Site.count c.look.new.site) [] 0 0 0)) c.args.ask.plan H given why (c.in-Err.ensures.ends t H spelled).0 (c.in-Err.ensures.ends t H spelled).1;
       added = λ t H spelled. subst (λ (w : Work). AddsBy w c.args.ask.options H given (look_cause (site_rise (counts c.args.before [] 0 0 0) (counts (g.S.Site.count c.look.new.site) [] 0 0 0)) why)) (sym c.requires.work)

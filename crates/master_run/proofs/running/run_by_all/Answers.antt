@@ -39,8 +39,8 @@ use Rattle.master_run.proofs.running.run_by_all.Goals as goal
 
 pub returns-in_default-clause-serves : goal.returns-in_default-clause-serves
 returns-in_default-clause-serves g c =
-    subst (λ (xs : List Record). Serves g.S.Site.tells g.S.Site.files g.S.Site.may_leave g.S.Site.moment g.S.Site.images_since g.B.Born.born g.F.Commands.gives g.F.Commands.may_fail (AllTell g.R.Runner.tells c.args.runners.now) (AllSure g.R.Runner.sure c.args.runners.now) (g.H.Hall.honest c.args.hall.now) (counts c.args.before (map g.R.Runner.count c.args.runners.now) (g.H.Hall.count c.args.hall.now) (g.H.Hall.idle_count c.args.hall.now) 0) (counts (g.S.Site.count c.args.site) (map g.R.Runner.count c.args.runners.now) (g.H.Hall.count c.args.hall.now) (g.H.Hall.idle_count c.args.hall.now) 0) c.args.ask c.args.site c.args.site xs causes.Memory) (sym c.new.ensures)
-    (by_fault g.S.Site.tells g.S.Site.files g.S.Site.may_leave g.S.Site.moment g.S.Site.images_since g.B.Born.born g.F.Commands.gives g.F.Commands.may_fail (AllTell g.R.Runner.tells c.args.runners.now) (AllSure g.R.Runner.sure c.args.runners.now) (g.H.Hall.honest c.args.hall.now) (counts c.args.before (map g.R.Runner.count c.args.runners.now) (g.H.Hall.count c.args.hall.now) (g.H.Hall.idle_count c.args.hall.now) 0) (counts (g.S.Site.count c.args.site) (map g.R.Runner.count c.args.runners.now) (g.H.Hall.count c.args.hall.now) (g.H.Hall.idle_count c.args.hall.now) 0) c.args.ask c.args.site c.args.site c.requires.later
+    subst (λ (xs : List Record). Serves g.Q.Made.Admission.admitted g.S.Site.tells g.S.Site.files g.S.Site.may_leave g.S.Site.moment g.S.Site.images_since g.B.Born.born g.F.Commands.gives g.F.Commands.may_fail (AllTell g.R.Runner.tells c.args.runners.now) (AllSure g.R.Runner.sure c.args.runners.now) (g.H.Hall.honest c.args.hall.now) (counts c.args.before (map g.R.Runner.count c.args.runners.now) (g.H.Hall.count c.args.hall.now) (g.H.Hall.idle_count c.args.hall.now) 0) (counts (g.S.Site.count c.args.site) (map g.R.Runner.count c.args.runners.now) (g.H.Hall.count c.args.hall.now) (g.H.Hall.idle_count c.args.hall.now) 0) c.args.ask c.args.site c.args.site xs causes.Memory) (sym c.new.ensures)
+    (by_fault g.Q.Made.Admission.admitted g.S.Site.tells g.S.Site.files g.S.Site.may_leave g.S.Site.moment g.S.Site.images_since g.B.Born.born g.F.Commands.gives g.F.Commands.may_fail (AllTell g.R.Runner.tells c.args.runners.now) (AllSure g.R.Runner.sure c.args.runners.now) (g.H.Hall.honest c.args.hall.now) (counts c.args.before (map g.R.Runner.count c.args.runners.now) (g.H.Hall.count c.args.hall.now) (g.H.Hall.idle_count c.args.hall.now) 0) (counts (g.S.Site.count c.args.site) (map g.R.Runner.count c.args.runners.now) (g.H.Hall.count c.args.hall.now) (g.H.Hall.idle_count c.args.hall.now) 0) c.args.ask c.args.site c.args.site c.requires.later
     (λ t. record { same = refl; within = λ m file left. left; only = record { later = omega arith; each = λ image left. ((g.met.S.Site g.world.𝓛 g.world.𝓜 g.world.𝓡 ((λ s x. x), (λ x. x), (λ x. x), λ x. x)).only_now t c.args.site image left); before = λ time image le left. inl left } })
     causes.Memory refl refl refl tt (λ none. refl))
 
@@ -55,8 +55,8 @@ returns-in-Ok-resume-clause-serves g c =
     let kept : c.as_slice.result.now ≡ (map g.R.Runner.count c.args.runners.now) = c.as_slice.ensures ∙ c.in-Ok.ensures.1 in
     let one : sum (map g.R.Runner.count c.args.runners.now) < sum (map g.R.Runner.count c.resume.new.runners) → OneRose c.first_rise-runner.result.before c.first_rise-runner.result.after (map g.R.Runner.count c.args.runners.now) (map g.R.Runner.count c.resume.new.runners) =
     subst (λ (xs : List ℕ). sum xs < sum (map g.R.Runner.count c.resume.new.runners) → OneRose c.first_rise-runner.result.before c.first_rise-runner.result.after xs (map g.R.Runner.count c.resume.new.runners)) kept c.first_rise-runner.ensures in
-    subst (λ (cause : Cause). Serves g.S.Site.tells g.S.Site.files g.S.Site.may_leave g.S.Site.moment g.S.Site.images_since g.B.Born.born g.F.Commands.gives g.F.Commands.may_fail (AllTell g.R.Runner.tells c.args.runners.now) (AllSure g.R.Runner.sure c.args.runners.now) (g.H.Hall.honest c.args.hall.now) (counts c.args.before (map g.R.Runner.count c.args.runners.now) (g.H.Hall.count c.args.hall.now) (g.H.Hall.idle_count c.args.hall.now) 0) (counts (g.S.Site.count c.in-Ok-resume.ended.site) (map g.R.Runner.count c.resume.new.runners) (g.H.Hall.count c.resume.new.hall) (g.H.Hall.idle_count c.resume.new.hall) 0) c.args.ask c.args.site c.in-Ok-resume.ended.site c.in-Ok-resume.ended.records cause) (sym same)
-    (ran_serves g.S.Site.tells g.S.Site.files g.S.Site.may_leave g.S.Site.moment g.S.Site.images_since g.S.Site.count g.B.Born.born g.F.Commands.gives g.F.Commands.may_fail (AllTell g.R.Runner.tells c.args.runners.now) (AllSure g.R.Runner.sure c.args.runners.now) (g.H.Hall.honest c.args.hall.now)
+    subst (λ (cause : Cause). Serves g.Q.Made.Admission.admitted g.S.Site.tells g.S.Site.files g.S.Site.may_leave g.S.Site.moment g.S.Site.images_since g.B.Born.born g.F.Commands.gives g.F.Commands.may_fail (AllTell g.R.Runner.tells c.args.runners.now) (AllSure g.R.Runner.sure c.args.runners.now) (g.H.Hall.honest c.args.hall.now) (counts c.args.before (map g.R.Runner.count c.args.runners.now) (g.H.Hall.count c.args.hall.now) (g.H.Hall.idle_count c.args.hall.now) 0) (counts (g.S.Site.count c.in-Ok-resume.ended.site) (map g.R.Runner.count c.resume.new.runners) (g.H.Hall.count c.resume.new.hall) (g.H.Hall.idle_count c.resume.new.hall) 0) c.args.ask c.args.site c.in-Ok-resume.ended.site c.in-Ok-resume.ended.records cause) (sym same)
+    (ran_serves g.Q.Made.Admission.admitted g.S.Site.tells g.S.Site.files g.S.Site.may_leave g.S.Site.moment g.S.Site.images_since g.S.Site.count g.B.Born.born g.F.Commands.gives g.F.Commands.may_fail (AllTell g.R.Runner.tells c.args.runners.now) (AllSure g.R.Runner.sure c.args.runners.now) (g.H.Hall.honest c.args.hall.now)
     (counts c.args.before (map g.R.Runner.count c.args.runners.now) (g.H.Hall.count c.args.hall.now) (g.H.Hall.idle_count c.args.hall.now) 0) (counts (g.S.Site.count c.in-Ok-resume.ended.site) (map g.R.Runner.count c.resume.new.runners) (g.H.Hall.count c.resume.new.hall) (g.H.Hall.idle_count c.resume.new.hall) 0) c.first_rise-runner.result c.args.ask c.args.site c.in-Ok-resume.ended.site c.in-Ok-resume.ended.records c.in-Ok-resume.ended.how (record {
       work = c.requires.work;
       le = c.requires.counted;
@@ -97,9 +97,9 @@ pub returns-clause-serves : goal.returns-clause-serves
 returns-clause-serves g c =
     let same : c.unread_cause.result ≡ unread_cause (site_rise (counts c.args.before (map g.R.Runner.count c.args.runners.now) (g.H.Hall.count c.args.hall.now) (g.H.Hall.idle_count c.args.hall.now) 0) (counts (g.S.Site.count c.in-Err.refused.site) (map g.R.Runner.count c.resume.new.runners) (g.H.Hall.count c.resume.new.hall) (g.H.Hall.idle_count c.resume.new.hall) 0)) c.in-Err.refused.why =
     c.unread_cause.ensures ∙ ap (λ (n : ℕ). unread_cause (record { before = c.args.before; after = n }) c.in-Err.refused.why) c.faults-after-in-Err.ensures in
-    subst (λ (cause : Cause). Serves g.S.Site.tells g.S.Site.files g.S.Site.may_leave g.S.Site.moment g.S.Site.images_since g.B.Born.born g.F.Commands.gives g.F.Commands.may_fail (AllTell g.R.Runner.tells c.args.runners.now) (AllSure g.R.Runner.sure c.args.runners.now) (g.H.Hall.honest c.args.hall.now) (counts c.args.before (map g.R.Runner.count c.args.runners.now) (g.H.Hall.count c.args.hall.now) (g.H.Hall.idle_count c.args.hall.now) 0) (counts (g.S.Site.count c.in-Err.refused.site) (map g.R.Runner.count c.resume.new.runners) (g.H.Hall.count c.resume.new.hall) (g.H.Hall.idle_count c.resume.new.hall) 0) c.args.ask c.args.site c.in-Err.refused.site c.new-in-Err.result cause) (sym same)
-    (subst (λ (xs : List Record). Serves g.S.Site.tells g.S.Site.files g.S.Site.may_leave g.S.Site.moment g.S.Site.images_since g.B.Born.born g.F.Commands.gives g.F.Commands.may_fail (AllTell g.R.Runner.tells c.args.runners.now) (AllSure g.R.Runner.sure c.args.runners.now) (g.H.Hall.honest c.args.hall.now) (counts c.args.before (map g.R.Runner.count c.args.runners.now) (g.H.Hall.count c.args.hall.now) (g.H.Hall.idle_count c.args.hall.now) 0) (counts (g.S.Site.count c.in-Err.refused.site) (map g.R.Runner.count c.resume.new.runners) (g.H.Hall.count c.resume.new.hall) (g.H.Hall.idle_count c.resume.new.hall) 0) c.args.ask c.args.site c.in-Err.refused.site xs (unread_cause (site_rise (counts c.args.before (map g.R.Runner.count c.args.runners.now) (g.H.Hall.count c.args.hall.now) (g.H.Hall.idle_count c.args.hall.now) 0) (counts (g.S.Site.count c.in-Err.refused.site) (map g.R.Runner.count c.resume.new.runners) (g.H.Hall.count c.resume.new.hall) (g.H.Hall.idle_count c.resume.new.hall) 0)) c.in-Err.refused.why)) (sym c.new-in-Err.ensures)
-    (unread_serves g.S.Site.tells g.S.Site.files g.S.Site.may_leave g.S.Site.moment g.S.Site.images_since g.B.Born.born g.F.Commands.gives g.F.Commands.may_fail (AllTell g.R.Runner.tells c.args.runners.now) (AllSure g.R.Runner.sure c.args.runners.now) (g.H.Hall.honest c.args.hall.now) (counts c.args.before (map g.R.Runner.count c.args.runners.now) (g.H.Hall.count c.args.hall.now) (g.H.Hall.idle_count c.args.hall.now) 0) (counts (g.S.Site.count c.in-Err.refused.site) (map g.R.Runner.count c.resume.new.runners) (g.H.Hall.count c.resume.new.hall) (g.H.Hall.idle_count c.resume.new.hall) 0) c.args.ask c.args.site c.in-Err.refused.site c.requires.later
+    subst (λ (cause : Cause). Serves g.Q.Made.Admission.admitted g.S.Site.tells g.S.Site.files g.S.Site.may_leave g.S.Site.moment g.S.Site.images_since g.B.Born.born g.F.Commands.gives g.F.Commands.may_fail (AllTell g.R.Runner.tells c.args.runners.now) (AllSure g.R.Runner.sure c.args.runners.now) (g.H.Hall.honest c.args.hall.now) (counts c.args.before (map g.R.Runner.count c.args.runners.now) (g.H.Hall.count c.args.hall.now) (g.H.Hall.idle_count c.args.hall.now) 0) (counts (g.S.Site.count c.in-Err.refused.site) (map g.R.Runner.count c.resume.new.runners) (g.H.Hall.count c.resume.new.hall) (g.H.Hall.idle_count c.resume.new.hall) 0) c.args.ask c.args.site c.in-Err.refused.site c.new-in-Err.result cause) (sym same)
+    (subst (λ (xs : List Record). Serves g.Q.Made.Admission.admitted g.S.Site.tells g.S.Site.files g.S.Site.may_leave g.S.Site.moment g.S.Site.images_since g.B.Born.born g.F.Commands.gives g.F.Commands.may_fail (AllTell g.R.Runner.tells c.args.runners.now) (AllSure g.R.Runner.sure c.args.runners.now) (g.H.Hall.honest c.args.hall.now) (counts c.args.before (map g.R.Runner.count c.args.runners.now) (g.H.Hall.count c.args.hall.now) (g.H.Hall.idle_count c.args.hall.now) 0) (counts (g.S.Site.count c.in-Err.refused.site) (map g.R.Runner.count c.resume.new.runners) (g.H.Hall.count c.resume.new.hall) (g.H.Hall.idle_count c.resume.new.hall) 0) c.args.ask c.args.site c.in-Err.refused.site xs (unread_cause (site_rise (counts c.args.before (map g.R.Runner.count c.args.runners.now) (g.H.Hall.count c.args.hall.now) (g.H.Hall.idle_count c.args.hall.now) 0) (counts (g.S.Site.count c.in-Err.refused.site) (map g.R.Runner.count c.resume.new.runners) (g.H.Hall.count c.resume.new.hall) (g.H.Hall.idle_count c.resume.new.hall) 0)) c.in-Err.refused.why)) (sym c.new-in-Err.ensures)
+    (unread_serves g.Q.Made.Admission.admitted g.S.Site.tells g.S.Site.files g.S.Site.may_leave g.S.Site.moment g.S.Site.images_since g.B.Born.born g.F.Commands.gives g.F.Commands.may_fail (AllTell g.R.Runner.tells c.args.runners.now) (AllSure g.R.Runner.sure c.args.runners.now) (g.H.Hall.honest c.args.hall.now) (counts c.args.before (map g.R.Runner.count c.args.runners.now) (g.H.Hall.count c.args.hall.now) (g.H.Hall.idle_count c.args.hall.now) 0) (counts (g.S.Site.count c.in-Err.refused.site) (map g.R.Runner.count c.resume.new.runners) (g.H.Hall.count c.resume.new.hall) (g.H.Hall.idle_count c.resume.new.hall) 0) c.args.ask c.args.site c.in-Err.refused.site c.requires.later
     (λ t. weakened g.S.Site.moment g.S.Site.images_since c.args.site c.in-Err.refused.site (IsRecovering c.args.ask.log (g.S.Site.files c.args.site c.args.ask.log) (g.S.Site.may_leave c.args.site)) (IsBefore c.args.ask.log (g.S.Site.files c.args.site c.args.ask.log) (g.S.Site.may_leave c.args.site)) (c.in-Err.ensures.unread t)
     (λ image is. recovering_before c.args.ask.log (g.S.Site.files c.args.site c.args.ask.log) (g.S.Site.may_leave c.args.site) image is))
     c.in-Err.ensures.crash c.in-Err.ensures.beside c.files_spell_one_list.ensures.header c.files_spell_one_list.ensures.whole c.in-Err.refused.why (λ is. omega (arith, c.requires.counted, c.in-Err.ensures.site is)) c.in-Err.ensures.damaged c.in-Err.ensures.unchanged))
@@ -111,7 +111,7 @@ returns-clause-failures g c alone =
 
 pub run_cause-requires-clause-ends : goal.run_cause-requires-clause-ends
 run_cause-requires-clause-ends g c =
-    over_run c.args.ask.options.wq c.args.ask.plan c.args.ask.options c.args.ask.workers.limit (g.H.Hall.idle_count c.resume.new.hall - g.H.Hall.idle_count c.args.hall.now) c.args.ask.options.limit c.in-Ok-resume.ended.records c.in-Ok-resume.ended.how
+    over_run g.Q.Made.Admission.admitted c.args.ask.options.wq c.args.ask.plan c.args.ask.options c.args.ask.workers.limit (g.H.Hall.idle_count c.resume.new.hall - g.H.Hall.idle_count c.args.hall.now) c.args.ask.options.limit c.in-Ok-resume.ended.records c.in-Ok-resume.ended.how
     (λ alone. c.in-Ok-resume.ensures.closed (fits_here c.args.ask.plan c.args.ask.options c.requires.fits alone)) c.in-Ok-resume.ensures.waited
 
 pub returns-in_default-clause-back : goal.returns-in_default-clause-back
@@ -132,27 +132,27 @@ returns-in-Ok-resume-clause-waited g c =
     let same : c.run_cause.result ≡ run_cause (site_rise (counts c.args.before (map g.R.Runner.count c.args.runners.now) (g.H.Hall.count c.args.hall.now) (g.H.Hall.idle_count c.args.hall.now) 0) (counts (g.S.Site.count c.in-Ok-resume.ended.site) (map g.R.Runner.count c.resume.new.runners) (g.H.Hall.count c.resume.new.hall) (g.H.Hall.idle_count c.resume.new.hall) 0)) c.first_rise-runner.result (hall_rise (counts c.args.before (map g.R.Runner.count c.args.runners.now) (g.H.Hall.count c.args.hall.now) (g.H.Hall.idle_count c.args.hall.now) 0) (counts (g.S.Site.count c.in-Ok-resume.ended.site) (map g.R.Runner.count c.resume.new.runners) (g.H.Hall.count c.resume.new.hall) (g.H.Hall.idle_count c.resume.new.hall) 0)) c.args.ask.plan c.in-Ok-resume.ended.how =
     c.run_cause.ensures ∙ told_cause c.args.before c.faults-after.result (g.S.Site.count c.in-Ok-resume.ended.site) c.faults-met.result (g.H.Hall.count c.args.hall.now) c.faults.result (g.H.Hall.count c.resume.new.hall) c.first_rise-runner.result c.in-Ok.copied c.args.ask.plan c.in-Ok-resume.ended.how c.faults-after.ensures c.faults-met.ensures c.faults.ensures c.in-Ok.ensures.0 in
     let rise = g.H.Hall.idle_count c.resume.new.hall - g.H.Hall.idle_count c.args.hall.now in
-    subst (λ (cause : Cause). IfWaited cause (WaitsInVain c.args.ask.plan c.args.ask.options c.args.ask.workers.limit rise c.in-Ok-resume.ended.records)) (sym same)
-    (waited_run c.args.ask rise (site_rise (counts c.args.before (map g.R.Runner.count c.args.runners.now) (g.H.Hall.count c.args.hall.now) (g.H.Hall.idle_count c.args.hall.now) 0) (counts (g.S.Site.count c.in-Ok-resume.ended.site) (map g.R.Runner.count c.resume.new.runners) (g.H.Hall.count c.resume.new.hall) (g.H.Hall.idle_count c.resume.new.hall) 0)) c.first_rise-runner.result (hall_rise (counts c.args.before (map g.R.Runner.count c.args.runners.now) (g.H.Hall.count c.args.hall.now) (g.H.Hall.idle_count c.args.hall.now) 0) (counts (g.S.Site.count c.in-Ok-resume.ended.site) (map g.R.Runner.count c.resume.new.runners) (g.H.Hall.count c.resume.new.hall) (g.H.Hall.idle_count c.resume.new.hall) 0)) c.in-Ok-resume.ended.records c.in-Ok-resume.ended.how (λ alone. c.in-Ok-resume.ensures.closed (fits_here c.args.ask.plan c.args.ask.options c.requires.fits alone)) c.in-Ok-resume.ensures.waited)
+    subst (λ (cause : Cause). IfWaited cause (WaitsInVain g.Q.Made.Admission.admitted c.args.ask.plan c.args.ask.options c.args.ask.workers.limit rise c.in-Ok-resume.ended.records)) (sym same)
+    (waited_run g.Q.Made.Admission.admitted c.args.ask rise (site_rise (counts c.args.before (map g.R.Runner.count c.args.runners.now) (g.H.Hall.count c.args.hall.now) (g.H.Hall.idle_count c.args.hall.now) 0) (counts (g.S.Site.count c.in-Ok-resume.ended.site) (map g.R.Runner.count c.resume.new.runners) (g.H.Hall.count c.resume.new.hall) (g.H.Hall.idle_count c.resume.new.hall) 0)) c.first_rise-runner.result (hall_rise (counts c.args.before (map g.R.Runner.count c.args.runners.now) (g.H.Hall.count c.args.hall.now) (g.H.Hall.idle_count c.args.hall.now) 0) (counts (g.S.Site.count c.in-Ok-resume.ended.site) (map g.R.Runner.count c.resume.new.runners) (g.H.Hall.count c.resume.new.hall) (g.H.Hall.idle_count c.resume.new.hall) 0)) c.in-Ok-resume.ended.records c.in-Ok-resume.ended.how (λ alone. c.in-Ok-resume.ensures.closed (fits_here c.args.ask.plan c.args.ask.options c.requires.fits alone)) c.in-Ok-resume.ensures.waited)
 
 pub returns-clause-waited : goal.returns-clause-waited
 returns-clause-waited g c =
-    subst (λ (cause : Cause). IfWaited cause (WaitsInVain c.args.ask.plan c.args.ask.options c.args.ask.workers.limit (g.H.Hall.idle_count c.resume.new.hall - g.H.Hall.idle_count c.args.hall.now) c.new-in-Err.result)) (sym c.unread_cause.ensures)
-    (unread_waits (WaitsInVain c.args.ask.plan c.args.ask.options c.args.ask.workers.limit (g.H.Hall.idle_count c.resume.new.hall - g.H.Hall.idle_count c.args.hall.now) c.new-in-Err.result) (record { before = c.args.before; after = c.faults-after-in-Err.result }) c.in-Err.refused.why)
+    subst (λ (cause : Cause). IfWaited cause (WaitsInVain g.Q.Made.Admission.admitted c.args.ask.plan c.args.ask.options c.args.ask.workers.limit (g.H.Hall.idle_count c.resume.new.hall - g.H.Hall.idle_count c.args.hall.now) c.new-in-Err.result)) (sym c.unread_cause.ensures)
+    (unread_waits (WaitsInVain g.Q.Made.Admission.admitted c.args.ask.plan c.args.ask.options c.args.ask.workers.limit (g.H.Hall.idle_count c.resume.new.hall - g.H.Hall.idle_count c.args.hall.now) c.new-in-Err.result) (record { before = c.args.before; after = c.faults-after-in-Err.result }) c.in-Err.refused.why)
 
 pub returns-in-Ok-resume-clause-vain : goal.returns-in-Ok-resume-clause-vain
 returns-in-Ok-resume-clause-vain g c tells =
     let same : c.run_cause.result ≡ run_cause (site_rise (counts c.args.before (map g.R.Runner.count c.args.runners.now) (g.H.Hall.count c.args.hall.now) (g.H.Hall.idle_count c.args.hall.now) 0) (counts (g.S.Site.count c.in-Ok-resume.ended.site) (map g.R.Runner.count c.resume.new.runners) (g.H.Hall.count c.resume.new.hall) (g.H.Hall.idle_count c.resume.new.hall) 0)) c.first_rise-runner.result (hall_rise (counts c.args.before (map g.R.Runner.count c.args.runners.now) (g.H.Hall.count c.args.hall.now) (g.H.Hall.idle_count c.args.hall.now) 0) (counts (g.S.Site.count c.in-Ok-resume.ended.site) (map g.R.Runner.count c.resume.new.runners) (g.H.Hall.count c.resume.new.hall) (g.H.Hall.idle_count c.resume.new.hall) 0)) c.args.ask.plan c.in-Ok-resume.ended.how =
     c.run_cause.ensures ∙ told_cause c.args.before c.faults-after.result (g.S.Site.count c.in-Ok-resume.ended.site) c.faults-met.result (g.H.Hall.count c.args.hall.now) c.faults.result (g.H.Hall.count c.resume.new.hall) c.first_rise-runner.result c.in-Ok.copied c.args.ask.plan c.in-Ok-resume.ended.how c.faults-after.ensures c.faults-met.ensures c.faults.ensures c.in-Ok.ensures.0 in
     let ended = c.in-Ok-resume.ended in
-    let so : Type 0 = AreVain g.F.Commands.gives g.F.Commands.may_fail g.H.Way.Link.history g.H.Way.Link.count g.H.Way.Link.idle_count g.H.Way.Link.is_closed c.args.ask.workers.limit c.args.ask.plan c.args.ask.options (before_end ended.records) (g.H.Hall.got c.args.hall.now) (g.H.Hall.got c.resume.new.hall) in
+    let so : Type 0 = AreVain g.F.Commands.gives g.F.Commands.may_fail g.H.Way.Link.history g.H.Way.Link.count g.H.Way.Link.idle_count g.H.Way.Link.is_closed c.args.ask.workers.limit g.Q.Made.Admission.admitted c.args.ask.plan c.args.ask.options (before_end ended.records) (g.H.Hall.got c.args.hall.now) (g.H.Hall.got c.resume.new.hall) in
     subst (λ (cause : Cause). IfWaited cause (λ wait. so)) (sym same)
     (vain_run so c.args.ask.options.wq c.args.ask.options.limit c.args.ask.plan (site_rise (counts c.args.before (map g.R.Runner.count c.args.runners.now) (g.H.Hall.count c.args.hall.now) (g.H.Hall.idle_count c.args.hall.now) 0) (counts (g.S.Site.count c.in-Ok-resume.ended.site) (map g.R.Runner.count c.resume.new.runners) (g.H.Hall.count c.resume.new.hall) (g.H.Hall.idle_count c.resume.new.hall) 0)) c.first_rise-runner.result (hall_rise (counts c.args.before (map g.R.Runner.count c.args.runners.now) (g.H.Hall.count c.args.hall.now) (g.H.Hall.idle_count c.args.hall.now) 0) (counts (g.S.Site.count c.in-Ok-resume.ended.site) (map g.R.Runner.count c.resume.new.runners) (g.H.Hall.count c.resume.new.hall) (g.H.Hall.idle_count c.resume.new.hall) 0)) ended.how
     (λ alone. c.in-Ok-resume.ensures.closed (fits_here c.args.ask.plan c.args.ask.options c.requires.fits alone)) (λ away. c.in-Ok-resume.ensures.vain away tells))
 
 pub returns-clause-vain : goal.returns-clause-vain
 returns-clause-vain g c tells =
-    let so : Type 0 = AreVain g.F.Commands.gives g.F.Commands.may_fail g.H.Way.Link.history g.H.Way.Link.count g.H.Way.Link.idle_count g.H.Way.Link.is_closed c.args.ask.workers.limit c.args.ask.plan c.args.ask.options (before_end c.new-in-Err.result) (g.H.Hall.got c.args.hall.now) (g.H.Hall.got c.resume.new.hall) in
+    let so : Type 0 = AreVain g.F.Commands.gives g.F.Commands.may_fail g.H.Way.Link.history g.H.Way.Link.count g.H.Way.Link.idle_count g.H.Way.Link.is_closed c.args.ask.workers.limit g.Q.Made.Admission.admitted c.args.ask.plan c.args.ask.options (before_end c.new-in-Err.result) (g.H.Hall.got c.args.hall.now) (g.H.Hall.got c.resume.new.hall) in
     subst (λ (cause : Cause). IfWaited cause (λ wait. so)) (sym c.unread_cause.ensures) (unread_waits (λ (wait : Wait). so) (record { before = c.args.before; after = c.faults-after-in-Err.result }) c.in-Err.refused.why)
 
 pub returns-in_default-clause-due_losses : goal.returns-in_default-clause-due_losses
@@ -251,22 +251,22 @@ returns-in-Ok-resume-clause-leaves g c =
     let same : c.run_cause.result ≡ run_cause (site_rise (counts c.args.before (map g.R.Runner.count c.args.runners.now) (g.H.Hall.count c.args.hall.now) (g.H.Hall.idle_count c.args.hall.now) 0) (counts (g.S.Site.count c.in-Ok-resume.ended.site) (map g.R.Runner.count c.resume.new.runners) (g.H.Hall.count c.resume.new.hall) (g.H.Hall.idle_count c.resume.new.hall) 0)) c.first_rise-runner.result (hall_rise (counts c.args.before (map g.R.Runner.count c.args.runners.now) (g.H.Hall.count c.args.hall.now) (g.H.Hall.idle_count c.args.hall.now) 0) (counts (g.S.Site.count c.in-Ok-resume.ended.site) (map g.R.Runner.count c.resume.new.runners) (g.H.Hall.count c.resume.new.hall) (g.H.Hall.idle_count c.resume.new.hall) 0)) c.args.ask.plan c.in-Ok-resume.ended.how =
     c.run_cause.ensures ∙ told_cause c.args.before c.faults-after.result (g.S.Site.count c.in-Ok-resume.ended.site) c.faults-met.result (g.H.Hall.count c.args.hall.now) c.faults.result (g.H.Hall.count c.resume.new.hall) c.first_rise-runner.result c.in-Ok.copied c.args.ask.plan c.in-Ok-resume.ended.how c.faults-after.ensures c.faults-met.ensures c.faults.ensures c.in-Ok.ensures.0 in
     let ended = c.in-Ok-resume.ended in
-    subst (λ (cause : Cause). RunLeaves (λ (past : List Record). g.S.Site.tells → Spells past (g.S.Site.files c.args.site c.args.ask.log)) g.H.Way.Link.tells (g.H.Hall.listens c.resume.new.hall) g.F.Commands.gives g.F.Commands.may_fail g.H.Way.Link.history g.H.Way.Link.count g.H.Way.Link.idle_count g.H.Way.Link.is_closed c.args.ask (g.H.Hall.idle_count c.resume.new.hall - g.H.Hall.idle_count c.args.hall.now) (g.H.Hall.got c.args.hall.now) (g.H.Hall.got c.resume.new.hall) ended.records cause) (sym same)
-    (ran_leaves (λ (past : List Record). g.S.Site.tells → Spells past (g.S.Site.files c.args.site c.args.ask.log)) g.H.Way.Link.tells (g.H.Hall.listens c.resume.new.hall) g.F.Commands.gives g.F.Commands.may_fail g.H.Way.Link.history g.H.Way.Link.count g.H.Way.Link.idle_count g.H.Way.Link.is_closed c.args.ask (g.H.Hall.idle_count c.resume.new.hall - g.H.Hall.idle_count c.args.hall.now) (g.H.Hall.got c.args.hall.now) (g.H.Hall.got c.resume.new.hall)
+    subst (λ (cause : Cause). RunLeaves (λ (past : List Record). g.S.Site.tells → Spells past (g.S.Site.files c.args.site c.args.ask.log)) g.H.Way.Link.tells (g.H.Hall.listens c.resume.new.hall) g.F.Commands.gives g.F.Commands.may_fail g.H.Way.Link.history g.H.Way.Link.count g.H.Way.Link.idle_count g.H.Way.Link.is_closed g.Q.Made.Admission.admitted c.args.ask (g.H.Hall.idle_count c.resume.new.hall - g.H.Hall.idle_count c.args.hall.now) (g.H.Hall.got c.args.hall.now) (g.H.Hall.got c.resume.new.hall) ended.records cause) (sym same)
+    (ran_leaves g.Q.Made.Admission.admitted (λ (past : List Record). g.S.Site.tells → Spells past (g.S.Site.files c.args.site c.args.ask.log)) g.H.Way.Link.tells (g.H.Hall.listens c.resume.new.hall) g.F.Commands.gives g.F.Commands.may_fail g.H.Way.Link.history g.H.Way.Link.count g.H.Way.Link.idle_count g.H.Way.Link.is_closed c.args.ask (g.H.Hall.idle_count c.resume.new.hall - g.H.Hall.idle_count c.args.hall.now) (g.H.Hall.got c.args.hall.now) (g.H.Hall.got c.resume.new.hall)
     (site_rise (counts c.args.before (map g.R.Runner.count c.args.runners.now) (g.H.Hall.count c.args.hall.now) (g.H.Hall.idle_count c.args.hall.now) 0) (counts (g.S.Site.count c.in-Ok-resume.ended.site) (map g.R.Runner.count c.resume.new.runners) (g.H.Hall.count c.resume.new.hall) (g.H.Hall.idle_count c.resume.new.hall) 0)) c.first_rise-runner.result (hall_rise (counts c.args.before (map g.R.Runner.count c.args.runners.now) (g.H.Hall.count c.args.hall.now) (g.H.Hall.idle_count c.args.hall.now) 0) (counts (g.S.Site.count c.in-Ok-resume.ended.site) (map g.R.Runner.count c.resume.new.runners) (g.H.Hall.count c.resume.new.hall) (g.H.Hall.idle_count c.resume.new.hall) 0)) ended.records ended.how c.in-Ok-resume.ensures.over (λ refused. (c.in-Ok-resume.ensures.vacant refused).none_back)
     (λ alone. c.in-Ok-resume.ensures.closed (fits_here c.args.ask.plan c.args.ask.options c.requires.fits alone)) c.in-Ok-resume.ensures.ends c.in-Ok-resume.ensures.waited c.in-Ok-resume.ensures.listens c.in-Ok-resume.ensures.spent c.in-Ok-resume.ensures.collects)
 
 pub returns-in_default-clause-leaves : goal.returns-in_default-clause-leaves
 returns-in_default-clause-leaves g c =
-    subst (λ (xs : List Record). RunLeaves (λ (past : List Record). g.S.Site.tells → Spells past (g.S.Site.files c.args.site c.args.ask.log)) g.H.Way.Link.tells (g.H.Hall.listens c.args.hall.now) g.F.Commands.gives g.F.Commands.may_fail g.H.Way.Link.history g.H.Way.Link.count g.H.Way.Link.idle_count g.H.Way.Link.is_closed c.args.ask (g.H.Hall.idle_count c.args.hall.now - g.H.Hall.idle_count c.args.hall.now) (g.H.Hall.got c.args.hall.now) (g.H.Hall.got c.args.hall.now) xs causes.Memory) (sym c.new.ensures)
-    (memory_leaves (λ (past : List Record). g.S.Site.tells → Spells past (g.S.Site.files c.args.site c.args.ask.log)) g.H.Way.Link.tells (g.H.Hall.listens c.args.hall.now) g.F.Commands.gives g.F.Commands.may_fail g.H.Way.Link.history g.H.Way.Link.count g.H.Way.Link.idle_count g.H.Way.Link.is_closed c.args.ask (g.H.Hall.idle_count c.args.hall.now - g.H.Hall.idle_count c.args.hall.now) (g.H.Hall.got c.args.hall.now) (g.H.Hall.got c.args.hall.now) refl)
+    subst (λ (xs : List Record). RunLeaves (λ (past : List Record). g.S.Site.tells → Spells past (g.S.Site.files c.args.site c.args.ask.log)) g.H.Way.Link.tells (g.H.Hall.listens c.args.hall.now) g.F.Commands.gives g.F.Commands.may_fail g.H.Way.Link.history g.H.Way.Link.count g.H.Way.Link.idle_count g.H.Way.Link.is_closed g.Q.Made.Admission.admitted c.args.ask (g.H.Hall.idle_count c.args.hall.now - g.H.Hall.idle_count c.args.hall.now) (g.H.Hall.got c.args.hall.now) (g.H.Hall.got c.args.hall.now) xs causes.Memory) (sym c.new.ensures)
+    (memory_leaves g.Q.Made.Admission.admitted (λ (past : List Record). g.S.Site.tells → Spells past (g.S.Site.files c.args.site c.args.ask.log)) g.H.Way.Link.tells (g.H.Hall.listens c.args.hall.now) g.F.Commands.gives g.F.Commands.may_fail g.H.Way.Link.history g.H.Way.Link.count g.H.Way.Link.idle_count g.H.Way.Link.is_closed c.args.ask (g.H.Hall.idle_count c.args.hall.now - g.H.Hall.idle_count c.args.hall.now) (g.H.Hall.got c.args.hall.now) (g.H.Hall.got c.args.hall.now) refl)
 
 pub returns-clause-leaves : goal.returns-clause-leaves
 returns-clause-leaves g c =
     let s : Rise = record { before = c.args.before; after = c.faults-after-in-Err.result } in
-    subst (λ (cause : Cause). RunLeaves (λ (past : List Record). g.S.Site.tells → Spells past (g.S.Site.files c.args.site c.args.ask.log)) g.H.Way.Link.tells (g.H.Hall.listens c.resume.new.hall) g.F.Commands.gives g.F.Commands.may_fail g.H.Way.Link.history g.H.Way.Link.count g.H.Way.Link.idle_count g.H.Way.Link.is_closed c.args.ask (g.H.Hall.idle_count c.resume.new.hall - g.H.Hall.idle_count c.args.hall.now) (g.H.Hall.got c.args.hall.now) (g.H.Hall.got c.resume.new.hall) c.new-in-Err.result cause) (sym c.unread_cause.ensures)
-    (subst (λ (xs : List Record). RunLeaves (λ (past : List Record). g.S.Site.tells → Spells past (g.S.Site.files c.args.site c.args.ask.log)) g.H.Way.Link.tells (g.H.Hall.listens c.resume.new.hall) g.F.Commands.gives g.F.Commands.may_fail g.H.Way.Link.history g.H.Way.Link.count g.H.Way.Link.idle_count g.H.Way.Link.is_closed c.args.ask (g.H.Hall.idle_count c.resume.new.hall - g.H.Hall.idle_count c.args.hall.now) (g.H.Hall.got c.args.hall.now) (g.H.Hall.got c.resume.new.hall) xs (unread_cause s c.in-Err.refused.why)) (sym c.new-in-Err.ensures)
-    (unread_leaves (λ (past : List Record). g.S.Site.tells → Spells past (g.S.Site.files c.args.site c.args.ask.log)) g.H.Way.Link.tells (g.H.Hall.listens c.resume.new.hall) g.F.Commands.gives g.F.Commands.may_fail g.H.Way.Link.history g.H.Way.Link.count g.H.Way.Link.idle_count g.H.Way.Link.is_closed c.args.ask (g.H.Hall.idle_count c.resume.new.hall - g.H.Hall.idle_count c.args.hall.now) (g.H.Hall.got c.args.hall.now) (g.H.Hall.got c.resume.new.hall) s c.in-Err.refused.why (ap g.H.Hall.got c.in-Err.ensures.unopened)))
+    subst (λ (cause : Cause). RunLeaves (λ (past : List Record). g.S.Site.tells → Spells past (g.S.Site.files c.args.site c.args.ask.log)) g.H.Way.Link.tells (g.H.Hall.listens c.resume.new.hall) g.F.Commands.gives g.F.Commands.may_fail g.H.Way.Link.history g.H.Way.Link.count g.H.Way.Link.idle_count g.H.Way.Link.is_closed g.Q.Made.Admission.admitted c.args.ask (g.H.Hall.idle_count c.resume.new.hall - g.H.Hall.idle_count c.args.hall.now) (g.H.Hall.got c.args.hall.now) (g.H.Hall.got c.resume.new.hall) c.new-in-Err.result cause) (sym c.unread_cause.ensures)
+    (subst (λ (xs : List Record). RunLeaves (λ (past : List Record). g.S.Site.tells → Spells past (g.S.Site.files c.args.site c.args.ask.log)) g.H.Way.Link.tells (g.H.Hall.listens c.resume.new.hall) g.F.Commands.gives g.F.Commands.may_fail g.H.Way.Link.history g.H.Way.Link.count g.H.Way.Link.idle_count g.H.Way.Link.is_closed g.Q.Made.Admission.admitted c.args.ask (g.H.Hall.idle_count c.resume.new.hall - g.H.Hall.idle_count c.args.hall.now) (g.H.Hall.got c.args.hall.now) (g.H.Hall.got c.resume.new.hall) xs (unread_cause s c.in-Err.refused.why)) (sym c.new-in-Err.ensures)
+    (unread_leaves g.Q.Made.Admission.admitted (λ (past : List Record). g.S.Site.tells → Spells past (g.S.Site.files c.args.site c.args.ask.log)) g.H.Way.Link.tells (g.H.Hall.listens c.resume.new.hall) g.F.Commands.gives g.F.Commands.may_fail g.H.Way.Link.history g.H.Way.Link.count g.H.Way.Link.idle_count g.H.Way.Link.is_closed c.args.ask (g.H.Hall.idle_count c.resume.new.hall - g.H.Hall.idle_count c.args.hall.now) (g.H.Hall.got c.args.hall.now) (g.H.Hall.got c.resume.new.hall) s c.in-Err.refused.why (ap g.H.Hall.got c.in-Err.ensures.unopened)))
 
 pub returns-in-Ok-resume-clause-sure_links : goal.returns-in-Ok-resume-clause-sure_links
 returns-in-Ok-resume-clause-sure_links g c t H spelled wq work sure links =

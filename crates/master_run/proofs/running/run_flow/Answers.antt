@@ -19,9 +19,9 @@ returns-clause-serves g c =
     let site = g.S.Site.count c.run_by_all.result.site in
     let whole : map count c.args.runners.now ≡ map count front ++ map count back = ap (map count) c.split_at_mut-working.ensures.value ∙ map-append count front back in
     let now : map count (new ++ back) ≡ map count new ++ map count back = map-append count new back in
-    subst (λ (xs : List ℕ). Serves g.S.Site.tells g.S.Site.files g.S.Site.may_leave g.S.Site.moment g.S.Site.images_since g.B.Born.born g.F.Commands.gives g.F.Commands.may_fail (AllTell g.R.Runner.tells c.args.runners.now) (AllSure g.R.Runner.sure c.args.runners.now) (g.H.Hall.honest c.args.hall.now) (counts c.args.before xs (g.H.Hall.count c.args.hall.now) (g.H.Hall.idle_count c.args.hall.now) 0) (counts site (map count (new ++ back)) (g.H.Hall.count c.run_by_all.new.hall) (g.H.Hall.idle_count c.run_by_all.new.hall) 0) c.args.ask c.args.site c.run_by_all.result.site c.run_by_all.result.records c.run_by_all.result.cause) (sym whole)
-    (subst (λ (xs : List ℕ). Serves g.S.Site.tells g.S.Site.files g.S.Site.may_leave g.S.Site.moment g.S.Site.images_since g.B.Born.born g.F.Commands.gives g.F.Commands.may_fail (AllTell g.R.Runner.tells c.args.runners.now) (AllSure g.R.Runner.sure c.args.runners.now) (g.H.Hall.honest c.args.hall.now) (counts c.args.before (map count front ++ map count back) (g.H.Hall.count c.args.hall.now) (g.H.Hall.idle_count c.args.hall.now) 0) (counts site xs (g.H.Hall.count c.run_by_all.new.hall) (g.H.Hall.idle_count c.run_by_all.new.hall) 0) c.args.ask c.args.site c.run_by_all.result.site c.run_by_all.result.records c.run_by_all.result.cause) (sym now)
-    (widened g.S.Site.tells g.S.Site.files g.S.Site.may_leave g.S.Site.moment g.S.Site.images_since g.B.Born.born g.F.Commands.gives g.F.Commands.may_fail
+    subst (λ (xs : List ℕ). Serves g.Q.Made.Admission.admitted g.S.Site.tells g.S.Site.files g.S.Site.may_leave g.S.Site.moment g.S.Site.images_since g.B.Born.born g.F.Commands.gives g.F.Commands.may_fail (AllTell g.R.Runner.tells c.args.runners.now) (AllSure g.R.Runner.sure c.args.runners.now) (g.H.Hall.honest c.args.hall.now) (counts c.args.before xs (g.H.Hall.count c.args.hall.now) (g.H.Hall.idle_count c.args.hall.now) 0) (counts site (map count (new ++ back)) (g.H.Hall.count c.run_by_all.new.hall) (g.H.Hall.idle_count c.run_by_all.new.hall) 0) c.args.ask c.args.site c.run_by_all.result.site c.run_by_all.result.records c.run_by_all.result.cause) (sym whole)
+    (subst (λ (xs : List ℕ). Serves g.Q.Made.Admission.admitted g.S.Site.tells g.S.Site.files g.S.Site.may_leave g.S.Site.moment g.S.Site.images_since g.B.Born.born g.F.Commands.gives g.F.Commands.may_fail (AllTell g.R.Runner.tells c.args.runners.now) (AllSure g.R.Runner.sure c.args.runners.now) (g.H.Hall.honest c.args.hall.now) (counts c.args.before (map count front ++ map count back) (g.H.Hall.count c.args.hall.now) (g.H.Hall.idle_count c.args.hall.now) 0) (counts site xs (g.H.Hall.count c.run_by_all.new.hall) (g.H.Hall.idle_count c.run_by_all.new.hall) 0) c.args.ask c.args.site c.run_by_all.result.site c.run_by_all.result.records c.run_by_all.result.cause) (sym now)
+    (widened g.Q.Made.Admission.admitted g.S.Site.tells g.S.Site.files g.S.Site.may_leave g.S.Site.moment g.S.Site.images_since g.B.Born.born g.F.Commands.gives g.F.Commands.may_fail
     (AllTell g.R.Runner.tells front) (AllTell g.R.Runner.tells c.args.runners.now) (AllSure g.R.Runner.sure front) (AllSure g.R.Runner.sure c.args.runners.now) (g.H.Hall.honest c.args.hall.now) (g.H.Hall.honest c.args.hall.now)
     (counts c.args.before (map count front) (g.H.Hall.count c.args.hall.now) (g.H.Hall.idle_count c.args.hall.now) 0) (counts site (map count new) (g.H.Hall.count c.run_by_all.new.hall) (g.H.Hall.idle_count c.run_by_all.new.hall) 0) (counts c.args.before (map count front ++ map count back) (g.H.Hall.count c.args.hall.now) (g.H.Hall.idle_count c.args.hall.now) 0) (counts site (map count new ++ map count back) (g.H.Hall.count c.run_by_all.new.hall) (g.H.Hall.idle_count c.run_by_all.new.hall) 0)
     c.args.ask c.args.site c.run_by_all.result.site c.run_by_all.result.records c.run_by_all.result.cause

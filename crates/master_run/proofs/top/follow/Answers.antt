@@ -36,13 +36,13 @@ use Rattle.master_run.proofs.top.follow.Goals as goal
 
 pub returns-in-Ok-clause-ends : goal.returns-in-Ok-clause-ends
 returns-in-Ok-clause-ends g c told =
-    subst (λ (e : Result Ask Cause). CallEnds e (g.H.Hall.idle_count c.serve.new.hall - g.H.Hall.idle_count c.args.hall.now) (g.S.Site.files c.args.site) (g.S.Site.files c.serve.result.site) c.serve.result.records c.serve.result.cause) (sym (c.in-Ok.ensures.stage told)) ((serves_from g.S.Site.tells g.S.Site.files g.S.Site.may_leave g.S.Site.moment g.S.Site.images_since g.B.Born.born g.F.Commands.gives g.F.Commands.may_fail (AllTell g.R.Runner.tells c.args.runners.now) (AllSure g.R.Runner.sure c.args.runners.now) (g.H.Hall.honest c.args.hall.now) (counts (g.S.Site.count c.args.site) (map g.R.Runner.count c.args.runners.now) (g.H.Hall.count c.args.hall.now) (g.H.Hall.idle_count c.args.hall.now) 0) (counts (g.S.Site.count c.serve.result.site) (map g.R.Runner.count c.serve.new.runners) (g.H.Hall.count c.serve.new.hall) (g.H.Hall.idle_count c.serve.new.hall) 0) c.in-Ok.ask c.args.site c.read_ask.new.site c.serve.result.site c.serve.result.records c.serve.result.cause c.requires.later (λ t. record { same = c.in-Ok.ensures.files t; within = c.in-Ok.ensures.crash t; only = c.in-Ok.ensures.any_moment t })
-    (subst (λ (n : ℕ). Serves g.S.Site.tells g.S.Site.files g.S.Site.may_leave g.S.Site.moment g.S.Site.images_since g.B.Born.born g.F.Commands.gives g.F.Commands.may_fail (AllTell g.R.Runner.tells c.args.runners.now) (AllSure g.R.Runner.sure c.args.runners.now) (g.H.Hall.honest c.args.hall.now) (counts n (map g.R.Runner.count c.args.runners.now) (g.H.Hall.count c.args.hall.now) (g.H.Hall.idle_count c.args.hall.now) 0) (counts (g.S.Site.count c.serve.result.site) (map g.R.Runner.count c.serve.new.runners) (g.H.Hall.count c.serve.new.hall) (g.H.Hall.idle_count c.serve.new.hall) 0) c.in-Ok.ask c.read_ask.new.site c.serve.result.site c.serve.result.records c.serve.result.cause) c.faults-before.ensures c.serve.ensures.serves)).ends told)
+    subst (λ (e : Result Ask Cause). CallEnds g.Q.Made.Admission.admitted e (g.H.Hall.idle_count c.serve.new.hall - g.H.Hall.idle_count c.args.hall.now) (g.S.Site.files c.args.site) (g.S.Site.files c.serve.result.site) c.serve.result.records c.serve.result.cause) (sym (c.in-Ok.ensures.stage told)) ((serves_from g.Q.Made.Admission.admitted g.S.Site.tells g.S.Site.files g.S.Site.may_leave g.S.Site.moment g.S.Site.images_since g.B.Born.born g.F.Commands.gives g.F.Commands.may_fail (AllTell g.R.Runner.tells c.args.runners.now) (AllSure g.R.Runner.sure c.args.runners.now) (g.H.Hall.honest c.args.hall.now) (counts (g.S.Site.count c.args.site) (map g.R.Runner.count c.args.runners.now) (g.H.Hall.count c.args.hall.now) (g.H.Hall.idle_count c.args.hall.now) 0) (counts (g.S.Site.count c.serve.result.site) (map g.R.Runner.count c.serve.new.runners) (g.H.Hall.count c.serve.new.hall) (g.H.Hall.idle_count c.serve.new.hall) 0) c.in-Ok.ask c.args.site c.read_ask.new.site c.serve.result.site c.serve.result.records c.serve.result.cause c.requires.later (λ t. record { same = c.in-Ok.ensures.files t; within = c.in-Ok.ensures.crash t; only = c.in-Ok.ensures.any_moment t })
+    (subst (λ (n : ℕ). Serves g.Q.Made.Admission.admitted g.S.Site.tells g.S.Site.files g.S.Site.may_leave g.S.Site.moment g.S.Site.images_since g.B.Born.born g.F.Commands.gives g.F.Commands.may_fail (AllTell g.R.Runner.tells c.args.runners.now) (AllSure g.R.Runner.sure c.args.runners.now) (g.H.Hall.honest c.args.hall.now) (counts n (map g.R.Runner.count c.args.runners.now) (g.H.Hall.count c.args.hall.now) (g.H.Hall.idle_count c.args.hall.now) 0) (counts (g.S.Site.count c.serve.result.site) (map g.R.Runner.count c.serve.new.runners) (g.H.Hall.count c.serve.new.hall) (g.H.Hall.idle_count c.serve.new.hall) 0) c.in-Ok.ask c.read_ask.new.site c.serve.result.site c.serve.result.records c.serve.result.cause) c.faults-before.ensures c.serve.ensures.serves)).ends told)
 
 pub returns-in-Ok-clause-serves : goal.returns-in-Ok-clause-serves
 returns-in-Ok-clause-serves g c told ask asked =
-    subst (λ (a : Ask). Serves g.S.Site.tells g.S.Site.files g.S.Site.may_leave g.S.Site.moment g.S.Site.images_since g.B.Born.born g.F.Commands.gives g.F.Commands.may_fail (AllTell g.R.Runner.tells c.args.runners.now) (AllSure g.R.Runner.sure c.args.runners.now) (g.H.Hall.honest c.args.hall.now) (counts (g.S.Site.count c.args.site) (map g.R.Runner.count c.args.runners.now) (g.H.Hall.count c.args.hall.now) (g.H.Hall.idle_count c.args.hall.now) 0) (counts (g.S.Site.count c.serve.result.site) (map g.R.Runner.count c.serve.new.runners) (g.H.Hall.count c.serve.new.hall) (g.H.Hall.idle_count c.serve.new.hall) 0) a c.args.site c.serve.result.site c.serve.result.records c.serve.result.cause) (same_ask c.in-Ok.ask ask (sym (c.in-Ok.ensures.stage told) ∙ asked)) (serves_from g.S.Site.tells g.S.Site.files g.S.Site.may_leave g.S.Site.moment g.S.Site.images_since g.B.Born.born g.F.Commands.gives g.F.Commands.may_fail (AllTell g.R.Runner.tells c.args.runners.now) (AllSure g.R.Runner.sure c.args.runners.now) (g.H.Hall.honest c.args.hall.now) (counts (g.S.Site.count c.args.site) (map g.R.Runner.count c.args.runners.now) (g.H.Hall.count c.args.hall.now) (g.H.Hall.idle_count c.args.hall.now) 0) (counts (g.S.Site.count c.serve.result.site) (map g.R.Runner.count c.serve.new.runners) (g.H.Hall.count c.serve.new.hall) (g.H.Hall.idle_count c.serve.new.hall) 0) c.in-Ok.ask c.args.site c.read_ask.new.site c.serve.result.site c.serve.result.records c.serve.result.cause c.requires.later (λ t. record { same = c.in-Ok.ensures.files t; within = c.in-Ok.ensures.crash t; only = c.in-Ok.ensures.any_moment t })
-    (subst (λ (n : ℕ). Serves g.S.Site.tells g.S.Site.files g.S.Site.may_leave g.S.Site.moment g.S.Site.images_since g.B.Born.born g.F.Commands.gives g.F.Commands.may_fail (AllTell g.R.Runner.tells c.args.runners.now) (AllSure g.R.Runner.sure c.args.runners.now) (g.H.Hall.honest c.args.hall.now) (counts n (map g.R.Runner.count c.args.runners.now) (g.H.Hall.count c.args.hall.now) (g.H.Hall.idle_count c.args.hall.now) 0) (counts (g.S.Site.count c.serve.result.site) (map g.R.Runner.count c.serve.new.runners) (g.H.Hall.count c.serve.new.hall) (g.H.Hall.idle_count c.serve.new.hall) 0) c.in-Ok.ask c.read_ask.new.site c.serve.result.site c.serve.result.records c.serve.result.cause) c.faults-before.ensures c.serve.ensures.serves))
+    subst (λ (a : Ask). Serves g.Q.Made.Admission.admitted g.S.Site.tells g.S.Site.files g.S.Site.may_leave g.S.Site.moment g.S.Site.images_since g.B.Born.born g.F.Commands.gives g.F.Commands.may_fail (AllTell g.R.Runner.tells c.args.runners.now) (AllSure g.R.Runner.sure c.args.runners.now) (g.H.Hall.honest c.args.hall.now) (counts (g.S.Site.count c.args.site) (map g.R.Runner.count c.args.runners.now) (g.H.Hall.count c.args.hall.now) (g.H.Hall.idle_count c.args.hall.now) 0) (counts (g.S.Site.count c.serve.result.site) (map g.R.Runner.count c.serve.new.runners) (g.H.Hall.count c.serve.new.hall) (g.H.Hall.idle_count c.serve.new.hall) 0) a c.args.site c.serve.result.site c.serve.result.records c.serve.result.cause) (same_ask c.in-Ok.ask ask (sym (c.in-Ok.ensures.stage told) ∙ asked)) (serves_from g.Q.Made.Admission.admitted g.S.Site.tells g.S.Site.files g.S.Site.may_leave g.S.Site.moment g.S.Site.images_since g.B.Born.born g.F.Commands.gives g.F.Commands.may_fail (AllTell g.R.Runner.tells c.args.runners.now) (AllSure g.R.Runner.sure c.args.runners.now) (g.H.Hall.honest c.args.hall.now) (counts (g.S.Site.count c.args.site) (map g.R.Runner.count c.args.runners.now) (g.H.Hall.count c.args.hall.now) (g.H.Hall.idle_count c.args.hall.now) 0) (counts (g.S.Site.count c.serve.result.site) (map g.R.Runner.count c.serve.new.runners) (g.H.Hall.count c.serve.new.hall) (g.H.Hall.idle_count c.serve.new.hall) 0) c.in-Ok.ask c.args.site c.read_ask.new.site c.serve.result.site c.serve.result.records c.serve.result.cause c.requires.later (λ t. record { same = c.in-Ok.ensures.files t; within = c.in-Ok.ensures.crash t; only = c.in-Ok.ensures.any_moment t })
+    (subst (λ (n : ℕ). Serves g.Q.Made.Admission.admitted g.S.Site.tells g.S.Site.files g.S.Site.may_leave g.S.Site.moment g.S.Site.images_since g.B.Born.born g.F.Commands.gives g.F.Commands.may_fail (AllTell g.R.Runner.tells c.args.runners.now) (AllSure g.R.Runner.sure c.args.runners.now) (g.H.Hall.honest c.args.hall.now) (counts n (map g.R.Runner.count c.args.runners.now) (g.H.Hall.count c.args.hall.now) (g.H.Hall.idle_count c.args.hall.now) 0) (counts (g.S.Site.count c.serve.result.site) (map g.R.Runner.count c.serve.new.runners) (g.H.Hall.count c.serve.new.hall) (g.H.Hall.idle_count c.serve.new.hall) 0) c.in-Ok.ask c.read_ask.new.site c.serve.result.site c.serve.result.records c.serve.result.cause) c.faults-before.ensures c.serve.ensures.serves))
 
 pub returns-in-Ok-clause-words : goal.returns-in-Ok-clause-words
 returns-in-Ok-clause-words g c =
@@ -50,8 +50,8 @@ returns-in-Ok-clause-words g c =
 
 pub returns-in-Ok-clause-faults : goal.returns-in-Ok-clause-faults
 returns-in-Ok-clause-faults g c =
-    (serves_from g.S.Site.tells g.S.Site.files g.S.Site.may_leave g.S.Site.moment g.S.Site.images_since g.B.Born.born g.F.Commands.gives g.F.Commands.may_fail (AllTell g.R.Runner.tells c.args.runners.now) (AllSure g.R.Runner.sure c.args.runners.now) (g.H.Hall.honest c.args.hall.now) (counts (g.S.Site.count c.args.site) (map g.R.Runner.count c.args.runners.now) (g.H.Hall.count c.args.hall.now) (g.H.Hall.idle_count c.args.hall.now) 0) (counts (g.S.Site.count c.serve.result.site) (map g.R.Runner.count c.serve.new.runners) (g.H.Hall.count c.serve.new.hall) (g.H.Hall.idle_count c.serve.new.hall) 0) c.in-Ok.ask c.args.site c.read_ask.new.site c.serve.result.site c.serve.result.records c.serve.result.cause c.requires.later (λ t. record { same = c.in-Ok.ensures.files t; within = c.in-Ok.ensures.crash t; only = c.in-Ok.ensures.any_moment t })
-    (subst (λ (n : ℕ). Serves g.S.Site.tells g.S.Site.files g.S.Site.may_leave g.S.Site.moment g.S.Site.images_since g.B.Born.born g.F.Commands.gives g.F.Commands.may_fail (AllTell g.R.Runner.tells c.args.runners.now) (AllSure g.R.Runner.sure c.args.runners.now) (g.H.Hall.honest c.args.hall.now) (counts n (map g.R.Runner.count c.args.runners.now) (g.H.Hall.count c.args.hall.now) (g.H.Hall.idle_count c.args.hall.now) 0) (counts (g.S.Site.count c.serve.result.site) (map g.R.Runner.count c.serve.new.runners) (g.H.Hall.count c.serve.new.hall) (g.H.Hall.idle_count c.serve.new.hall) 0) c.in-Ok.ask c.read_ask.new.site c.serve.result.site c.serve.result.records c.serve.result.cause) c.faults-before.ensures c.serve.ensures.serves)).faults
+    (serves_from g.Q.Made.Admission.admitted g.S.Site.tells g.S.Site.files g.S.Site.may_leave g.S.Site.moment g.S.Site.images_since g.B.Born.born g.F.Commands.gives g.F.Commands.may_fail (AllTell g.R.Runner.tells c.args.runners.now) (AllSure g.R.Runner.sure c.args.runners.now) (g.H.Hall.honest c.args.hall.now) (counts (g.S.Site.count c.args.site) (map g.R.Runner.count c.args.runners.now) (g.H.Hall.count c.args.hall.now) (g.H.Hall.idle_count c.args.hall.now) 0) (counts (g.S.Site.count c.serve.result.site) (map g.R.Runner.count c.serve.new.runners) (g.H.Hall.count c.serve.new.hall) (g.H.Hall.idle_count c.serve.new.hall) 0) c.in-Ok.ask c.args.site c.read_ask.new.site c.serve.result.site c.serve.result.records c.serve.result.cause c.requires.later (λ t. record { same = c.in-Ok.ensures.files t; within = c.in-Ok.ensures.crash t; only = c.in-Ok.ensures.any_moment t })
+    (subst (λ (n : ℕ). Serves g.Q.Made.Admission.admitted g.S.Site.tells g.S.Site.files g.S.Site.may_leave g.S.Site.moment g.S.Site.images_since g.B.Born.born g.F.Commands.gives g.F.Commands.may_fail (AllTell g.R.Runner.tells c.args.runners.now) (AllSure g.R.Runner.sure c.args.runners.now) (g.H.Hall.honest c.args.hall.now) (counts n (map g.R.Runner.count c.args.runners.now) (g.H.Hall.count c.args.hall.now) (g.H.Hall.idle_count c.args.hall.now) 0) (counts (g.S.Site.count c.serve.result.site) (map g.R.Runner.count c.serve.new.runners) (g.H.Hall.count c.serve.new.hall) (g.H.Hall.idle_count c.serve.new.hall) 0) c.in-Ok.ask c.read_ask.new.site c.serve.result.site c.serve.result.records c.serve.result.cause) c.faults-before.ensures c.serve.ensures.serves)).faults
 
 pub returns-in-Ok-clause-legal : goal.returns-in-Ok-clause-legal
 returns-in-Ok-clause-legal g c read =
@@ -63,13 +63,13 @@ returns-in-Ok-clause-planned g c told read =
 
 pub returns-in-Ok-clause-untouched : goal.returns-in-Ok-clause-untouched
 returns-in-Ok-clause-untouched g c told refused =
-    (serves_from g.S.Site.tells g.S.Site.files g.S.Site.may_leave g.S.Site.moment g.S.Site.images_since g.B.Born.born g.F.Commands.gives g.F.Commands.may_fail (AllTell g.R.Runner.tells c.args.runners.now) (AllSure g.R.Runner.sure c.args.runners.now) (g.H.Hall.honest c.args.hall.now) (counts (g.S.Site.count c.args.site) (map g.R.Runner.count c.args.runners.now) (g.H.Hall.count c.args.hall.now) (g.H.Hall.idle_count c.args.hall.now) 0) (counts (g.S.Site.count c.serve.result.site) (map g.R.Runner.count c.serve.new.runners) (g.H.Hall.count c.serve.new.hall) (g.H.Hall.idle_count c.serve.new.hall) 0) c.in-Ok.ask c.args.site c.read_ask.new.site c.serve.result.site c.serve.result.records c.serve.result.cause c.requires.later (λ t. record { same = c.in-Ok.ensures.files t; within = c.in-Ok.ensures.crash t; only = c.in-Ok.ensures.any_moment t })
-    (subst (λ (n : ℕ). Serves g.S.Site.tells g.S.Site.files g.S.Site.may_leave g.S.Site.moment g.S.Site.images_since g.B.Born.born g.F.Commands.gives g.F.Commands.may_fail (AllTell g.R.Runner.tells c.args.runners.now) (AllSure g.R.Runner.sure c.args.runners.now) (g.H.Hall.honest c.args.hall.now) (counts n (map g.R.Runner.count c.args.runners.now) (g.H.Hall.count c.args.hall.now) (g.H.Hall.idle_count c.args.hall.now) 0) (counts (g.S.Site.count c.serve.result.site) (map g.R.Runner.count c.serve.new.runners) (g.H.Hall.count c.serve.new.hall) (g.H.Hall.idle_count c.serve.new.hall) 0) c.in-Ok.ask c.read_ask.new.site c.serve.result.site c.serve.result.records c.serve.result.cause) c.faults-before.ensures c.serve.ensures.serves)).untouched told refused
+    (serves_from g.Q.Made.Admission.admitted g.S.Site.tells g.S.Site.files g.S.Site.may_leave g.S.Site.moment g.S.Site.images_since g.B.Born.born g.F.Commands.gives g.F.Commands.may_fail (AllTell g.R.Runner.tells c.args.runners.now) (AllSure g.R.Runner.sure c.args.runners.now) (g.H.Hall.honest c.args.hall.now) (counts (g.S.Site.count c.args.site) (map g.R.Runner.count c.args.runners.now) (g.H.Hall.count c.args.hall.now) (g.H.Hall.idle_count c.args.hall.now) 0) (counts (g.S.Site.count c.serve.result.site) (map g.R.Runner.count c.serve.new.runners) (g.H.Hall.count c.serve.new.hall) (g.H.Hall.idle_count c.serve.new.hall) 0) c.in-Ok.ask c.args.site c.read_ask.new.site c.serve.result.site c.serve.result.records c.serve.result.cause c.requires.later (λ t. record { same = c.in-Ok.ensures.files t; within = c.in-Ok.ensures.crash t; only = c.in-Ok.ensures.any_moment t })
+    (subst (λ (n : ℕ). Serves g.Q.Made.Admission.admitted g.S.Site.tells g.S.Site.files g.S.Site.may_leave g.S.Site.moment g.S.Site.images_since g.B.Born.born g.F.Commands.gives g.F.Commands.may_fail (AllTell g.R.Runner.tells c.args.runners.now) (AllSure g.R.Runner.sure c.args.runners.now) (g.H.Hall.honest c.args.hall.now) (counts n (map g.R.Runner.count c.args.runners.now) (g.H.Hall.count c.args.hall.now) (g.H.Hall.idle_count c.args.hall.now) 0) (counts (g.S.Site.count c.serve.result.site) (map g.R.Runner.count c.serve.new.runners) (g.H.Hall.count c.serve.new.hall) (g.H.Hall.idle_count c.serve.new.hall) 0) c.in-Ok.ask c.read_ask.new.site c.serve.result.site c.serve.result.records c.serve.result.cause) c.faults-before.ensures c.serve.ensures.serves)).untouched told refused
 
 pub returns-in-Ok-clause-quiet : goal.returns-in-Ok-clause-quiet
 returns-in-Ok-clause-quiet g c told refused =
-    (serves_from g.S.Site.tells g.S.Site.files g.S.Site.may_leave g.S.Site.moment g.S.Site.images_since g.B.Born.born g.F.Commands.gives g.F.Commands.may_fail (AllTell g.R.Runner.tells c.args.runners.now) (AllSure g.R.Runner.sure c.args.runners.now) (g.H.Hall.honest c.args.hall.now) (counts (g.S.Site.count c.args.site) (map g.R.Runner.count c.args.runners.now) (g.H.Hall.count c.args.hall.now) (g.H.Hall.idle_count c.args.hall.now) 0) (counts (g.S.Site.count c.serve.result.site) (map g.R.Runner.count c.serve.new.runners) (g.H.Hall.count c.serve.new.hall) (g.H.Hall.idle_count c.serve.new.hall) 0) c.in-Ok.ask c.args.site c.read_ask.new.site c.serve.result.site c.serve.result.records c.serve.result.cause c.requires.later (λ t. record { same = c.in-Ok.ensures.files t; within = c.in-Ok.ensures.crash t; only = c.in-Ok.ensures.any_moment t })
-    (subst (λ (n : ℕ). Serves g.S.Site.tells g.S.Site.files g.S.Site.may_leave g.S.Site.moment g.S.Site.images_since g.B.Born.born g.F.Commands.gives g.F.Commands.may_fail (AllTell g.R.Runner.tells c.args.runners.now) (AllSure g.R.Runner.sure c.args.runners.now) (g.H.Hall.honest c.args.hall.now) (counts n (map g.R.Runner.count c.args.runners.now) (g.H.Hall.count c.args.hall.now) (g.H.Hall.idle_count c.args.hall.now) 0) (counts (g.S.Site.count c.serve.result.site) (map g.R.Runner.count c.serve.new.runners) (g.H.Hall.count c.serve.new.hall) (g.H.Hall.idle_count c.serve.new.hall) 0) c.in-Ok.ask c.read_ask.new.site c.serve.result.site c.serve.result.records c.serve.result.cause) c.faults-before.ensures c.serve.ensures.serves)).quiet told refused
+    (serves_from g.Q.Made.Admission.admitted g.S.Site.tells g.S.Site.files g.S.Site.may_leave g.S.Site.moment g.S.Site.images_since g.B.Born.born g.F.Commands.gives g.F.Commands.may_fail (AllTell g.R.Runner.tells c.args.runners.now) (AllSure g.R.Runner.sure c.args.runners.now) (g.H.Hall.honest c.args.hall.now) (counts (g.S.Site.count c.args.site) (map g.R.Runner.count c.args.runners.now) (g.H.Hall.count c.args.hall.now) (g.H.Hall.idle_count c.args.hall.now) 0) (counts (g.S.Site.count c.serve.result.site) (map g.R.Runner.count c.serve.new.runners) (g.H.Hall.count c.serve.new.hall) (g.H.Hall.idle_count c.serve.new.hall) 0) c.in-Ok.ask c.args.site c.read_ask.new.site c.serve.result.site c.serve.result.records c.serve.result.cause c.requires.later (λ t. record { same = c.in-Ok.ensures.files t; within = c.in-Ok.ensures.crash t; only = c.in-Ok.ensures.any_moment t })
+    (subst (λ (n : ℕ). Serves g.Q.Made.Admission.admitted g.S.Site.tells g.S.Site.files g.S.Site.may_leave g.S.Site.moment g.S.Site.images_since g.B.Born.born g.F.Commands.gives g.F.Commands.may_fail (AllTell g.R.Runner.tells c.args.runners.now) (AllSure g.R.Runner.sure c.args.runners.now) (g.H.Hall.honest c.args.hall.now) (counts n (map g.R.Runner.count c.args.runners.now) (g.H.Hall.count c.args.hall.now) (g.H.Hall.idle_count c.args.hall.now) 0) (counts (g.S.Site.count c.serve.result.site) (map g.R.Runner.count c.serve.new.runners) (g.H.Hall.count c.serve.new.hall) (g.H.Hall.idle_count c.serve.new.hall) 0) c.in-Ok.ask c.read_ask.new.site c.serve.result.site c.serve.result.records c.serve.result.cause) c.faults-before.ensures c.serve.ensures.serves)).quiet told refused
 
 pub returns-in-Ok-clause-closed : goal.returns-in-Ok-clause-closed
 returns-in-Ok-clause-closed g c ends =
@@ -94,18 +94,18 @@ returns-in-Ok-clause-alone g c local =
 pub returns-in-Ok-clause-waited : goal.returns-in-Ok-clause-waited
 returns-in-Ok-clause-waited g c options chosen =
     let rise = g.H.Hall.idle_count c.serve.new.hall - g.H.Hall.idle_count c.args.hall.now in
-    subst (λ (P : Plan). IfWaited c.serve.result.cause (WaitsInVain P (run_options options) options.limits.idle rise c.serve.result.records)) (sym c.serve.ensures.plan)
-    (subst (λ (O : RunOptions). IfWaited c.serve.result.cause (WaitsInVain c.in-Ok.ask.plan O options.limits.idle rise c.serve.result.records)) (c.in-Ok.ensures.goes_by options chosen)
-    (subst (λ (w : Workers). IfWaited c.serve.result.cause (WaitsInVain c.in-Ok.ask.plan c.in-Ok.ask.options w.limit rise c.serve.result.records)) (c.in-Ok.ensures.meets options chosen) c.serve.ensures.waited))
+    subst (λ (P : Plan). IfWaited c.serve.result.cause (WaitsInVain g.Q.Made.Admission.admitted P (run_options options) options.limits.idle rise c.serve.result.records)) (sym c.serve.ensures.plan)
+    (subst (λ (O : RunOptions). IfWaited c.serve.result.cause (WaitsInVain g.Q.Made.Admission.admitted c.in-Ok.ask.plan O options.limits.idle rise c.serve.result.records)) (c.in-Ok.ensures.goes_by options chosen)
+    (subst (λ (w : Workers). IfWaited c.serve.result.cause (WaitsInVain g.Q.Made.Admission.admitted c.in-Ok.ask.plan c.in-Ok.ask.options w.limit rise c.serve.result.records)) (c.in-Ok.ensures.meets options chosen) c.serve.ensures.waited))
 
 pub returns-in-Ok-clause-vain : goal.returns-in-Ok-clause-vain
 returns-in-Ok-clause-vain g c tells options chosen =
     let got = g.H.Hall.got c.args.hall.now in
     let got_now = g.H.Hall.got c.serve.new.hall in
     let ended = before_end c.serve.result.records in
-    subst (λ (P : Plan). IfWaited c.serve.result.cause (λ wait. AreVain g.F.Commands.gives g.F.Commands.may_fail g.H.Way.Link.history g.H.Way.Link.count g.H.Way.Link.idle_count g.H.Way.Link.is_closed options.limits.idle P (run_options options) ended got got_now)) (sym c.serve.ensures.plan)
-    (subst (λ (O : RunOptions). IfWaited c.serve.result.cause (λ wait. AreVain g.F.Commands.gives g.F.Commands.may_fail g.H.Way.Link.history g.H.Way.Link.count g.H.Way.Link.idle_count g.H.Way.Link.is_closed options.limits.idle c.in-Ok.ask.plan O ended got got_now)) (c.in-Ok.ensures.goes_by options chosen)
-    (subst (λ (w : Workers). IfWaited c.serve.result.cause (λ wait. AreVain g.F.Commands.gives g.F.Commands.may_fail g.H.Way.Link.history g.H.Way.Link.count g.H.Way.Link.idle_count g.H.Way.Link.is_closed w.limit c.in-Ok.ask.plan c.in-Ok.ask.options ended got got_now)) (c.in-Ok.ensures.meets options chosen) (c.serve.ensures.vain tells)))
+    subst (λ (P : Plan). IfWaited c.serve.result.cause (λ wait. AreVain g.F.Commands.gives g.F.Commands.may_fail g.H.Way.Link.history g.H.Way.Link.count g.H.Way.Link.idle_count g.H.Way.Link.is_closed options.limits.idle g.Q.Made.Admission.admitted P (run_options options) ended got got_now)) (sym c.serve.ensures.plan)
+    (subst (λ (O : RunOptions). IfWaited c.serve.result.cause (λ wait. AreVain g.F.Commands.gives g.F.Commands.may_fail g.H.Way.Link.history g.H.Way.Link.count g.H.Way.Link.idle_count g.H.Way.Link.is_closed options.limits.idle g.Q.Made.Admission.admitted c.in-Ok.ask.plan O ended got got_now)) (c.in-Ok.ensures.goes_by options chosen)
+    (subst (λ (w : Workers). IfWaited c.serve.result.cause (λ wait. AreVain g.F.Commands.gives g.F.Commands.may_fail g.H.Way.Link.history g.H.Way.Link.count g.H.Way.Link.idle_count g.H.Way.Link.is_closed w.limit g.Q.Made.Admission.admitted c.in-Ok.ask.plan c.in-Ok.ask.options ended got got_now)) (c.in-Ok.ensures.meets options chosen) (c.serve.ensures.vain tells)))
 
 pub returns-in-Err-clause-never : goal.returns-in-Err-clause-never
 returns-in-Err-clause-never g c is =
@@ -116,24 +116,24 @@ returns-in-Err-clause-back g c whole = back_same (g.H.Hall.got c.args.hall.now) 
 
 pub returns-in-Err-clause-waited : goal.returns-in-Err-clause-waited
 returns-in-Err-clause-waited g c options chosen =
-    none_waits (WaitsInVain c.no_plan.result (run_options options) options.limits.idle (g.H.Hall.idle_count c.args.hall.now - g.H.Hall.idle_count c.args.hall.now) c.new.result) c.refusal_cause.result (rw c.refusal_cause.ensures ((refused_kind (record { before = c.faults-before.result; after = c.faults-after.result }) c.in-Err.refusal c.in-Err.ensures.kind).waits))
+    none_waits (WaitsInVain g.Q.Made.Admission.admitted c.no_plan.result (run_options options) options.limits.idle (g.H.Hall.idle_count c.args.hall.now - g.H.Hall.idle_count c.args.hall.now) c.new.result) c.refusal_cause.result (rw c.refusal_cause.ensures ((refused_kind (record { before = c.faults-before.result; after = c.faults-after.result }) c.in-Err.refusal c.in-Err.ensures.kind).waits))
 
 pub returns-in-Err-clause-vain : goal.returns-in-Err-clause-vain
 returns-in-Err-clause-vain g c tells options chosen =
-    none_waits (λ (wait : Wait). AreVain g.F.Commands.gives g.F.Commands.may_fail g.H.Way.Link.history g.H.Way.Link.count g.H.Way.Link.idle_count g.H.Way.Link.is_closed options.limits.idle c.no_plan.result (run_options options) (before_end c.new.result) (g.H.Hall.got c.args.hall.now) (g.H.Hall.got c.args.hall.now)) c.refusal_cause.result (rw c.refusal_cause.ensures ((refused_kind (record { before = c.faults-before.result; after = c.faults-after.result }) c.in-Err.refusal c.in-Err.ensures.kind).waits))
+    none_waits (λ (wait : Wait). AreVain g.F.Commands.gives g.F.Commands.may_fail g.H.Way.Link.history g.H.Way.Link.count g.H.Way.Link.idle_count g.H.Way.Link.is_closed options.limits.idle g.Q.Made.Admission.admitted c.no_plan.result (run_options options) (before_end c.new.result) (g.H.Hall.got c.args.hall.now) (g.H.Hall.got c.args.hall.now)) c.refusal_cause.result (rw c.refusal_cause.ensures ((refused_kind (record { before = c.faults-before.result; after = c.faults-after.result }) c.in-Err.refusal c.in-Err.ensures.kind).waits))
 
 pub returns-in-Err-clause-ends : goal.returns-in-Err-clause-ends
 returns-in-Err-clause-ends g c told =
-    subst (λ (xs : List Record). CallEnds (request c.args.words.now c.args.env.now (g.S.Site.files c.args.site)) (g.H.Hall.idle_count c.args.hall.now - g.H.Hall.idle_count c.args.hall.now) (g.S.Site.files c.args.site) (g.S.Site.files c.read_ask.new.site) xs c.refusal_cause.result) (sym c.new.ensures)
-    (subst (λ (cause : Cause). CallEnds (request c.args.words.now c.args.env.now (g.S.Site.files c.args.site)) (g.H.Hall.idle_count c.args.hall.now - g.H.Hall.idle_count c.args.hall.now) (g.S.Site.files c.args.site) (g.S.Site.files c.read_ask.new.site) [] cause) (sym c.refusal_cause.ensures) (refused_ends (request c.args.words.now c.args.env.now (g.S.Site.files c.args.site)) (g.H.Hall.idle_count c.args.hall.now - g.H.Hall.idle_count c.args.hall.now) (g.S.Site.files c.args.site) (g.S.Site.files c.read_ask.new.site) (record { before = c.faults-before.result; after = c.faults-after.result }) c.in-Err.refusal (c.in-Err.ensures.stage told) (c.in-Err.ensures.files told)))
+    subst (λ (xs : List Record). CallEnds g.Q.Made.Admission.admitted (request c.args.words.now c.args.env.now (g.S.Site.files c.args.site)) (g.H.Hall.idle_count c.args.hall.now - g.H.Hall.idle_count c.args.hall.now) (g.S.Site.files c.args.site) (g.S.Site.files c.read_ask.new.site) xs c.refusal_cause.result) (sym c.new.ensures)
+    (subst (λ (cause : Cause). CallEnds g.Q.Made.Admission.admitted (request c.args.words.now c.args.env.now (g.S.Site.files c.args.site)) (g.H.Hall.idle_count c.args.hall.now - g.H.Hall.idle_count c.args.hall.now) (g.S.Site.files c.args.site) (g.S.Site.files c.read_ask.new.site) [] cause) (sym c.refusal_cause.ensures) (refused_ends g.Q.Made.Admission.admitted (request c.args.words.now c.args.env.now (g.S.Site.files c.args.site)) (g.H.Hall.idle_count c.args.hall.now - g.H.Hall.idle_count c.args.hall.now) (g.S.Site.files c.args.site) (g.S.Site.files c.read_ask.new.site) (record { before = c.faults-before.result; after = c.faults-after.result }) c.in-Err.refusal (c.in-Err.ensures.stage told) (c.in-Err.ensures.files told)))
 
 pub returns-in-Err-clause-serves : goal.returns-in-Err-clause-serves
 returns-in-Err-clause-serves g c told ask asked =
-    subst (λ (xs : List Record). Serves g.S.Site.tells g.S.Site.files g.S.Site.may_leave g.S.Site.moment g.S.Site.images_since g.B.Born.born g.F.Commands.gives g.F.Commands.may_fail (AllTell g.R.Runner.tells c.args.runners.now) (AllSure g.R.Runner.sure c.args.runners.now) (g.H.Hall.honest c.args.hall.now) (counts (g.S.Site.count c.args.site) (map g.R.Runner.count c.args.runners.now) (g.H.Hall.count c.args.hall.now) (g.H.Hall.idle_count c.args.hall.now) 0) (counts (g.S.Site.count c.read_ask.new.site) (map g.R.Runner.count c.args.runners.now) (g.H.Hall.count c.args.hall.now) (g.H.Hall.idle_count c.args.hall.now) 0) ask c.args.site c.read_ask.new.site xs c.refusal_cause.result) (sym c.new.ensures)
-    (subst (λ (n : ℕ). Serves g.S.Site.tells g.S.Site.files g.S.Site.may_leave g.S.Site.moment g.S.Site.images_since g.B.Born.born g.F.Commands.gives g.F.Commands.may_fail (AllTell g.R.Runner.tells c.args.runners.now) (AllSure g.R.Runner.sure c.args.runners.now) (g.H.Hall.honest c.args.hall.now) (counts n (map g.R.Runner.count c.args.runners.now) (g.H.Hall.count c.args.hall.now) (g.H.Hall.idle_count c.args.hall.now) 0) (counts (g.S.Site.count c.read_ask.new.site) (map g.R.Runner.count c.args.runners.now) (g.H.Hall.count c.args.hall.now) (g.H.Hall.idle_count c.args.hall.now) 0) ask c.args.site c.read_ask.new.site [] c.refusal_cause.result) c.faults-before.ensures
-    (subst (λ (n : ℕ). Serves g.S.Site.tells g.S.Site.files g.S.Site.may_leave g.S.Site.moment g.S.Site.images_since g.B.Born.born g.F.Commands.gives g.F.Commands.may_fail (AllTell g.R.Runner.tells c.args.runners.now) (AllSure g.R.Runner.sure c.args.runners.now) (g.H.Hall.honest c.args.hall.now) (counts c.faults-before.result (map g.R.Runner.count c.args.runners.now) (g.H.Hall.count c.args.hall.now) (g.H.Hall.idle_count c.args.hall.now) 0) (counts n (map g.R.Runner.count c.args.runners.now) (g.H.Hall.count c.args.hall.now) (g.H.Hall.idle_count c.args.hall.now) 0) ask c.args.site c.read_ask.new.site [] c.refusal_cause.result) c.faults-after.ensures
-    (subst (λ (cause : Cause). Serves g.S.Site.tells g.S.Site.files g.S.Site.may_leave g.S.Site.moment g.S.Site.images_since g.B.Born.born g.F.Commands.gives g.F.Commands.may_fail (AllTell g.R.Runner.tells c.args.runners.now) (AllSure g.R.Runner.sure c.args.runners.now) (g.H.Hall.honest c.args.hall.now) (counts c.faults-before.result (map g.R.Runner.count c.args.runners.now) (g.H.Hall.count c.args.hall.now) (g.H.Hall.idle_count c.args.hall.now) 0) (counts c.faults-after.result (map g.R.Runner.count c.args.runners.now) (g.H.Hall.count c.args.hall.now) (g.H.Hall.idle_count c.args.hall.now) 0) ask c.args.site c.read_ask.new.site [] cause) (sym c.refusal_cause.ensures)
-    (refused_serves g.S.Site.tells g.S.Site.files g.S.Site.may_leave g.S.Site.moment g.S.Site.images_since g.B.Born.born g.F.Commands.gives g.F.Commands.may_fail (AllTell g.R.Runner.tells c.args.runners.now) (AllSure g.R.Runner.sure c.args.runners.now) (g.H.Hall.honest c.args.hall.now) (counts c.faults-before.result (map g.R.Runner.count c.args.runners.now) (g.H.Hall.count c.args.hall.now) (g.H.Hall.idle_count c.args.hall.now) 0) (counts c.faults-after.result (map g.R.Runner.count c.args.runners.now) (g.H.Hall.count c.args.hall.now) (g.H.Hall.idle_count c.args.hall.now) 0) ask c.args.site c.read_ask.new.site c.requires.later (λ t. record { same = c.in-Err.ensures.files t; within = c.in-Err.ensures.crash t; only = c.in-Err.ensures.any_moment t }) c.in-Err.refusal (request c.args.words.now c.args.env.now (g.S.Site.files c.args.site)) (c.in-Err.ensures.stage told) asked (λ is. omega (arith, c.faults-before.ensures, c.faults-after.ensures, c.in-Err.ensures.trace.rose (ap (λ (r : Refusal). let answer : Result Ask Refusal = Err r in answer) is)))))))
+    subst (λ (xs : List Record). Serves g.Q.Made.Admission.admitted g.S.Site.tells g.S.Site.files g.S.Site.may_leave g.S.Site.moment g.S.Site.images_since g.B.Born.born g.F.Commands.gives g.F.Commands.may_fail (AllTell g.R.Runner.tells c.args.runners.now) (AllSure g.R.Runner.sure c.args.runners.now) (g.H.Hall.honest c.args.hall.now) (counts (g.S.Site.count c.args.site) (map g.R.Runner.count c.args.runners.now) (g.H.Hall.count c.args.hall.now) (g.H.Hall.idle_count c.args.hall.now) 0) (counts (g.S.Site.count c.read_ask.new.site) (map g.R.Runner.count c.args.runners.now) (g.H.Hall.count c.args.hall.now) (g.H.Hall.idle_count c.args.hall.now) 0) ask c.args.site c.read_ask.new.site xs c.refusal_cause.result) (sym c.new.ensures)
+    (subst (λ (n : ℕ). Serves g.Q.Made.Admission.admitted g.S.Site.tells g.S.Site.files g.S.Site.may_leave g.S.Site.moment g.S.Site.images_since g.B.Born.born g.F.Commands.gives g.F.Commands.may_fail (AllTell g.R.Runner.tells c.args.runners.now) (AllSure g.R.Runner.sure c.args.runners.now) (g.H.Hall.honest c.args.hall.now) (counts n (map g.R.Runner.count c.args.runners.now) (g.H.Hall.count c.args.hall.now) (g.H.Hall.idle_count c.args.hall.now) 0) (counts (g.S.Site.count c.read_ask.new.site) (map g.R.Runner.count c.args.runners.now) (g.H.Hall.count c.args.hall.now) (g.H.Hall.idle_count c.args.hall.now) 0) ask c.args.site c.read_ask.new.site [] c.refusal_cause.result) c.faults-before.ensures
+    (subst (λ (n : ℕ). Serves g.Q.Made.Admission.admitted g.S.Site.tells g.S.Site.files g.S.Site.may_leave g.S.Site.moment g.S.Site.images_since g.B.Born.born g.F.Commands.gives g.F.Commands.may_fail (AllTell g.R.Runner.tells c.args.runners.now) (AllSure g.R.Runner.sure c.args.runners.now) (g.H.Hall.honest c.args.hall.now) (counts c.faults-before.result (map g.R.Runner.count c.args.runners.now) (g.H.Hall.count c.args.hall.now) (g.H.Hall.idle_count c.args.hall.now) 0) (counts n (map g.R.Runner.count c.args.runners.now) (g.H.Hall.count c.args.hall.now) (g.H.Hall.idle_count c.args.hall.now) 0) ask c.args.site c.read_ask.new.site [] c.refusal_cause.result) c.faults-after.ensures
+    (subst (λ (cause : Cause). Serves g.Q.Made.Admission.admitted g.S.Site.tells g.S.Site.files g.S.Site.may_leave g.S.Site.moment g.S.Site.images_since g.B.Born.born g.F.Commands.gives g.F.Commands.may_fail (AllTell g.R.Runner.tells c.args.runners.now) (AllSure g.R.Runner.sure c.args.runners.now) (g.H.Hall.honest c.args.hall.now) (counts c.faults-before.result (map g.R.Runner.count c.args.runners.now) (g.H.Hall.count c.args.hall.now) (g.H.Hall.idle_count c.args.hall.now) 0) (counts c.faults-after.result (map g.R.Runner.count c.args.runners.now) (g.H.Hall.count c.args.hall.now) (g.H.Hall.idle_count c.args.hall.now) 0) ask c.args.site c.read_ask.new.site [] cause) (sym c.refusal_cause.ensures)
+    (refused_serves g.Q.Made.Admission.admitted g.S.Site.tells g.S.Site.files g.S.Site.may_leave g.S.Site.moment g.S.Site.images_since g.B.Born.born g.F.Commands.gives g.F.Commands.may_fail (AllTell g.R.Runner.tells c.args.runners.now) (AllSure g.R.Runner.sure c.args.runners.now) (g.H.Hall.honest c.args.hall.now) (counts c.faults-before.result (map g.R.Runner.count c.args.runners.now) (g.H.Hall.count c.args.hall.now) (g.H.Hall.idle_count c.args.hall.now) 0) (counts c.faults-after.result (map g.R.Runner.count c.args.runners.now) (g.H.Hall.count c.args.hall.now) (g.H.Hall.idle_count c.args.hall.now) 0) ask c.args.site c.read_ask.new.site c.requires.later (λ t. record { same = c.in-Err.ensures.files t; within = c.in-Err.ensures.crash t; only = c.in-Err.ensures.any_moment t }) c.in-Err.refusal (request c.args.words.now c.args.env.now (g.S.Site.files c.args.site)) (c.in-Err.ensures.stage told) asked (λ is. omega (arith, c.faults-before.ensures, c.faults-after.ensures, c.in-Err.ensures.trace.rose (ap (λ (r : Refusal). let answer : Result Ask Refusal = Err r in answer) is)))))))
 
 pub returns-in-Err-clause-words : goal.returns-in-Err-clause-words
 returns-in-Err-clause-words g c =
@@ -261,8 +261,8 @@ pub returns-in-Ok-clause-leaves : goal.returns-in-Ok-clause-leaves
 returns-in-Ok-clause-leaves g c options chosen work =
     let of : c.in-Ok.ask ≡ ask_of options c.in-Ok.ask.plan = c.in-Ok.ensures.asked options chosen in
     let so : c.in-Ok.ask ≡ ask_of options c.serve.result.plan = of ∙ ap (ask_of options) (sym c.serve.ensures.plan) in
-    subst (λ (a : Ask). RunLeaves (λ (past : List Record). g.S.Site.tells → AreLogged (request c.args.words.now c.args.env.now (g.S.Site.files c.args.site)) (g.S.Site.files c.args.site) past) g.H.Way.Link.tells (g.H.Hall.listens c.serve.new.hall) g.F.Commands.gives g.F.Commands.may_fail g.H.Way.Link.history g.H.Way.Link.count g.H.Way.Link.idle_count g.H.Way.Link.is_closed a (g.H.Hall.idle_count c.serve.new.hall - g.H.Hall.idle_count c.args.hall.now) (g.H.Hall.got c.args.hall.now) (g.H.Hall.got c.serve.new.hall) c.serve.result.records c.serve.result.cause) so
-    (leaves_less (λ (past : List Record). g.S.Site.tells → Spells past (g.S.Site.files c.read_ask.new.site c.in-Ok.ask.log)) g.H.Way.Link.tells (g.H.Hall.listens c.serve.new.hall) g.F.Commands.gives g.F.Commands.may_fail g.H.Way.Link.history g.H.Way.Link.count g.H.Way.Link.idle_count g.H.Way.Link.is_closed c.in-Ok.ask (g.H.Hall.idle_count c.serve.new.hall - g.H.Hall.idle_count c.args.hall.now) (g.H.Hall.got c.args.hall.now) (g.H.Hall.got c.serve.new.hall)
+    subst (λ (a : Ask). RunLeaves (λ (past : List Record). g.S.Site.tells → AreLogged (request c.args.words.now c.args.env.now (g.S.Site.files c.args.site)) (g.S.Site.files c.args.site) past) g.H.Way.Link.tells (g.H.Hall.listens c.serve.new.hall) g.F.Commands.gives g.F.Commands.may_fail g.H.Way.Link.history g.H.Way.Link.count g.H.Way.Link.idle_count g.H.Way.Link.is_closed g.Q.Made.Admission.admitted a (g.H.Hall.idle_count c.serve.new.hall - g.H.Hall.idle_count c.args.hall.now) (g.H.Hall.got c.args.hall.now) (g.H.Hall.got c.serve.new.hall) c.serve.result.records c.serve.result.cause) so
+    (leaves_less g.Q.Made.Admission.admitted (λ (past : List Record). g.S.Site.tells → Spells past (g.S.Site.files c.read_ask.new.site c.in-Ok.ask.log)) g.H.Way.Link.tells (g.H.Hall.listens c.serve.new.hall) g.F.Commands.gives g.F.Commands.may_fail g.H.Way.Link.history g.H.Way.Link.count g.H.Way.Link.idle_count g.H.Way.Link.is_closed c.in-Ok.ask (g.H.Hall.idle_count c.serve.new.hall - g.H.Hall.idle_count c.args.hall.now) (g.H.Hall.got c.args.hall.now) (g.H.Hall.got c.serve.new.hall)
     (λ (past : List Record). g.S.Site.tells → AreLogged (request c.args.words.now c.args.env.now (g.S.Site.files c.args.site)) (g.S.Site.files c.args.site) past) c.serve.result.records c.serve.result.cause
     (λ past spelled told ask asked.
     subst (λ (a : Ask). Spells past (g.S.Site.files c.args.site a.log)) (same_ask c.in-Ok.ask ask (sym (c.in-Ok.ensures.stage told) ∙ asked))
@@ -272,6 +272,6 @@ returns-in-Ok-clause-leaves g c options chosen work =
 pub returns-in-Err-clause-leaves : goal.returns-in-Err-clause-leaves
 returns-in-Err-clause-leaves g c options chosen work =
     let s : Rise = record { before = c.faults-before.result; after = c.faults-after.result } in
-    subst (λ (cause : Cause). RunLeaves (λ (past : List Record). g.S.Site.tells → AreLogged (request c.args.words.now c.args.env.now (g.S.Site.files c.args.site)) (g.S.Site.files c.args.site) past) g.H.Way.Link.tells (g.H.Hall.listens c.args.hall.now) g.F.Commands.gives g.F.Commands.may_fail g.H.Way.Link.history g.H.Way.Link.count g.H.Way.Link.idle_count g.H.Way.Link.is_closed (ask_of options c.no_plan.result) (g.H.Hall.idle_count c.args.hall.now - g.H.Hall.idle_count c.args.hall.now) (g.H.Hall.got c.args.hall.now) (g.H.Hall.got c.args.hall.now) c.new.result cause) (sym c.refusal_cause.ensures)
-    (subst (λ (xs : List Record). RunLeaves (λ (past : List Record). g.S.Site.tells → AreLogged (request c.args.words.now c.args.env.now (g.S.Site.files c.args.site)) (g.S.Site.files c.args.site) past) g.H.Way.Link.tells (g.H.Hall.listens c.args.hall.now) g.F.Commands.gives g.F.Commands.may_fail g.H.Way.Link.history g.H.Way.Link.count g.H.Way.Link.idle_count g.H.Way.Link.is_closed (ask_of options c.no_plan.result) (g.H.Hall.idle_count c.args.hall.now - g.H.Hall.idle_count c.args.hall.now) (g.H.Hall.got c.args.hall.now) (g.H.Hall.got c.args.hall.now) xs (refusal_cause s c.in-Err.refusal)) (sym c.new.ensures)
-    (refused_leaves (λ (past : List Record). g.S.Site.tells → AreLogged (request c.args.words.now c.args.env.now (g.S.Site.files c.args.site)) (g.S.Site.files c.args.site) past) g.H.Way.Link.tells (g.H.Hall.listens c.args.hall.now) g.F.Commands.gives g.F.Commands.may_fail g.H.Way.Link.history g.H.Way.Link.count g.H.Way.Link.idle_count g.H.Way.Link.is_closed (ask_of options c.no_plan.result) (g.H.Hall.idle_count c.args.hall.now - g.H.Hall.idle_count c.args.hall.now) (g.H.Hall.got c.args.hall.now) (g.H.Hall.got c.args.hall.now) s c.in-Err.refusal c.in-Err.ensures.kind refl))
+    subst (λ (cause : Cause). RunLeaves (λ (past : List Record). g.S.Site.tells → AreLogged (request c.args.words.now c.args.env.now (g.S.Site.files c.args.site)) (g.S.Site.files c.args.site) past) g.H.Way.Link.tells (g.H.Hall.listens c.args.hall.now) g.F.Commands.gives g.F.Commands.may_fail g.H.Way.Link.history g.H.Way.Link.count g.H.Way.Link.idle_count g.H.Way.Link.is_closed g.Q.Made.Admission.admitted (ask_of options c.no_plan.result) (g.H.Hall.idle_count c.args.hall.now - g.H.Hall.idle_count c.args.hall.now) (g.H.Hall.got c.args.hall.now) (g.H.Hall.got c.args.hall.now) c.new.result cause) (sym c.refusal_cause.ensures)
+    (subst (λ (xs : List Record). RunLeaves (λ (past : List Record). g.S.Site.tells → AreLogged (request c.args.words.now c.args.env.now (g.S.Site.files c.args.site)) (g.S.Site.files c.args.site) past) g.H.Way.Link.tells (g.H.Hall.listens c.args.hall.now) g.F.Commands.gives g.F.Commands.may_fail g.H.Way.Link.history g.H.Way.Link.count g.H.Way.Link.idle_count g.H.Way.Link.is_closed g.Q.Made.Admission.admitted (ask_of options c.no_plan.result) (g.H.Hall.idle_count c.args.hall.now - g.H.Hall.idle_count c.args.hall.now) (g.H.Hall.got c.args.hall.now) (g.H.Hall.got c.args.hall.now) xs (refusal_cause s c.in-Err.refusal)) (sym c.new.ensures)
+    (refused_leaves g.Q.Made.Admission.admitted (λ (past : List Record). g.S.Site.tells → AreLogged (request c.args.words.now c.args.env.now (g.S.Site.files c.args.site)) (g.S.Site.files c.args.site) past) g.H.Way.Link.tells (g.H.Hall.listens c.args.hall.now) g.F.Commands.gives g.F.Commands.may_fail g.H.Way.Link.history g.H.Way.Link.count g.H.Way.Link.idle_count g.H.Way.Link.is_closed (ask_of options c.no_plan.result) (g.H.Hall.idle_count c.args.hall.now - g.H.Hall.idle_count c.args.hall.now) (g.H.Hall.got c.args.hall.now) (g.H.Hall.got c.args.hall.now) s c.in-Err.refusal c.in-Err.ensures.kind refl))

@@ -1,4 +1,4 @@
-use Rattle.master_run.proofs.top.makeflow_top.Given as goal
+use Rattle.master_run.proofs.top.makeflow_with.Given as goal
 
 -- the moments since the entry are told
 abbrev pub ghosts-follow : goal.ghosts-follow

@@ -41,35 +41,35 @@ returns-in-PrintLog-clause-collects g c ends = absurd (true≢false (sym ends �
 
 pub returns-in-Clean-clause-serves : goal.returns-in-Clean-clause-serves
 returns-in-Clean-clause-serves g c =
-    widened g.S.Site.tells g.S.Site.files g.S.Site.may_leave g.S.Site.moment g.S.Site.images_since g.B.Born.born g.F.Commands.gives g.F.Commands.may_fail
+    widened g.Q.Made.Admission.admitted g.S.Site.tells g.S.Site.files g.S.Site.may_leave g.S.Site.moment g.S.Site.images_since g.B.Born.born g.F.Commands.gives g.F.Commands.may_fail
     (λ (job : Job). Unit {0}) (AllTell g.R.Runner.tells c.args.runners.now) (Unit {0}) (AllSure g.R.Runner.sure c.args.runners.now) (Unit {0}) (g.H.Hall.honest c.args.hall.now)
     (counts c.args.before [] 0 0 0) (counts (g.S.Site.count c.clean_flow.result.site) [] 0 0 0) (counts c.args.before (map g.R.Runner.count c.args.runners.now) (g.H.Hall.count c.args.hall.now) (g.H.Hall.idle_count c.args.hall.now) 0) (counts (g.S.Site.count c.clean_flow.result.site) (map g.R.Runner.count c.args.runners.now) (g.H.Hall.count c.args.hall.now) (g.H.Hall.idle_count c.args.hall.now) 0)
     c.args.ask c.args.site c.clean_flow.result.site c.clean_flow.result.records c.clean_flow.result.cause
     (λ job told. tt) (λ sure. tt) (λ met. tt) (unmet_fault c.args.before (g.S.Site.count c.clean_flow.result.site) (g.H.Hall.count c.args.hall.now) (g.H.Hall.idle_count c.args.hall.now) (map g.R.Runner.count c.args.runners.now) c.clean_flow.result.cause) (λ none. record { site = none.site; runners = refl; sink = refl }) (none_rises (g.H.Hall.idle_count c.args.hall.now))
-    c.clean_flow.ensures.serves
+    (c.clean_flow.ensures.serves g.Q.Made.Admission.admitted)
 
 pub returns-in-PrintLog-clause-serves : goal.returns-in-PrintLog-clause-serves
 returns-in-PrintLog-clause-serves g c =
-    widened g.S.Site.tells g.S.Site.files g.S.Site.may_leave g.S.Site.moment g.S.Site.images_since g.B.Born.born g.F.Commands.gives g.F.Commands.may_fail
+    widened g.Q.Made.Admission.admitted g.S.Site.tells g.S.Site.files g.S.Site.may_leave g.S.Site.moment g.S.Site.images_since g.B.Born.born g.F.Commands.gives g.F.Commands.may_fail
     (λ (job : Job). Unit {0}) (AllTell g.R.Runner.tells c.args.runners.now) (Unit {0}) (AllSure g.R.Runner.sure c.args.runners.now) (Unit {0}) (g.H.Hall.honest c.args.hall.now)
     (counts c.args.before [] 0 0 0) (counts (g.S.Site.count c.read_log.result.site) [] 0 0 0) (counts c.args.before (map g.R.Runner.count c.args.runners.now) (g.H.Hall.count c.args.hall.now) (g.H.Hall.idle_count c.args.hall.now) 0) (counts (g.S.Site.count c.read_log.result.site) (map g.R.Runner.count c.args.runners.now) (g.H.Hall.count c.args.hall.now) (g.H.Hall.idle_count c.args.hall.now) 0)
     c.args.ask c.args.site c.read_log.result.site c.read_log.result.records c.read_log.result.cause
     (λ job told. tt) (λ sure. tt) (λ met. tt) (unmet_fault c.args.before (g.S.Site.count c.read_log.result.site) (g.H.Hall.count c.args.hall.now) (g.H.Hall.idle_count c.args.hall.now) (map g.R.Runner.count c.args.runners.now) c.read_log.result.cause) (λ none. record { site = none.site; runners = refl; sink = refl }) (none_rises (g.H.Hall.idle_count c.args.hall.now))
-    c.read_log.ensures.serves
+    (c.read_log.ensures.serves g.Q.Made.Admission.admitted)
 
 pub returns-in-Clean-clause-back : goal.returns-in-Clean-clause-back
 returns-in-Clean-clause-back g c whole = back_same (g.H.Hall.got c.args.hall.now) (g.H.Hall.given c.args.hall.now)
 
 pub returns-in-Clean-clause-waited : goal.returns-in-Clean-clause-waited
 returns-in-Clean-clause-waited g c =
-    still_waits (WaitsInVain c.args.ask.plan c.args.ask.options c.args.ask.workers.limit (g.H.Hall.idle_count c.args.hall.now - g.H.Hall.idle_count c.args.hall.now) c.clean_flow.result.records) c.clean_flow.result.cause c.clean_flow.ensures.runs_not
+    still_waits (WaitsInVain g.Q.Made.Admission.admitted c.args.ask.plan c.args.ask.options c.args.ask.workers.limit (g.H.Hall.idle_count c.args.hall.now - g.H.Hall.idle_count c.args.hall.now) c.clean_flow.result.records) c.clean_flow.result.cause c.clean_flow.ensures.runs_not
 
 pub returns-in-PrintLog-clause-back : goal.returns-in-PrintLog-clause-back
 returns-in-PrintLog-clause-back g c whole = back_same (g.H.Hall.got c.args.hall.now) (g.H.Hall.given c.args.hall.now)
 
 pub returns-in-PrintLog-clause-waited : goal.returns-in-PrintLog-clause-waited
 returns-in-PrintLog-clause-waited g c =
-    still_waits (WaitsInVain c.args.ask.plan c.args.ask.options c.args.ask.workers.limit (g.H.Hall.idle_count c.args.hall.now - g.H.Hall.idle_count c.args.hall.now) c.read_log.result.records) c.read_log.result.cause c.read_log.ensures.runs_not
+    still_waits (WaitsInVain g.Q.Made.Admission.admitted c.args.ask.plan c.args.ask.options c.args.ask.workers.limit (g.H.Hall.idle_count c.args.hall.now - g.H.Hall.idle_count c.args.hall.now) c.read_log.result.records) c.read_log.result.cause c.read_log.ensures.runs_not
 
 pub returns-in-Clean-clause-due_losses : goal.returns-in-Clean-clause-due_losses
 returns-in-Clean-clause-due_losses g c tells t H spelled keeps =
@@ -81,11 +81,11 @@ returns-in-PrintLog-clause-due_losses g c tells t H spelled keeps =
 
 pub returns-in-Clean-clause-vain : goal.returns-in-Clean-clause-vain
 returns-in-Clean-clause-vain g c tells =
-    still_waits (λ (wait : Wait). AreVain g.F.Commands.gives g.F.Commands.may_fail g.H.Way.Link.history g.H.Way.Link.count g.H.Way.Link.idle_count g.H.Way.Link.is_closed c.args.ask.workers.limit c.args.ask.plan c.args.ask.options (before_end c.clean_flow.result.records) (g.H.Hall.got c.args.hall.now) (g.H.Hall.got c.args.hall.now)) c.clean_flow.result.cause c.clean_flow.ensures.runs_not
+    still_waits (λ (wait : Wait). AreVain g.F.Commands.gives g.F.Commands.may_fail g.H.Way.Link.history g.H.Way.Link.count g.H.Way.Link.idle_count g.H.Way.Link.is_closed c.args.ask.workers.limit g.Q.Made.Admission.admitted c.args.ask.plan c.args.ask.options (before_end c.clean_flow.result.records) (g.H.Hall.got c.args.hall.now) (g.H.Hall.got c.args.hall.now)) c.clean_flow.result.cause c.clean_flow.ensures.runs_not
 
 pub returns-in-PrintLog-clause-vain : goal.returns-in-PrintLog-clause-vain
 returns-in-PrintLog-clause-vain g c tells =
-    still_waits (λ (wait : Wait). AreVain g.F.Commands.gives g.F.Commands.may_fail g.H.Way.Link.history g.H.Way.Link.count g.H.Way.Link.idle_count g.H.Way.Link.is_closed c.args.ask.workers.limit c.args.ask.plan c.args.ask.options (before_end c.read_log.result.records) (g.H.Hall.got c.args.hall.now) (g.H.Hall.got c.args.hall.now)) c.read_log.result.cause c.read_log.ensures.runs_not
+    still_waits (λ (wait : Wait). AreVain g.F.Commands.gives g.F.Commands.may_fail g.H.Way.Link.history g.H.Way.Link.count g.H.Way.Link.idle_count g.H.Way.Link.is_closed c.args.ask.workers.limit g.Q.Made.Admission.admitted c.args.ask.plan c.args.ask.options (before_end c.read_log.result.records) (g.H.Hall.got c.args.hall.now) (g.H.Hall.got c.args.hall.now)) c.read_log.result.cause c.read_log.ensures.runs_not
 
 pub returns-in-PrintLog-clause-results : goal.returns-in-PrintLog-clause-results
 returns-in-PrintLog-clause-results g c tells t H spelled wq work keeps =
