@@ -1,21 +1,17 @@
--- Tasks that take in files alone that are there.
-use Rattle.std.proofs.Common.{◌≡◌, ◌≤◌, ◌<◌, ◌⊎◌, ◌∙◌, inl, inr, cond, ltb, ℕ, zero, suc, Bool, true, false, List, [], ◌∷◌, ◌++◌, length, map, Option, Some, None, Result, Ok, Err, refl, sym, ap, subst, arith}
+-- Tasks that take in files alone that are there, over the calls of a queue.
+use Rattle.std.proofs.Common.{◌≡◌, ◌≤◌, ◌<◌, ◌∙◌, inl, inr, cond, ltb, ℕ, zero, suc, Bool, true, false, List, [], ◌∷◌, ◌++◌, length, map, Option, Some, None, Result, Ok, Err, refl, sym, ap, subst, arith}
 use Rattle.std.specs.Prelude.{◌&&◌, IfOk, OnErr, OnOk, if◌then◌else◌, nat_le, remove, slice_get, unwrap_or}
 use Rattle.std.specs.List.{AllByRecursion}
 use Rattle.std.specs.Option.{option_map_or}
 use Rattle.std.proofs.lemmas.Bool.{and_parts, leb-true, lt-ltb, ltb-true}
-use Rattle.std.proofs.lemmas.List.{length-map}
 use Rattle.std.proofs.lemmas.List.Sums.{sum_by-cons}
 use Rattle.flow_types.specs.declared.job.Failure.{Failure}
 use Rattle.flow_types.specs.declared.job.Given.{Given}
 use Rattle.flow_types.specs.declared.job.Job.{Job}
 use Rattle.flow_types.specs.declared.job.Outcome.{Outcome}
-use Rattle.flow_types.specs.declared.numbers.Amounts.{Amounts}
 use Rattle.flow_types.specs.declared.numbers.AttemptNo.{AttemptNo}
 use Rattle.flow_types.specs.Plans.{most_bytes, most_input_bytes}
-use Rattle.flow_types.specs.declared.messages.Key.{Key}
 use Rattle.flow_types.specs.declared.numbers.FileNo.{FileNo}
-use Rattle.link_session.specs.Keys.{contains_key, key_of, lacking}
 use Rattle.flow_types.specs.declared.plan.Port.{Port}
 use Rattle.flow_types.specs.Serial.{Function, given_by}
 use Rattle.outside.specs.Jobs.{IsHonest}
@@ -27,23 +23,15 @@ use Rattle.task_book.specs.declared.task.TaskId.{TaskId}
 use Rattle.task_book.specs.Kept.{Kept, cancelled_at, next_id, submitted_to, waiting_as}
 use Rattle.task_book.specs.Stages.{Ends, EndsOn}
 use Rattle.task_book.specs.Submissions.{has_names_apart, input_bytes, is_good, is_short, is_small, most_held, output_bytes, submit_refusal, unknown_file}
-use Rattle.wq_submit.specs.Queues.{AreKnown, IsKnown, IsSameWork, IsWithin, work_of}
-use Rattle.wq_submit.specs.Shown.{AreRight, job_of}
-
--- The task of a held one takes in files alone that are there.
-abbrev pub Known : List (List ℕ) → TaskId × Submission → Type 0
-Known files w = IsKnown files w.1
-
--- It states no more than these amounts.
-abbrev pub Within : Amounts → TaskId × Submission → Type 0
-Within least w = IsWithin least w.1.needs
+use Rattle.wq_company.specs.Companies.{AreKnown}
+use Rattle.wq_seats.specs.Works.{IsKnown, work_of}
+use Rattle.wq_seats.specs.Shown.{AreRight, job_of}
+use Rattle.wq_seats.proofs.Lacking.{first_there}
+use Rattle.wq_company.proofs.Knowing.{Known}
 
 -- ---- the calls of a queue, over what is so of each task
 
 module _ (P : TaskId × Submission → Type 0) where
-  pub known_on : (k m : Kept) → IsSameWork k m → AllByRecursion P (map work_of k.held) → AllByRecursion P (map work_of m.held)
-  known_on k m work all = subst (λ (ws : List (TaskId × Submission)). AllByRecursion P ws) (sym work.held) all
-
   pub known_left : (held : List Held) (at : ℕ) → AllByRecursion P (map work_of held) → AllByRecursion P (map work_of (remove held at))
   known_left [] zero all = tt
   known_left [] (suc at) all = tt
@@ -58,20 +46,11 @@ module _ (P : TaskId × Submission → Type 0) where
   known_last [] id task is all = (is, tt)
   known_last (h ∷ held) id task is all = (all.0, known_last held id task is all.1)
 
-  pub known_at : (held : List Held) (at : ℕ) (h : Held) → slice_get held at ≡ Some h → AllByRecursion P (map work_of held) → P (work_of h)
-  known_at [] at h is all = absurd cc
-  known_at (x ∷ held) zero h is all = let same : x ≡ h = cc in subst (λ (y : Held). P (work_of y)) same all.0
-  known_at (x ∷ held) (suc at) h is all = known_at held at h is all.1
-
   -- a task comes, where this is so of it
   pub known_with : (k n : Kept) (task : Submission) (r : Result TaskId SubmitRefused) → IfOk r (λ id. (id ≡ next_id k) × (n ≡ submitted_to k task)) → OnErr r (n ≡ k) → OnOk r (P (next_id k, task))
       → AllByRecursion P (map work_of k.held) → AllByRecursion P (map work_of n.held)
   known_with k n task (Ok id) ok err is all = subst (λ (x : Kept). AllByRecursion P (map work_of x.held)) (sym ok.1) (known_last k.held (next_id k) task is all)
   known_with k n task (Err why) ok err is all = subst (λ (x : Kept). AllByRecursion P (map work_of x.held)) (sym err) all
-
--- as many are held where the same work goes on
-pub held_long : (k m : Kept) → IsSameWork k m → length m.held ≡ length k.held
-held_long k m work = sym (length-map m.held work_of) ∙ ap (λ (ws : List (TaskId × Submission)). length ws) work.held ∙ length-map k.held work_of
 
 -- ---- more files
 
@@ -94,14 +73,6 @@ get_more : (files more : List (List ℕ)) (f : ℕ) → f < length files → sli
 get_more [] more f less = absurd (let wrong : ⊥ = omega (arith, less) in wrong)
 get_more (x ∷ files) more zero less = refl
 get_more (x ∷ files) more (suc f) less = get_more files more f (omega (arith, less))
-
--- the first of these inputs is there, and so are the others
-pub first_there : (n : ℕ) (port : Port) (ports : List Port) → unknown_file n (port ∷ ports) ≡ None → (port.file.0 < n) × (unknown_file n ports ≡ None)
-first_there n port ports is = by (ltb port.file.0 n) refl
-  where
-    by : (b : Bool) → ltb port.file.0 n ≡ b → (port.file.0 < n) × (unknown_file n ports ≡ None)
-    by true low = (ltb-true port.file.0 n low, sym (ap (λ (b : Bool). cond b (unknown_file n ports) (Some port.file)) low) ∙ is)
-    by false high = absurd (let none : Some port.file ≡ None = sym (ap (λ (b : Bool). cond b (unknown_file n ports) (Some port.file)) high) ∙ is in let wrong : ⊥ = cc in wrong)
 
 abbrev bytes_in : List (List ℕ) → Port → ℕ
 bytes_in files port = length (unwrap_or (slice_get files port.file.0) [])
@@ -199,17 +170,3 @@ module _ (gives : Function) (may_fail : Job → Failure → Type 0) where
   -- no further task came to its end
   pub right_on : (files : List (List ℕ)) (old new : List Held) → EndsOn old new → AreRight gives may_fail files old → AreRight gives may_fail files new
   right_on files old new on all a o task end = all a o task (on a o task end)
-
--- ---- files that are lacking are among the inputs
-
-lacking_by : (n : ℕ) (known : List Key) (run : ℕ) (port : Port) (ports : List Port) (b : Bool) → port.file.0 < n → AllByRecursion (λ (file : FileNo). file.0 < n) (lacking known run ports)
-    → AllByRecursion (λ (file : FileNo). file.0 < n) (lacking (known ++ key_of run port.file ∷ []) run ports)
-    → AllByRecursion (λ (file : FileNo). file.0 < n) (cond b (lacking known run ports) (port.file ∷ lacking (known ++ key_of run port.file ∷ []) run ports))
-lacking_by n known run port ports true less rest more = rest
-lacking_by n known run port ports false less rest more = (less, more)
-
-pub lacking_there : (n : ℕ) (known : List Key) (run : ℕ) (ports : List Port) → unknown_file n ports ≡ None → AllByRecursion (λ (file : FileNo). file.0 < n) (lacking known run ports)
-lacking_there n known run [] is = tt
-lacking_there n known run (port ∷ ports) is =
-    let parts = first_there n port ports is in
-    lacking_by n known run port ports (contains_key (key_of run port.file) known) parts.0 (lacking_there n known run ports parts.1) (lacking_there n (known ++ key_of run port.file ∷ []) run ports parts.1)

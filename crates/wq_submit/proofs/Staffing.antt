@@ -1,7 +1,6 @@
 -- A queue over a hall that is manned.
-use Rattle.std.proofs.Common.{◌≡◌, ◌≤◌, ◌<◌, ◌⊎◌, inl, inr, ◌∙◌, ℕ, zero, suc, false, true, map, List, [], ◌∷◌, ◌++◌, length, Option, None, Some, Result, Ok, Err, refl, sym, ap, subst, arith}
+use Rattle.std.proofs.Common.{◌≡◌, inl, inr, ℕ, zero, suc, false, map, List, [], ◌∷◌, ◌++◌, length, Option, None, Some, Result, Ok, Err, refl, sym, subst, arith}
 use Rattle.std.specs.Prelude.{IfNone, IfOk, IfSome, OnErr, OnOk, is_err, remove}
-use Rattle.std.specs.List.{AllByRecursion}
 use Rattle.flow_types.specs.declared.numbers.Amounts.{Amounts}
 use Rattle.flow_types.specs.declared.numbers.AttemptNo.{AttemptNo}
 use Rattle.task_book.specs.declared.refused.SubmitRefused.{SubmitRefused}
@@ -15,13 +14,14 @@ use Rattle.wq_submit.specs.declared.cause.QueueCame.{QueueCame}
 use Rattle.wq_submit.specs.declared.cause.QueueCame.TheVariants as came
 use Rattle.wq_submit.specs.declared.cause.WaitFault.{WaitFault}
 use Rattle.wq_submit.specs.declared.cause.WaitFault.TheVariants as faults
-use Rattle.wq_submit.specs.declared.company.Stop.{Stop}
-use Rattle.wq_submit.specs.declared.company.Stop.TheVariants as stops
-use Rattle.wq_submit.specs.declared.run.Run.{Run}
-use Rattle.wq_submit.specs.Queues.{AreSureOf, AreWithin, IsAnswered, IsHallFault, IsMet, IsStaffed, IsWithin, QueueState, UnlessMemory, work_of}
-use Rattle.wq_submit.specs.Rounds.{AreReady, AreRun, IsReady, IsRunBy, UnlessWanting}
-use Rattle.wq_submit.specs.Seats.{HasRun, SeatState}
-use Rattle.wq_submit.proofs.Serving.{GivesNone, GivesOne}
+use Rattle.wq_company.specs.declared.company.Stop.{Stop}
+use Rattle.wq_company.specs.declared.company.Stop.TheVariants as stops
+use Rattle.wq_company.specs.Companies.{AreSureOf, AreWithin, AreRun}
+use Rattle.wq_submit.specs.Queues.{IsAnswered, IsHallFault, IsStaffed, QueueState}
+use Rattle.wq_company.specs.Rounds.{IsMet, UnlessWanting}
+use Rattle.wq_seats.specs.Works.{IsWithin, work_of}
+use Rattle.wq_seats.specs.Seats.{SeatState}
+use Rattle.wq_submit.proofs.Calling.{GivesNone, GivesOne}
 
 -- ---- where tasks run, over the calls of a queue
 
@@ -52,16 +52,6 @@ cancelled_as k n i (Some at) is id a run = left_as k.held at id a (subst (λ (x 
 pub given_as : (k n : Kept) (r : Option Ready) → IfNone r (GivesNone k n) → IfSome r (GivesOne k n) → (id : TaskId) (a : AttemptNo) → RunsAs n.held id a → RunsAs k.held id a
 given_as k n None none some id a run = subst (λ (x : Kept). RunsAs x.held id a) none.1 run
 given_as k n (Some ready) none some id a run = left_as k.held some.0 id a (subst (λ (x : Kept). RunsAs x.held id a) some.4 run)
-
--- ---- where each peer is ready nothing runs
-
-idle_none : (id : TaskId) (a : AttemptNo) (runs : List Run) → runs ≡ [] → HasRun id a runs → ⊥
-idle_none id a runs none has = subst (HasRun id a) none has
-
-pub ready_none : {L : Type 0} (least : Amounts) (seats : List (SeatState L)) (id : TaskId) (a : AttemptNo) → AreReady least seats → IsRunBy id a seats → ⊥
-ready_none least [] id a ready run = run
-ready_none least (x ∷ seats) id a ready (inl here) = idle_none id a x.runs (ready.0 here.0).idle here.1
-ready_none least (x ∷ seats) id a ready (inr later) = ready_none least seats id a ready.1 later
 
 -- ---- answers
 
@@ -119,14 +109,3 @@ module _ {L X : Type 0} (sure : L → Type 0) (offers : L → Amounts → Type 0
     links = subst (λ (ws : List L). AreSureOf sure offers least ws) (sym same) is.links;
     tasks = tasks is.tasks;
   }
-
-  -- the hall goes on, too
-  pub staffed_on : (hall hall_now : X) (q now : QueueState L) → (manned hall least → manned hall_now least) → (staffed hall least → staffed hall_now least) → now.live ≡ q.live → now.kept ≡ q.kept → Staffed hall q → Staffed hall_now now
-  staffed_on hall hall_now q now one two live kept is = record {
-    met = subst (λ (ws : List L). Met hall_now ws) (sym live) (met_on hall hall_now q.live one two is.met);
-    links = subst (λ (ws : List L). AreSureOf sure offers least ws) (sym live) is.links;
-    tasks = subst (λ (k : Kept). AreWithin least (map work_of k.held)) (sym kept) is.tasks;
-  }
-
-  pub staffed_same : (hall : X) (q now : QueueState L) → now ≡ q → Staffed hall q → Staffed hall now
-  staffed_same hall q now same is = subst (λ (x : QueueState L). Staffed hall x) (sym same) is

@@ -1,5 +1,5 @@
 -- A queue that waits.
-use Rattle.std.proofs.Common.{◌≡◌, ◌≤◌, ◌<◌, ◌⊎◌, ◌∙◌, inl, inr, ℕ, false, List, [], ◌∷◌, ◌++◌, map, None, Result, Ok, Err, refl, sym, ap, subst, true≢false, arith}
+use Rattle.std.proofs.Common.{◌≡◌, ◌≤◌, ◌⊎◌, ◌∙◌, inl, inr, ℕ, false, List, [], ◌∷◌, ◌++◌, map, None, Result, Ok, Err, refl, sym, ap, subst, true≢false, arith}
 use Rattle.std.specs.List.{AllByRecursion}
 use Rattle.flow_types.specs.declared.job.Failure.{Failure}
 use Rattle.flow_types.specs.declared.job.Job.{Job}
@@ -17,11 +17,12 @@ use Rattle.wq_submit.specs.declared.cause.QueueCame.{QueueCame}
 use Rattle.wq_submit.specs.declared.cause.QueueCame.TheVariants as came
 use Rattle.wq_submit.specs.declared.cause.WaitFault.{WaitFault}
 use Rattle.wq_submit.specs.declared.cause.WaitFault.TheVariants as faults
-use Rattle.wq_submit.specs.Queues.{AreIdle, Gives, GivesRight, Goes, GoesOnTo, IsAfter, IsEmptyExactly, IsHallFault, IsIdleHall, IsIdleThen, IsSameWork, IsTrusted, IsUnder, QueueState, work_of}
-use Rattle.wq_submit.specs.Rounds.{Comes, EndsRight}
-use Rattle.wq_submit.specs.Shown.{IsRightOf, ShowsEnds}
-use Rattle.wq_submit.proofs.Going.{work_same, work_then}
-use Rattle.wq_submit.proofs.Showing.{shows_after, shows_more}
+use Rattle.wq_submit.specs.Queues.{AreIdle, Gives, GivesRight, Goes, GoesOnTo, IsAfter, IsEmptyExactly, IsHallFault, IsIdleThen, IsTrusted, IsUnder, QueueState}
+use Rattle.wq_company.specs.Rounds.{IsIdleHall, Comes}
+use Rattle.wq_seats.specs.Works.{IsSameWork, work_of}
+use Rattle.wq_seats.specs.Shown.{EndsRight, IsRightOf, ShowsEnds}
+use Rattle.wq_seats.proofs.Going.{work_same, work_then}
+use Rattle.wq_company.proofs.Showing.{shows_after, shows_more}
 
 -- where none is found to have come to its end, none has
 pub none_ended : (held : List Held) → place_ended held ≡ None → (a : AttemptNo) (o : Outcome) (task : Submission) → Ends held a o task → ⊥

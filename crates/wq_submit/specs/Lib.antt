@@ -1,4 +1,2 @@
-pub mod Seats
-pub mod Shown
 pub mod Queues
-pub mod Rounds
+pub use Rattle.wq_seats.specs.Shown

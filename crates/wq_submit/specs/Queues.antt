@@ -1,32 +1,24 @@
 -- A queue of tasks.
-use Rattle.std.specs.Prelude.{◌≡◌, ◌≤◌, ◌<◌, ◌↔◌, ◌⊎◌, ℕ, List, [], length, map, Some, None, Result, Ok, Err}
+pub use Rattle.wq_seats.specs.Works.{IsSameWork, IsWithin, work_of}
+use Rattle.std.specs.Prelude.{◌≡◌, ◌≤◌, ◌<◌, ℕ, List, [], map, None, Some, Result, Ok, Err, ◌↔◌}
 use Rattle.std.specs.List.{AllByRecursion}
 use Rattle.flow_types.specs.declared.job.Failure.{Failure}
 use Rattle.flow_types.specs.declared.job.Job.{Job}
 use Rattle.flow_types.specs.declared.numbers.Amounts.{Amounts}
 use Rattle.flow_types.specs.declared.numbers.AttemptNo.{AttemptNo}
-use Rattle.flow_types.specs.declared.numbers.Needs.{Needs}
-use Rattle.flow_types.specs.declared.numbers.Needs.TheVariants.{Whole, Stated}
-use Rattle.flow_types.specs.Plans.{most_input_bytes}
 use Rattle.flow_types.specs.Serial.{Function}
 use Rattle.links.specs.declared.passing.Passed.{Passed}
-use Rattle.links.specs.Honesty.{IsAtLeast}
-use Rattle.task_book.specs.declared.task.Held.{Held}
-use Rattle.task_book.specs.declared.task.Ready.{Ready}
 use Rattle.task_book.specs.declared.task.Submission.{Submission}
-use Rattle.task_book.specs.declared.task.TaskId.{TaskId}
-use Rattle.task_book.specs.Kept.{IsEndedAt, Kept, given_at, place_ended}
-use Rattle.task_book.specs.Stages.{Ends, Runs}
+use Rattle.task_book.specs.Kept.{Kept, IsEndedAt, given_at, place_ended}
+use Rattle.task_book.specs.Stages.{Ends}
+use Rattle.wq_seats.specs.Shown.{IsRightOf, AreRight, ShowsEnds}
+use Rattle.task_book.specs.declared.task.Ready.{Ready}
 use Rattle.wq_submit.specs.declared.cause.QueueCame.{QueueCame}
 use Rattle.wq_submit.specs.declared.cause.QueueCame.TheVariants as came
 use Rattle.wq_submit.specs.declared.cause.WaitFault.{WaitFault}
 use Rattle.wq_submit.specs.declared.cause.WaitFault.TheVariants as faults
-use Rattle.task_book.specs.Submissions.{input_bytes, unknown_file}
-use Rattle.wq_submit.specs.Shown.{AreRight, IsRightOf, ShowsEnds}
-
--- the most links that live at once
-abbrev pub most_links : ℕ
-most_links = 32
+use Rattle.wq_company.specs.Rounds.{IsIdleHall, IsMet}
+use Rattle.wq_company.specs.Companies.{AreSureOf, AreWithin}
 
 -- The contents of the files by number, what is kept of the tasks, the links that are kept, left ones
 -- too, those of them that live, and the number of the next attempt.
@@ -36,17 +28,6 @@ pub record QueueState (L : Type 0) : Type 0 where
   pub ways : List L
   pub live : List L
   pub next : ℕ
-
--- a held task without its stage
-abbrev pub work_of : Held → TaskId × Submission
-work_of h = (h.id, h.task)
-
--- The same tasks are held, each under its id, and what was submitted, given and cancelled stays.
-pub record IsSameWork (old new : Kept) : Type 0 where
-  pub submitted : new.submitted ≡ old.submitted
-  pub given : new.given ≡ old.given
-  pub cancelled : new.cancelled ≡ old.cancelled
-  pub held : map work_of new.held ≡ map work_of old.held
 
 -- The task with the least id that came to its end is given with its attempt and outcome, and is held
 -- no more.
@@ -114,10 +95,6 @@ pub record IsUnder (old new : Kept) : Type 0 where
   pub none : place_ended new.held ≡ None
   pub some : new.held ≡ [] → ⊥
 
--- The hall was idle between these counts, or as many links live as may.
-abbrev pub IsIdleHall : {L : Type 0} → ℕ → ℕ → List L → Type 0
-IsIdleHall before now live = (before < now) ⊎ (most_links ≤ length live)
-
 -- Over each link that lives nothing passed since it was last idle, and the hall was idle between
 -- these counts, or as many links live as may.
 pub record AreIdle {L : Type 0} (idles : L → ℕ) (before now : ℕ) (live : List L) : Type 0 where
@@ -129,49 +106,6 @@ abbrev pub IsIdleThen : {L : Type 0} → (L → ℕ) → ℕ → ℕ → List L
     → Result QueueCame WaitFault → Type 0
 IsIdleThen idles before now live (Ok came.Idle) = AreIdle idles before now live
 IsIdleThen idles before now live _ = Unit {0}
-
--- The task takes in files alone that are there, and of them no more bytes than a task may.
-pub record IsKnown (files : List (List ℕ)) (task : Submission) : Type 0 where
-  pub there : unknown_file (length files) task.inputs ≡ None
-  pub small : input_bytes files task.inputs ≤ most_input_bytes
-
--- The tasks do.
-abbrev pub AreKnown : List (List ℕ) → List (TaskId × Submission) → Type 0
-AreKnown files works = AllByRecursion (λ w. IsKnown files w.1) works
-
--- All attempts that run are before this one.
-abbrev pub RunBefore : ℕ → List Held → Type 0
-RunBefore next held = (attempt : AttemptNo) (task : Submission) → Runs held attempt task
-    → attempt.0 < next
-
--- ---- a hall that is manned
-
--- The needs state no more than these amounts.
-abbrev pub IsWithin : Amounts → Needs → Type 0
-IsWithin least Whole = Unit {0}
-IsWithin least (Stated amounts) = IsAtLeast amounts least
-
--- These tasks state no more.
-abbrev pub AreWithin : Amounts → List (TaskId × Submission) → Type 0
-AreWithin least works = AllByRecursion (λ w. IsWithin least w.1.needs) works
-
--- The link is sure, and its peer offers at least these amounts.
-pub record IsSureOf {L : Type 0} (sure : L → Type 0) (offers : L → Amounts → Type 0)
-    (least : Amounts) (way : L) : Type 0 where
-  pub surely : sure way
-  pub offering : offers way least
-
--- Each of these links is.
-abbrev pub AreSureOf : {L : Type 0} → (L → Type 0) → (L → Amounts → Type 0) → Amounts → List L
-    → Type 0
-AreSureOf sure offers least ways = AllByRecursion (IsSureOf sure offers least) ways
-
--- The hall gives a link first; or one lives, and each link that the hall still gives is sure and
--- offers at least these amounts.
-abbrev pub IsMet : {L X : Type 0} → (X → Amounts → Type 0) → (X → Amounts → Type 0) → Amounts → X
-    → List L → Type 0
-IsMet manned staffed least hall live =
-    manned hall least ⊎ (staffed hall least × (0 < length live))
 
 -- It is so, each link that lives is sure and offers that much, and no task that is held states more.
 pub record IsStaffed {L X : Type 0} (sure : L → Type 0) (offers : L → Amounts → Type 0)

@@ -3,14 +3,8 @@
 #![tactic(auto)]
 
 mod cause;
-mod company;
-mod copies;
-mod laws;
-mod least;
 mod queue;
 mod rounds;
-mod run;
-mod seat;
 
 pub use cause::{QueueCame, WaitFault};
 pub use queue::Queue;

@@ -5,16 +5,16 @@ ghost use Rattle.task_book.specs.declared.refused.SubmitRefused.TheVariants as s
 ghost use Rattle.task_book.specs.Kept.{AreKept, cancelled_at, next_id, nothing_kept, place_of, submitted_to};
 ghost use Rattle.task_book.specs.Submissions.{file_refusal, submit_refusal};
 ghost use Rattle.flow_types.specs.declared.numbers.Amounts.{Amounts as AmountsValue};
-ghost use Rattle.wq_submit.specs.Queues.{IsStaffed, IsTrusted, IsWithin};
+ghost use Rattle.wq_submit.specs.Queues.{IsStaffed, IsTrusted};
+ghost use Rattle.wq_seats.specs.Works.{IsWithin};
 
-use crate::company::{Company, dismiss};
-use crate::least::least_of;
 use flow_types::{Bytes, FileNo, Needs};
 use links::{Hall, Link};
 use outside::Commands;
 use std::alloc::Global;
 use std::marker::{Model, PhantomData};
 use task_book::{Book, FileRefused, Files, Submission, SubmitRefused, TaskId};
+use wq_company::{Company, dismiss, least_of};
 
 /// For how many seconds a worker may be silent where nothing else was said: for ever, in effect.
 const MOST_SILENCE: u64 = 1_000_000_000;
@@ -38,8 +38,10 @@ pub struct Queue<F: Commands, H: Hall<F>> {
 
 impl<F: Commands, H: Hall<F>> Model for Queue<F, H> {
     ghost use Rattle.std.specs.Prelude.{map};
-    ghost use Rattle.wq_submit.specs.Queues.{AreKnown, QueueState, RunBefore, work_of};
-    ghost use Rattle.wq_submit.specs.Rounds.{AreRun, AreServed, live_of, ways_of};
+    ghost use Rattle.wq_company.specs.Companies.{AreKnown, RunBefore};
+    ghost use Rattle.wq_submit.specs.Queues.{QueueState};
+    ghost use Rattle.wq_seats.specs.Works.{work_of};
+    ghost use Rattle.wq_company.specs.Companies.{AreRun, AreServed, live_of, ways_of};
 
     ghost Value = { QueueState H.Way };
 

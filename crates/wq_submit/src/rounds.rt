@@ -4,19 +4,22 @@ ghost use Rattle.std.specs.List.{AllByRecursion};
 ghost use Rattle.flow_types.specs.declared.numbers.Amounts.{Amounts as AmountsValue};
 ghost use Rattle.task_book.specs.Kept.{Kept as KeptValue, is_end, place_ended};
 ghost use Rattle.wq_submit.specs.declared.cause.QueueCame.TheVariants as came;
-ghost use Rattle.wq_submit.specs.Queues.{AreIdle, AreSureOf, AreWithin, Gives, Goes, IsAfter, IsAnswered, IsEmptyExactly, IsHallFault, IsIdleHall, IsIdleThen, IsMet, IsSameWork, IsStaffed, IsTrusted, IsUnder, UnlessMemory, work_of};
-ghost use Rattle.wq_submit.specs.Rounds.{EndsRight, MeetsAs, UnlessWanting, was_idle};
-ghost use Rattle.wq_submit.specs.Shown.{ShowsEnds};
+ghost use Rattle.wq_submit.specs.Queues.{AreIdle, Gives, Goes, IsAfter, IsAnswered, IsEmptyExactly, IsHallFault, IsIdleThen, IsStaffed, IsTrusted, IsUnder, UnlessMemory};
+ghost use Rattle.wq_company.specs.Companies.{AreSureOf, AreWithin};
+ghost use Rattle.wq_company.specs.Rounds.{IsIdleHall, IsMet, MeetsAs, UnlessWanting};
+ghost use Rattle.wq_seats.specs.Works.{IsSameWork, work_of};
+ghost use Rattle.wq_seats.specs.Shown.{EndsRight, ShowsEnds};
+ghost use Rattle.wq_seats.specs.Turns.{was_idle};
 
 use crate::cause::{QueueCame, WaitFault};
-use crate::company::{Stop, meet, part};
 use crate::queue::Queue;
-use crate::seat::{Look, Turn};
 use flow_types::Memory;
 use links::{Hall, Link};
 use outside::Commands;
 use std::sync::Wait;
 use task_book::Ready;
+use wq_company::{Stop, meet, part};
+use wq_seats::{Look, Turn};
 
 /// Each link and the hall are asked whether somebody is there once in so many milliseconds, and
 /// else where they have news.

@@ -1,8 +1,10 @@
 use Rattle.std.proofs.Common.{sym, subst}
 use Rattle.task_book.specs.Kept.{place_of}
 use Rattle.wq_submit.specs.Queues.{IsStaffed, IsTrusted, QueueState}
-use Rattle.wq_submit.proofs.Knowing.{Known, Within, known_cancelled, right_on}
-use Rattle.wq_submit.proofs.Serving.{before_on, cancelled_ends, cancelled_runs, served_on}
+use Rattle.wq_company.proofs.Knowing.{Known, Within}
+use Rattle.wq_submit.proofs.Knowing.{known_cancelled, right_on}
+use Rattle.wq_company.proofs.Serving.{before_on, served_on}
+use Rattle.wq_submit.proofs.Calling.{cancelled_ends, cancelled_runs}
 use Rattle.wq_submit.proofs.Staffing.{cancelled_as, run_on}
 use Rattle.wq_submit.proofs.queue.Queue.cancel.Goals as goal
 

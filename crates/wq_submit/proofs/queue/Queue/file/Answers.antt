@@ -1,7 +1,8 @@
 use Rattle.std.proofs.Common.{map, sym, subst}
-use Rattle.wq_submit.specs.Queues.{IsStaffed, IsTrusted, QueueState, work_of}
+use Rattle.wq_submit.specs.Queues.{IsStaffed, IsTrusted, QueueState}
+use Rattle.wq_seats.specs.Works.{work_of}
 use Rattle.wq_submit.proofs.Knowing.{known_added, right_added}
-use Rattle.wq_submit.proofs.Serving.{served_added}
+use Rattle.wq_submit.proofs.Calling.{served_added}
 use Rattle.wq_submit.proofs.queue.Queue.file.Goals as goal
 
 pub invariant_of-self : goal.invariant_of-self

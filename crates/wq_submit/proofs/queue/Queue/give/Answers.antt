@@ -1,7 +1,10 @@
 use Rattle.std.proofs.Common.{map, sym, subst}
-use Rattle.wq_submit.specs.Queues.{AreWithin, IsTrusted, QueueState, work_of}
-use Rattle.wq_submit.proofs.Serving.{before_on, known_given, given_ends, given_runs, served_on}
-use Rattle.wq_submit.proofs.Knowing.{Known, Within}
+use Rattle.wq_company.specs.Companies.{AreWithin}
+use Rattle.wq_submit.specs.Queues.{IsTrusted, QueueState}
+use Rattle.wq_seats.specs.Works.{work_of}
+use Rattle.wq_company.proofs.Serving.{before_on, served_on}
+use Rattle.wq_submit.proofs.Calling.{known_given, given_ends, given_runs}
+use Rattle.wq_company.proofs.Knowing.{Known, Within}
 use Rattle.wq_submit.proofs.Staffing.{given_as, run_on}
 use Rattle.wq_submit.proofs.queue.Queue.give.Goals as goal
 

@@ -1,4 +1,4 @@
-use Rattle.std.proofs.Common.{◌≡◌, ◌≤◌, ℕ, List}
+use Rattle.std.proofs.Common.{◌≡◌, ◌≤◌}
 use Rattle.flow_types.specs.declared.numbers.Amounts.{Amounts}
 use Rattle.wq_submit.specs.Queues.{IsStaffed, IsTrusted, IsUnder}
 use Rattle.wq_submit.proofs.queue.Queue.look.Given as goal

@@ -1,7 +1,8 @@
 use Rattle.std.proofs.Common.{◌<◌, ◌∙◌, ℕ, ap, length, sym, subst}
-use Rattle.wq_submit.specs.Queues.{AreSureOf, IsIdleHall, IsMet, IsStaffed, QueueState, RunBefore}
-use Rattle.wq_submit.specs.Rounds.{CompanyState, live_of, ways_of}
-use Rattle.wq_submit.specs.Shown.{ShowsEnds}
+use Rattle.wq_company.specs.Companies.{AreSureOf, RunBefore, CompanyState, live_of, ways_of}
+use Rattle.wq_company.specs.Rounds.{IsIdleHall, IsMet}
+use Rattle.wq_submit.specs.Queues.{IsStaffed, QueueState}
+use Rattle.wq_seats.specs.Shown.{ShowsEnds}
 use Rattle.wq_submit.proofs.Waiting.{shows_came}
 use Rattle.wq_submit.proofs.Staffing.{unless_map}
 use Rattle.wq_submit.proofs.queue.Queue.meet.Goals as goal

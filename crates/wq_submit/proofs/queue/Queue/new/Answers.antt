@@ -1,7 +1,7 @@
 use Rattle.std.proofs.Common.{inl, map, sym, subst}
 use Rattle.task_book.specs.Kept.{Kept}
-use Rattle.wq_submit.specs.Queues.{AreSureOf, AreWithin, work_of}
-use Rattle.wq_submit.specs.Rounds.{CompanyState, live_of}
+use Rattle.wq_company.specs.Companies.{AreSureOf, AreWithin, CompanyState, live_of}
+use Rattle.wq_seats.specs.Works.{work_of}
 use Rattle.wq_submit.proofs.queue.Queue.new.Goals as goal
 
 pub returns-clause-staffed : goal.returns-clause-staffed

@@ -1,6 +1,7 @@
 use Rattle.std.proofs.Common.{ℕ, List, sym, subst}
-use Rattle.wq_submit.specs.Queues.{AreSureOf, IsMet, IsStaffed, QueueState, RunBefore}
-use Rattle.wq_submit.specs.Rounds.{live_of}
+use Rattle.wq_company.specs.Companies.{AreSureOf, RunBefore, live_of}
+use Rattle.wq_company.specs.Rounds.{IsMet}
+use Rattle.wq_submit.specs.Queues.{IsStaffed, QueueState}
 use Rattle.wq_submit.proofs.Staffing.{met_on}
 use Rattle.wq_submit.proofs.queue.Queue.part.Goals as goal
 

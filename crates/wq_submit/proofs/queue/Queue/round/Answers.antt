@@ -1,10 +1,11 @@
 use Rattle.std.proofs.Common.{◌≡◌, ◌<◌, ◌∙◌, List, arith, subst, sym, true}
 use Rattle.std.specs.List.{AllByRecursion}
-use Rattle.wq_submit.specs.Queues.{IsIdleHall, IsStaffed}
-use Rattle.wq_submit.proofs.Reading.{both_first, both_second}
+use Rattle.wq_company.specs.Rounds.{IsIdleHall}
+use Rattle.wq_submit.specs.Queues.{IsStaffed}
+use Rattle.wq_company.proofs.Reading.{both_first, both_second}
 use Rattle.wq_submit.proofs.Waiting.{trusted_work}
 use Rattle.task_book.specs.Kept.{Kept, is_end}
-use Rattle.wq_submit.proofs.Knowing.{Within, known_on}
+use Rattle.wq_company.proofs.Knowing.{Within, known_on}
 use Rattle.wq_submit.proofs.Staffing.{met_many}
 use Rattle.wq_submit.proofs.queue.Queue.round.Goals as goal
 

@@ -3,12 +3,12 @@ use Rattle.wq_submit.specs.Queues.{IsStaffed, IsTrusted, IsUnder, QueueState}
 use Rattle.wq_submit.proofs.Waiting.{after_files, after_held, goes_after, goes_fault, idle_after, some_left, under_on}
 use Rattle.wq_submit.specs.declared.cause.QueueCame.{QueueCame}
 use Rattle.wq_submit.specs.declared.cause.QueueCame.TheVariants as came
-use Rattle.wq_submit.proofs.Beginning.{none_held}
+use Rattle.wq_company.proofs.Beginning.{none_held}
 use Rattle.wq_submit.proofs.Staffing.{came_is, staffed_as}
-use Rattle.wq_submit.specs.declared.company.Stop.{Stop}
-use Rattle.wq_submit.specs.declared.company.Stop.TheVariants as stops
-use Rattle.wq_submit.specs.declared.seat.reading.Look.{Look}
-use Rattle.wq_submit.specs.Rounds.{UnlessWanting}
+use Rattle.wq_company.specs.declared.company.Stop.{Stop}
+use Rattle.wq_company.specs.declared.company.Stop.TheVariants as stops
+use Rattle.wq_seats.specs.declared.seat.reading.Look.{Look}
+use Rattle.wq_company.specs.Rounds.{UnlessWanting}
 use Rattle.wq_submit.proofs.queue.Queue.step.Goals as goal
 
 pub returns-in-Some-clause-goes : goal.returns-in-Some-clause-goes

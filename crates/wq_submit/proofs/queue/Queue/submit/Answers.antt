@@ -1,7 +1,9 @@
 use Rattle.std.proofs.Common.{sym, subst}
 use Rattle.wq_submit.specs.Queues.{IsStaffed, IsTrusted, QueueState}
-use Rattle.wq_submit.proofs.Knowing.{Within, known_submitted, known_with, right_on}
-use Rattle.wq_submit.proofs.Serving.{before_on, served_on, submitted_ends, submitted_runs}
+use Rattle.wq_company.proofs.Knowing.{Within}
+use Rattle.wq_submit.proofs.Knowing.{known_submitted, known_with, right_on}
+use Rattle.wq_company.proofs.Serving.{before_on, served_on}
+use Rattle.wq_submit.proofs.Calling.{submitted_ends, submitted_runs}
 use Rattle.task_book.specs.Kept.{next_id}
 use Rattle.wq_submit.proofs.Staffing.{run_on, submitted_as, within_by}
 use Rattle.wq_submit.proofs.queue.Queue.submit.Goals as goal

@@ -1,20 +1,21 @@
 use Rattle.std.proofs.Common.{rules, ◌≡◌, ◌<◌, ◌∙◌, ℕ, arith, length, map, sym, subst, true}
 use Rattle.std.specs.List.{AllByRecursion}
-use Rattle.wq_submit.specs.Queues.{AreSureOf, AreWithin, QueueState, RunBefore, work_of}
-use Rattle.wq_submit.specs.Rounds.{EndsRight, StaySure, live_of, ways_of}
-use Rattle.wq_submit.specs.Shown.{ShowsEnds}
-use Rattle.wq_submit.proofs.Going.{work_then}
-use Rattle.wq_submit.proofs.Knowing.{Known, Within, known_on}
-use Rattle.wq_submit.proofs.Serving.{before_on, quiet_live}
-use Rattle.wq_submit.proofs.Showing.{shows_after}
+use Rattle.wq_company.specs.Companies.{AreSureOf, AreWithin, RunBefore, StaySure, live_of, ways_of}
+use Rattle.wq_submit.specs.Queues.{QueueState}
+use Rattle.wq_seats.specs.Works.{work_of}
+use Rattle.wq_seats.specs.Shown.{EndsRight, ShowsEnds}
+use Rattle.wq_seats.proofs.Going.{work_then}
+use Rattle.wq_company.proofs.Knowing.{Known, Within, known_on}
+use Rattle.wq_company.proofs.Serving.{before_on, quiet_live}
+use Rattle.wq_company.proofs.Showing.{shows_after}
 use Rattle.wq_submit.proofs.Waiting.{right_after}
 use Rattle.std.specs.Prelude.{OnOk}
 use Rattle.peers.proofs.Serving.{at_ok}
 use Rattle.task_book.specs.Kept.{Kept, is_end}
 use Rattle.task_book.specs.Lines.{NoneBefore, is_waiting}
-use Rattle.wq_submit.proofs.Beginning.{all_ended}
-use Rattle.wq_submit.proofs.Placing.{as_many, live_sure, sure_live}
-use Rattle.wq_submit.proofs.Staffing.{ok_of, ready_none}
+use Rattle.wq_company.proofs.Beginning.{all_ended}
+use Rattle.wq_company.proofs.Placing.{as_many, live_sure, sure_live, ready_none}
+use Rattle.wq_submit.proofs.Staffing.{ok_of}
 use Rattle.wq_submit.proofs.queue.Queue.work.Goals as goal
 
 pub invariant_of-self-2 : goal.invariant_of-self-2

@@ -1,0 +1,2 @@
+pub mod Companies
+pub mod Rounds

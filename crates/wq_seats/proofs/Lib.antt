@@ -1,0 +1,12 @@
+pub mod Messages
+pub mod Speaking
+pub mod Hearing
+pub mod Showing
+pub mod Keeping
+pub mod Lacking
+pub mod Calls
+pub mod Going
+pub mod Sizes
+pub mod Counting
+pub mod Telling
+pub mod Settling

@@ -1,0 +1,5 @@
+pub mod Works
+pub mod Seats
+pub mod Shown
+pub mod Tellings
+pub mod Turns
