@@ -1,0 +1,9 @@
+use Rattle.std.proofs.Common.{ℕ, rules}
+use Rattle.std.specs.Prelude.{nat_le}
+use Rattle.std.proofs.lemmas.List.Sorted.{IsPartitionPoint-from_clause, IsPartitionedBy-leb}
+use Rattle.running_rules.proofs.running.behind.Goals as goal
+
+pub returns : goal.returns
+returns c =
+    let k : ℕ = c.args.link.0 in
+    (c.partition_point.ensures.bound, IsPartitionPoint-from_clause (λ l. nat_le l.0 k) _ _ c.partition_point.ensures.partitioned (IsPartitionedBy-leb (λ l. l.0) c.args.links.now k c.requires) (λ a r f called. search rules))

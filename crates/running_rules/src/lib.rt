@@ -1,0 +1,6 @@
+//! Which rules run on which link.
+#![tactic(auto)]
+
+mod running;
+
+pub use running::Running;
