@@ -104,7 +104,7 @@ kept_with t C A table mirrored limit stored reserved =
     (subst (λ l. IsTable (record t { limit = l })) (sym limit) table, mirrored, holdings-are A (known_in (record t { limit = A.limit })) refl stored reserved)
 
 abbrev row_with : Option Place → RuleRow → RuleRow
-row_with place old = record { place = place; done = old.done; failures = old.failures; why = old.why }
+row_with place old = record { place = place; done = old.done; failures = old.failures; why = old.why; started = true }
 
 started_kept : (t : TableState) (C : Counting) (A B : Holdings) (r need : ℕ) (place : Place) (old : RuleRow) → IsKept t C A → r < length t.plan.rules → can_start (known_in t) r ≡ true → t.ended ≡ false
     → leaves_places (known_in t) 2 ≡ true → old ≡ get_or t.rules r old → need ≡ rule_bound t.plan r → B ≡ with_need A need
@@ -219,9 +219,9 @@ done_kept : (t : TableState) (C D : Counting) (A B E : Holdings) (r need : ℕ) 
     → runs_now (known_in t) r ≡ true → length (makes t.plan r) ≡ length outs → old ≡ get_or t.rules r old
     → ((f : ℕ) → state_in states f ≡ made_or (row_of f (makes t.plan r) outs) (state_in t.files f)) → length states ≡ length t.plan.files → ((f : ℕ) → bytes_in states f ≤ most_bytes)
     → need ≡ rule_bound t.plan r → B ≡ without_need A need → E ≡ record B { stored = stored_in t.plan states } → D ≡ with_rule C r
-    → IsKept (record (with_row t r (record { place = None; done = true; failures = old.failures; why = old.why })) { files = states; plan = D.plan; limit = E.limit }) D E
+    → IsKept (record (with_row t r (record { place = None; done = true; failures = old.failures; why = old.why; started = old.started })) { files = states; plan = D.plan; limit = E.limit }) D E
 done_kept t C D A B E r need old outs states is inside runs long here made all small bound released set counted =
-    let row : RuleRow = record { place = None; done = true; failures = old.failures; why = old.why } in
+    let row : RuleRow = record { place = None; done = true; failures = old.failures; why = old.why; started = old.started } in
     let within : r < length t.rules = subst (λ n. r < n) (sym is.0.rules) inside in
     let table = keeps-closed t r row old is.0 inside runs here refl (omega arith) in
     let less = reserved-less t r row inside within runs (no_run t.retries row refl) in
@@ -253,7 +253,7 @@ pub done-kept : (t value : TableState) → t ≡ value → (C D : Counting) (A B
     → runs_now (known_in value) r ≡ true → length (makes value.plan r) ≡ length outs → old ≡ get_or t.rules r old
     → ((f : ℕ) → state_in states f ≡ made_or (row_of f (makes t.plan r) outs) (state_in t.files f)) → length states ≡ length t.plan.files → ((f : ℕ) → bytes_in states f ≤ most_bytes)
     → need ≡ rule_bound value.plan r → B ≡ without_need A need → E ≡ record B { stored = stored_in t.plan states } → D ≡ with_rule C r
-    → IsKept (record (with_row t r (record { place = None; done = true; failures = old.failures; why = old.why })) { files = states; plan = D.plan; limit = E.limit }) D E
+    → IsKept (record (with_row t r (record { place = None; done = true; failures = old.failures; why = old.why; started = old.started })) { files = states; plan = D.plan; limit = E.limit }) D E
 done-kept t value same C D A B E r need old outs states is inside runs long here made all small bound released set counted =
     done_kept t C D A B E r need old outs states is (subst (λ (v : TableState). r < length v.plan.rules) (sym same) inside) (subst (λ (v : TableState). runs_now (known_in v) r ≡ true) (sym same) runs)
     (subst (λ (v : TableState). length (makes v.plan r) ≡ length outs) (sym same) long) here made all small (subst (λ (v : TableState). need ≡ rule_bound v.plan r) (sym same) bound) released set counted

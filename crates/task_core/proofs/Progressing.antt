@@ -67,7 +67,7 @@ start-room t value same V r table is inside starts =
 -- an attempt starts
 pub started-progress : (t value : TableState) → t ≡ value → (V U : Progressing) (r : ℕ) (place : Place) (old : RuleRow) → IsTable t → IsProgressOf (known_in t) V → r < length value.plan.rules → can_start (known_in value) r ≡ true
     → old ≡ get_or t.rules r old → U ≡ record V { pending = with_wait V.pending r false; running = record V.running { numbers = placed r V.running.numbers } }
-    → IsBy t.plan t.options t.retries (slice_set t.rules r (record { place = Some place; done = old.done; failures = old.failures; why = old.why })) t.files U
+    → IsBy t.plan t.options t.retries (slice_set t.rules r (record { place = Some place; done = old.done; failures = old.failures; why = old.why; started = true })) t.files U
 started-progress t value same V U r place old table is inside starts here set =
     let within : r < length t.plan.rules = subst (λ (v : TableState). r < length v.plan.rules) (sym same) inside in
     let less : r < length t.rules = omega (arith, within, table.rules) in
@@ -75,7 +75,7 @@ started-progress t value same V U r place old table is inside starts here set =
     let waits : is_waiting_state ((known_in t).rules r) ≡ true = (and_parts (is_waiting_state ((known_in t).rules r)) (list_all (is_there (known_in t)) (takes t.plan r)) ready).0 in
     let row_is : row_at t r ≡ old = same_row t.rules r old here less in
     let undone : old.done ≡ false = sym (ap (λ (w : RuleRow). w.done) row_is) ∙ waiting-open t.retries (row_at t r) waits in
-    let row : RuleRow = record { place = Some place; done = old.done; failures = old.failures; why = old.why } in
+    let row : RuleRow = record { place = Some place; done = old.done; failures = old.failures; why = old.why; started = true } in
     let runs : is_running_state (states_by t.retries (slice_set t.rules r row) r) ≡ true = ap is_running_state (state-set t.retries r t.rules row less) ∙ with_place old.done (nat_le (t.retries + 1) old.failures) place undone in
     subst (λ (X : Progressing). IsBy t.plan t.options t.retries (slice_set t.rules r row) t.files X) (sym set)
     (started t.plan t.options (states_by t.retries t.rules) (states_by t.retries (slice_set t.rules r row)) (size_of t.files) V r within (changes t.retries r t.rules row) waits runs is)
@@ -120,12 +120,12 @@ finish-room t value same V U r table is inside runs only =
 -- a rule is done, and its outputs are there
 pub done-progress : (t value : TableState) → t ≡ value → (P : Plan) → P ≡ t.plan → (V X U : Progressing) (r : ℕ) (old : RuleRow) (files : List FileState) → IsTable t → IsProgressOf (known_in t) V → r < length value.plan.rules → runs_now (known_in value) r ≡ true
     → old ≡ get_or t.rules r old → Knows t.plan (size_of files) X → IsSame V X → U ≡ record X { running = record X.running { numbers = without r X.running.numbers }; done = X.done + 1 }
-    → IsBy P t.options t.retries (slice_set t.rules r (record { place = None; done = true; failures = old.failures; why = old.why })) files U
+    → IsBy P t.options t.retries (slice_set t.rules r (record { place = None; done = true; failures = old.failures; why = old.why; started = old.started })) files U
 done-progress t value same P plan V X U r old files table is inside runs here known only set =
     let within : r < length t.plan.rules = subst (λ (v : TableState). r < length v.plan.rules) (sym same) inside in
     let less : r < length t.rules = omega (arith, within, table.rules) in
     let ran : runs_now (known_in t) r ≡ true = subst (λ (v : TableState). runs_now (known_in v) r ≡ true) (sym same) runs in
-    let row : RuleRow = record { place = None; done = true; failures = old.failures; why = old.why } in
+    let row : RuleRow = record { place = None; done = true; failures = old.failures; why = old.why; started = old.started } in
     let mid : IsBy t.plan t.options t.retries t.rules files X = got t.plan t.options (states_by t.retries t.rules) (size_of t.files) (size_of files) V X known.inputs only.needs only.waits only.rest is in
     subst (λ (Q : Plan). IsBy Q t.options t.retries (slice_set t.rules r row) files U) (sym plan)
     (subst (λ (Y : Progressing). IsBy t.plan t.options t.retries (slice_set t.rules r row) files Y) (sym set)

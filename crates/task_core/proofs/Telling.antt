@@ -70,9 +70,9 @@ pub running-inside : (K : Known) (rules : List RuleNo) → map number rules ≡ 
 running-inside K rules read k d less =
     listed-inside rules (running K) (length K.plan.rules) read (λ r stands. passing-inside K.plan (runs_now K) r (length K.plan.rules) refl stands) k d (omega arith) less
 
-filter_few : (p : ℕ → Bool) (a n : ℕ) → length (filter p (range_with_len a n)) ≤ n
-filter_few p a zero = omega arith
-filter_few p a (suc n) = by_test (p a) refl (filter_few p (a + 1) n)
+pub filter-few : (p : ℕ → Bool) (a n : ℕ) → length (filter p (range_with_len a n)) ≤ n
+filter-few p a zero = omega arith
+filter-few p a (suc n) = by_test (p a) refl (filter-few p (a + 1) n)
   where
     by_test : (b : Bool) → p a ≡ b → length (filter p (range_with_len (a + 1) n)) ≤ n → length (filter p (range_with_len a (suc n))) ≤ suc n
     by_test true is rest = let here : length (filter p (range_with_len a (suc n))) ≡ suc (length (filter p (range_with_len (a + 1) n))) = ap (λ c. length (cond c (a ∷ filter p (range_with_len (a + 1) n)) (filter p (range_with_len (a + 1) n)))) is in omega (arith, here, rest)
@@ -82,7 +82,7 @@ filter_few p a (suc n) = by_test (p a) refl (filter_few p (a + 1) n)
 pub running-few : (K : Known) (rules : List RuleNo) → map number rules ≡ running K → length K.plan.rules ≤ most_rules → length rules ≤ most_rules
 running-few K rules read few =
     let long : length rules ≡ length (running K) = sym (length-map rules number) ∙ ap length read in
-    omega (arith, long, few, filter_few (runs_now K) 0 (length K.plan.rules))
+    omega (arith, long, few, filter-few (runs_now K) 0 (length K.plan.rules))
 
 pub running-count : (K : Known) (rules : List RuleNo) → map number rules ≡ running K → length rules ≡ length (running K)
 running-count K rules read = sym (length-map rules number) ∙ ap length read
@@ -117,7 +117,7 @@ all_pass p a (suc n) = by_test (p a) refl (all_pass p (a + 1) n)
         ap (λ c. length (cond c (a ∷ filter p (range_with_len (a + 1) n)) (filter p (range_with_len (a + 1) n))) == suc n) is ∙ eq_next (length (filter p (range_with_len (a + 1) n))) n ∙ rest ∙ sym (ap (λ c. c && list_all p (range_with_len (a + 1) n)) is)
     by_test false is rest =
         ap (λ c. length (cond c (a ∷ filter p (range_with_len (a + 1) n)) (filter p (range_with_len (a + 1) n))) == suc n) is
-        ∙ false_from_ne_true (length (filter p (range_with_len (a + 1) n)) == suc n) (λ same. let wrong : ⊥ = (let long : length (filter p (range_with_len (a + 1) n)) ≡ suc n = eqb-true (length (filter p (range_with_len (a + 1) n))) (suc n) same in omega (arith, long, filter_few p (a + 1) n)) in wrong)
+        ∙ false_from_ne_true (length (filter p (range_with_len (a + 1) n)) == suc n) (λ same. let wrong : ⊥ = (let long : length (filter p (range_with_len (a + 1) n)) ≡ suc n = eqb-true (length (filter p (range_with_len (a + 1) n))) (suc n) same in omega (arith, long, filter-few p (a + 1) n)) in wrong)
         ∙ sym (ap (λ c. c && list_all p (range_with_len (a + 1) n)) is)
 
 -- as many rules are complete as were counted

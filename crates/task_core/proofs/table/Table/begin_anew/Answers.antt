@@ -1,6 +1,7 @@
 use Rattle.std.proofs.Common.{◌≤◌, ◌∙◌, List, ap, length, replicate, subst, sym}
 use Rattle.flow_types.specs.declared.plan.Plan.{Plan}
 use Rattle.flow_types.specs.Plans.{most_bytes}
+use Rattle.running_rules.specs.Tasks.{Tasks}
 use Rattle.run_history.specs.declared.states.FileState.{FileState}
 use Rattle.rule_progress.specs.Progress.{bytes_by, sizes_in}
 use Rattle.file_states.specs.States.{first_states}
@@ -10,6 +11,7 @@ use Rattle.task_core.proofs.Accounting.{begun-anew}
 use Rattle.task_core.proofs.Storing.{held}
 use Rattle.task_core.proofs.Opening.{first-length, first-small}
 use Rattle.task_core.proofs.Progressing.{IsBy, blank-waits, states_by}
+use Rattle.task_core.proofs.Tasking.{blank-tasks}
 use Rattle.task_core.proofs.table.Table.begin_anew.Goals as goal
 
 pub invariant_of-self : goal.invariant_of-self
@@ -25,6 +27,8 @@ invariant_of-self c =
       subst (λ (P : Plan). IsBy P c.self.inside.options c.self.inside.retries c.in_ok-rules.rules.items c.in_ok-files.files c.in_ok-progress.progress)
           (sym (ap (λ (X : Counting). X.plan) c.in_ok-counts.ensures ∙ c.plan-2.ensures.plan ∙ sym c.plan-3.ensures.plan))
           (c.in_ok-progress.ensures (states_by c.self.inside.retries c.in_ok-rules.rules.items) (λ r inside. blank-waits c.self.inside.retries _ r c.in_ok-rules.rules.items c.in_ok-rules.ensures)),
+      blank-tasks c.in_ok-counts.counts.plan c.self.inside.retries _ c.in_ok-rules.rules.items c.clear.new.self c.in_ok-rules.ensures (ap (λ (T : Tasks). T.links) c.clear.ensures) (ap (λ (T : Tasks). T.rules) c.clear.ensures)
+          (ap (λ (T : Tasks). T.places) c.clear.ensures ∙ c.self.invariant.4.room ∙ sym (ap (λ (X : Counting). length X.plan.rules) c.in_ok-counts.ensures ∙ ap (λ (P : Plan). length P.rules) c.plan-2.ensures.plan)),
     )
 
 pub over-requires-clause-files : goal.over-requires-clause-files
