@@ -12,7 +12,6 @@ use Rattle.flow_types.specs.Serial.{Function}
 use Rattle.run_history.specs.Admissions.{Admitting}
 use Rattle.run_history.specs.declared.answers.Check.{Check}
 use Rattle.run_history.specs.declared.answers.Check.TheVariants as check
-use Rattle.run_history.specs.declared.options.Mode.{Mode}
 use Rattle.run_history.specs.declared.options.Options.{Options as RunOptions}
 use Rattle.run_history.specs.declared.states.Found.{Found}
 use Rattle.run_history.specs.Answers.{before_end, end_over}
@@ -28,7 +27,7 @@ use Rattle.local_run.specs.declared.halt.Halt.TheVariants as halts
 use Rattle.local_run.specs.declared.ended.Stopped.{Stopped}
 use Rattle.local_run.specs.declared.ended.Stopped.TheVariants as stopped
 use Rattle.local_run.specs.Collecting.{RunCollects}
-use Rattle.local_run.specs.Ends.{IsRunEnd}
+use Rattle.local_run.specs.Ends.{IsRunEnd, OpensBy}
 use Rattle.local_run.specs.Runs.{IsClosedRun, IsHallEnd, IsRefusedRun, LosesNone}
 use Rattle.wq_run.specs.Ends.{EndsWaiting, LosesOnLinks}
 use Rattle.wq_run.specs.Losses.{AreDueLosses}
@@ -179,9 +178,9 @@ hall_run fact s r h P (Err (stopped.Unopened devices.Failed)) of_hall = tt
 hall_run fact s r h P (Err (stopped.Unopened devices.Memory)) of_hall = tt
 
 -- nothing was added
-hall_any : (P : Plan) (mode : Mode) (cause : Cause) → (let none : List Record = [] in IfHallFault cause ((none ≡ none) ⊎ (SpentOnce (since_opening none) × RunCollects P mode none)))
-hall_any P mode (causes.HallFault old new) = inl refl
-hall_any P mode _ = tt
+hall_any : (P : Plan) (O : RunOptions) (cause : Cause) → (let none : List Record = [] in IfHallFault cause ((none ≡ none) ⊎ (SpentOnce (since_opening none) × OpensBy O none × RunCollects P O.mode none)))
+hall_any P O (causes.HallFault old new) = inl refl
+hall_any P O _ = tt
 
 -- ---- where nothing was read
 
@@ -227,9 +226,9 @@ module _ {L : Type 0} (E : Admitting) (spells : List Record → Type 0) (told li
   pub ran_leaves : (s r h : Rise) (records : List Record) (how : Result Check Stopped) → RunsOver spells told gives may_fail history count idles closed ask.workers.limit got got_now E ask.plan ask.options records how
       → (IsRefusedRun how → got_now ≡ got) → (ask.options.wq ≡ false → IfOk how (IsRunEnd ask.options.limit)) → (ask.options.wq ≡ false → IfOk how (λ ended. ended ≡ end_over ask.plan ask.options (before_end records) None))
       → (ask.options.wq ≡ true → IfOk how (EndsWaiting E ask.plan ask.options ask.workers.limit rise records))
-      → (ask.options.wq ≡ true → (IsRefusedRun how → ⊥) → listens) → (IsClosedRun how → SpentOnce (since_opening records)) → ((IsRefusedRun how → ⊥) → RunCollects ask.plan ask.options.mode records)
+      → (ask.options.wq ≡ true → (IsRefusedRun how → ⊥) → listens) → (IsClosedRun how → SpentOnce (since_opening records)) → ((IsRefusedRun how → ⊥) → OpensBy ask.options records) → ((IsRefusedRun how → ⊥) → RunCollects ask.plan ask.options.mode records)
       → RunLeaves spells told listens gives may_fail history count idles closed E ask rise got got_now records (run_cause s r h ask.plan how)
-  ran_leaves s r h records how o unmet done ends away hears spent collects = record {
+  ran_leaves s r h records how o unmet done ends away hears spent opened collects = record {
     past = o.past;
     spelled = λ read. o.spelled;
     added = run_adds s r h ask.plan ask.options o.past records how o.same o.added;
@@ -243,8 +242,8 @@ module _ {L : Type 0} (E : Admitting) (spells : List Record → Type 0) (told li
         (λ refused. due_none gives may_fail history count idles closed ask.workers.limit got got_now o.past records (unmet refused) (loses_none o.past records (o.same refused))) (o.due_losses tells) keeps;
     ended = λ is. answered E s r h ask rise records how done ends away is;
     heard = λ asked. ⊎_elim (λ (refused : IsRefusedRun how). inr (o.same refused)) (λ (started : IsRefusedRun how → ⊥). inl (hears asked started)) (started_or_not how);
-    failed = hall_run ((records ≡ o.past) ⊎ (SpentOnce (since_opening records) × RunCollects ask.plan ask.options.mode records)) s r h ask.plan how
-        (λ is. ⊎_elim (λ (refused : IsRefusedRun how). inl (o.same refused)) (λ (closed : IsClosedRun how). inr (spent closed, collects (closed_starts how closed))) (hall_ends how is));
+    failed = hall_run ((records ≡ o.past) ⊎ (SpentOnce (since_opening records) × OpensBy ask.options records × RunCollects ask.plan ask.options.mode records)) s r h ask.plan how
+        (λ is. ⊎_elim (λ (refused : IsRefusedRun how). inl (o.same refused)) (λ (closed : IsClosedRun how). inr (spent closed, opened (closed_starts how closed), collects (closed_starts how closed))) (hall_ends how is));
   }
 
   -- of one whose log wasn't read
@@ -261,7 +260,7 @@ module _ {L : Type 0} (E : Admitting) (spells : List Record → Type 0) (told li
     due_losses = λ tells keeps. due_none gives may_fail history count idles closed ask.workers.limit got got_now [] [] same ([], refl, refl);
     ended = λ wrong. absurd (true≢false (sym wrong ∙ is.none));
     heard = λ asked. inr refl;
-    failed = hall_any ask.plan ask.options.mode cause;
+    failed = hall_any ask.plan ask.options cause;
   }
 
   pub unread_leaves : (s : Rise) (why : RecoverFault) → got_now ≡ got → RunLeaves spells told listens gives may_fail history count idles closed E ask rise got got_now [] (unread_cause s why)

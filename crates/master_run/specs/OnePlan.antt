@@ -63,7 +63,7 @@ abbrev pub IfHallFault : Cause → Type 0 → Type 0
 IfHallFault (causes.HallFault before after) fact = fact
 IfHallFault cause fact = Unit {0}
 
--- What a call that was asked to run leaves: some records stood, and behind them stands what a run adds that ended by this cause. Each attempt is started where its rule may run, and of a rule that was admitted in the records before it, files are dropped as the mode says, and attempts are given up only as they may be. A cause that the run answered is that of its end. Where workers are asked for the hall listens, or nothing was added; where it failed nothing was added, or each attempt is closed once and files were collected as the mode says.
+-- What a call that was asked to run leaves: some records stood, and behind them stands what a run adds that ended by this cause. Each attempt is started where its rule may run, and of a rule that was admitted in the records before it, files are dropped as the mode says, and attempts are given up only as they may be. A cause that the run answered is that of its end. Where workers are asked for the hall listens, or nothing was added; where it failed nothing was added, or each attempt is closed once, behind an opening by the options, and files were collected as the mode says.
 pub record RunLeaves {L : Type 0} (spells : List Record → Type 0) (told listens : Type 0) (gives : Function) (may_fail : Job → Failure → Type 0) (history : L → List Passed) (count idles : L → ℕ) (closed : L → Bool)
     (E : Admitting) (ask : Ask) (rise : ℕ) (got got_now : List (Option LinkNo × L)) (records : List Record) (cause : Cause) : Type 0 where
   pub past : List Record
@@ -77,7 +77,7 @@ pub record RunLeaves {L : Type 0} (spells : List Record → Type 0) (told listen
   pub due_losses : told → IsFalse (may_give_up cause) → AreDueLosses gives may_fail history count idles closed ask.workers.limit got got_now past records
   pub ended : IsTrue (is_answer (kind_of cause)) → ComesToEnd E ask.options.wq ask rise records cause
   pub heard : ask.options.wq ≡ true → listens ⊎ (records ≡ past)
-  pub failed : IfHallFault cause ((records ≡ past) ⊎ (SpentOnce (since_opening records) × RunCollects ask.plan ask.options.mode records))
+  pub failed : IfHallFault cause ((records ≡ past) ⊎ (SpentOnce (since_opening records) × OpensBy ask.options records × RunCollects ask.plan ask.options.mode records))
 
 -- What a call says by the words and one plan, which is the one that was read: its records may stand in a log of it and keep the limit, and a run leaves what it may, opens and collects by the words, and waits only in vain.
 pub record CallTells {B L : Type 0} (F : CommandWords) (H : HallWords B L) (E : Admitting) (is_read : Plan → Type 0) (spells : List Record → Type 0)

@@ -254,7 +254,7 @@ returns-in-Ok-resume-clause-leaves g c =
     subst (λ (cause : Cause). RunLeaves (λ (past : List Record). g.S.Site.tells → Spells past (g.S.Site.files c.args.site c.args.ask.log)) g.H.Way.Link.tells (g.H.Hall.listens c.resume.new.hall) g.F.Commands.gives g.F.Commands.may_fail g.H.Way.Link.history g.H.Way.Link.count g.H.Way.Link.idle_count g.H.Way.Link.is_closed g.Q.Made.Admission.admitted c.args.ask (g.H.Hall.idle_count c.resume.new.hall - g.H.Hall.idle_count c.args.hall.now) (g.H.Hall.got c.args.hall.now) (g.H.Hall.got c.resume.new.hall) ended.records cause) (sym same)
     (ran_leaves g.Q.Made.Admission.admitted (λ (past : List Record). g.S.Site.tells → Spells past (g.S.Site.files c.args.site c.args.ask.log)) g.H.Way.Link.tells (g.H.Hall.listens c.resume.new.hall) g.F.Commands.gives g.F.Commands.may_fail g.H.Way.Link.history g.H.Way.Link.count g.H.Way.Link.idle_count g.H.Way.Link.is_closed c.args.ask (g.H.Hall.idle_count c.resume.new.hall - g.H.Hall.idle_count c.args.hall.now) (g.H.Hall.got c.args.hall.now) (g.H.Hall.got c.resume.new.hall)
     (site_rise (counts c.args.before (map g.R.Runner.count c.args.runners.now) (g.H.Hall.count c.args.hall.now) (g.H.Hall.idle_count c.args.hall.now) 0) (counts (g.S.Site.count c.in-Ok-resume.ended.site) (map g.R.Runner.count c.resume.new.runners) (g.H.Hall.count c.resume.new.hall) (g.H.Hall.idle_count c.resume.new.hall) 0)) c.first_rise-runner.result (hall_rise (counts c.args.before (map g.R.Runner.count c.args.runners.now) (g.H.Hall.count c.args.hall.now) (g.H.Hall.idle_count c.args.hall.now) 0) (counts (g.S.Site.count c.in-Ok-resume.ended.site) (map g.R.Runner.count c.resume.new.runners) (g.H.Hall.count c.resume.new.hall) (g.H.Hall.idle_count c.resume.new.hall) 0)) ended.records ended.how c.in-Ok-resume.ensures.over (λ refused. (c.in-Ok-resume.ensures.vacant refused).none_back)
-    (λ alone. c.in-Ok-resume.ensures.closed (fits_here c.args.ask.plan c.args.ask.options c.requires.fits alone)) c.in-Ok-resume.ensures.ends c.in-Ok-resume.ensures.waited c.in-Ok-resume.ensures.listens c.in-Ok-resume.ensures.spent c.in-Ok-resume.ensures.collects)
+    (λ alone. c.in-Ok-resume.ensures.closed (fits_here c.args.ask.plan c.args.ask.options c.requires.fits alone)) c.in-Ok-resume.ensures.ends c.in-Ok-resume.ensures.waited c.in-Ok-resume.ensures.listens c.in-Ok-resume.ensures.spent c.in-Ok-resume.ensures.opened c.in-Ok-resume.ensures.collects)
 
 pub returns-in_default-clause-leaves : goal.returns-in_default-clause-leaves
 returns-in_default-clause-leaves g c =
