@@ -20,7 +20,7 @@ use crate::run::{Again, Run};
 use flow_types::{Amounts, AttemptNo, LinkNo, Memory, Needs};
 use links::Link;
 use outside::Commands;
-use peer_health::Health;
+use peer_health::{Health, Quiet};
 use peers::Peer;
 pub use reading::Look;
 use resource_pack::{Occupied, Stated};
@@ -48,7 +48,7 @@ pub struct Seat<F: Commands, L: Link<F>> {
     // More of what came may be there to be heard.
     is_full: bool,
     // So many turns ago something was said.
-    quiet: u32,
+    quiet: Quiet,
     // So many turns ago something came.
     silent: u64,
     health: Health,
@@ -96,7 +96,7 @@ impl<F: Commands, L: Link<F>> Seat<F, L> {
                 again: None,
                 gone: false,
                 is_full: false,
-                quiet: 0,
+                quiet: Quiet::new(),
                 silent: 0,
                 health: Health::new(),
             }),
@@ -162,10 +162,10 @@ impl<F: Commands, L: Link<F>> Seat<F, L> {
     fn note_begin(&mut self)
         ensures { self.new ≡ self.old }
     {
+        self.quiet.say();
         if self.runs.is_empty() {
             self.silent = 0;
         }
-        self.quiet = 0;
     }
 
     // An attempt came to no end there.

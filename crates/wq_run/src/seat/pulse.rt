@@ -1,18 +1,9 @@
-//! How a worker has done of late, by which it is asked for more or not. No contract speaks of it: it
-//! decides when something is asked, and never what is true of it.
+//! How a worker has done of late, by which it is asked for more or not. No contract of this crate
+//! speaks of it: it decides when something is asked, and never what is true of it.
 
 use flow_types::Amounts;
+use peer_health::{Health, Quiet};
 use peers::Told;
-
-/// So many attempts in a row that came to no end make a worker sick.
-const SICK: u32 = 3;
-
-/// The most turns that a sick worker rests, which are seconds.
-const LONGEST: u32 = 60;
-
-/// So many turns after something was said a word is said that the peer passes over, so that the
-/// system notices one that is gone.
-const SILENCE: u32 = 60;
 
 /// The idle limit where none was given. A lower one finds by itself who is gone, and counts anew
 /// behind each word.
@@ -32,13 +23,10 @@ pub(super) struct Pulse {
     // What it offered last, and whether that is something else than what it offered before.
     offer: Offer,
     is_news: bool,
-    // How many attempts in a row came to no end there.
-    refused: u32,
-    // How many turns it rests still, and how many the next time.
-    rests: u32,
-    next: u32,
+    // How its attempts have ended, and whether it rests.
+    health: Health,
     // How many turns ago something was said.
-    silent: u32,
+    quiet: Quiet,
 }
 
 fn is_same(one: &Amounts, other: &Amounts) -> bool {
@@ -57,10 +45,8 @@ impl Pulse {
         Pulse {
             offer,
             is_news: false,
-            refused: 0,
-            rests: 0,
-            next: 1,
-            silent: 0,
+            health: Health::new(),
+            quiet: Quiet::new(),
         }
     }
 
@@ -77,7 +63,7 @@ impl Pulse {
 
     /// Something was said.
     pub fn said(&mut self) {
-        self.silent = 0;
+        self.quiet.say();
     }
 
     /// The peer told this.
@@ -92,41 +78,25 @@ impl Pulse {
                 largest: *largest,
                 cache: *cache,
             }),
-            Told::Lose(_) => self.refuse(),
-            Told::Finish { .. } | Told::Fail { .. } => self.recover(),
+            Told::Lose(_) => self.health.lose(),
+            Told::Finish { .. } | Told::Fail { .. } => self.health.recover(),
             _ => {}
         }
     }
 
-    // An attempt came to no end there.
-    fn refuse(&mut self) {
-        self.refused = self.refused.saturating_add(1);
-        if self.refused >= SICK {
-            self.rests = self.next;
-            self.next = self.next.saturating_mul(2).min(LONGEST);
-        }
-    }
-
-    // An attempt came to its end there.
-    fn recover(&mut self) {
-        self.refused = 0;
-        self.rests = 0;
-        self.next = 1;
-    }
-
     /// A second has gone by.
     pub fn beat(&mut self) {
-        self.rests = self.rests.saturating_sub(1);
-        self.silent = self.silent.saturating_add(1);
+        self.health.beat();
+        self.quiet.beat();
     }
 
     /// Whether nothing was said for a minute, and no idle limit was given.
     pub fn wants_word(&self, limit: u32) -> bool {
-        limit >= NO_LIMIT && self.silent >= SILENCE
+        limit >= NO_LIMIT && self.quiet.is_long()
     }
 
     /// Whether it is to be given nothing now: it rests, or it is sick and something runs there.
     pub fn is_resting(&self, is_idle: bool) -> bool {
-        self.rests > 0 || self.refused >= SICK && !is_idle
+        self.health.is_resting(is_idle)
     }
 }

@@ -13,10 +13,6 @@ use outside::Commands;
 use peers::{Leave, Listened, sure_links_are_orderly};
 use std::alloc::Global;
 
-/// So many turns after something was said a word is said that the peer passes over, so that the
-/// system notices one that is gone.
-const MOST_QUIET: u32 = 60;
-
 /// Whether a second has gone by since each link had its turn, and for how many seconds a peer may
 /// be silent while a task runs there, or take nothing of what it was sent.
 #[derive(Clone, Copy)]
@@ -33,7 +29,7 @@ impl<F: Commands, L: Link<F>> Seat<F, L> {
         ensures only { self.new ≡ record self.old { health = self.new.health } }
         ensures rested { IsRested self.old.health → IsRested self.new.health }
     {
-        self.quiet = self.quiet.saturating_add(1);
+        self.quiet.beat();
         self.silent = self.silent.saturating_add(1);
         self.health.beat();
     }
@@ -49,7 +45,7 @@ impl<F: Commands, L: Link<F>> Seat<F, L> {
         ensures only { self.new ≡ record self.old { peer = self.new.peer } }
         ensures calm { L.sure self.old.peer.way → OnlyMemory result }
     {
-        self.quiet = 0;
+        self.quiet.say();
         self.peer.probe(alloc)
     }
 
@@ -87,7 +83,7 @@ impl<F: Commands, L: Link<F>> Seat<F, L> {
             Ok(()) => {}
             Err(leave) => return Err(leave),
         }
-        if self.quiet >= MOST_QUIET && !self.runs.is_empty() {
+        if self.quiet.is_long() && !self.runs.is_empty() {
             return self.probe(alloc);
         }
         Ok(())
