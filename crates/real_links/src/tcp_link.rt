@@ -85,12 +85,14 @@ impl TcpLink {
         self.waiting > 0
     }
 
-    // Parts with the connection, and with what waits to go out, and keeps the counts.
+    // Parts with the connection, with what waits to go out and with what came, and keeps the counts.
     pub(crate) fn part(&mut self) -> Last
         ensures { self.new ≡ self.old }
     {
         let out = replace(&mut self.out, Queue::new(self.alloc));
         self.waiting = 0;
+        self.room = Vec::new(self.alloc);
+        self.found = Found::Nothing;
         Last::new(self.alloc, self.stream.take(), out)
     }
 
