@@ -1,0 +1,11 @@
+pub mod Walks
+pub mod Records
+pub mod Dones
+pub mod Keeps
+pub mod Peaks
+pub mod Firsts
+pub mod Admits
+pub mod Courses
+pub mod Passes
+pub mod Backs
+pub mod Calls
